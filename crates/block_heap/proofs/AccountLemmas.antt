@@ -12,7 +12,8 @@ use Rattle.block_heap.specs.Running.{IsRunning}
 use Rattle.block_heap.proofs.SmallLemmas.{changed, other_cache}
 
 -- parts of which loads see the same, with the same held blocks
-pub accounted_same : (p q : Parts) → q.capacity ≡ p.capacity → q.words.volatile ≡ p.words.volatile → held_in q ≡ held_in p → AreAccounted p → AreAccounted q
+pub accounted_same : (p q : Parts) → q.capacity ≡ p.capacity → q.words.volatile ≡ p.words.volatile → held_in q ≡ held_in p → AreAccounted p
+    → AreAccounted q
 accounted_same p q capacity volatile held before =
     subst (λ n. IsAccounted n (image_of q) (held_in q)) (sym capacity)
     (subst (λ (xs : List ℕ). IsAccounted p.capacity (λ word. get_or xs word 0) (held_in q)) (sym volatile)

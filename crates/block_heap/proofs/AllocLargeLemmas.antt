@@ -43,14 +43,16 @@ fresh_none capacity count fresh v w is none =
     × (w.volatile ≡ set v.volatile used_word (fresh.used + count)) × (durable_at w used_word ≡ fresh.used + count))) none is.words
 
 fresh_some : (capacity count d : ℕ) (fresh : Fresh) (v w : View) → IsFresh capacity count fresh v w → fresh.first ≡ Some d
-    → (d ≡ fresh.used) × (fresh.used + count ≤ capacity) × (w.volatile ≡ set v.volatile used_word (fresh.used + count)) × (durable_at w used_word ≡ fresh.used + count)
+    → (d ≡ fresh.used) × (fresh.used + count ≤ capacity) × (w.volatile ≡ set v.volatile used_word (fresh.used + count))
+    × (durable_at w used_word ≡ fresh.used + count)
 fresh_some capacity count d fresh v w is some =
     subst (λ (first : Option ℕ). MatchOption first ((w.volatile ≡ v.volatile) × (capacity < fresh.used + count) × StoresOnly (λ _. ⊥) v w)
     (λ d. (d ≡ fresh.used) × (fresh.used + count ≤ capacity)
     × (w.volatile ≡ set v.volatile used_word (fresh.used + count)) × (durable_at w used_word ≡ fresh.used + count))) some is.words
 
 -- parts that looked at `used` and took nothing
-pub running_looked : (p : Parts) (count : ℕ) (fresh : Fresh) (u : View) (look : Look) → IsRunning p → IsFresh p.capacity count fresh p.words u → fresh.first ≡ None
+pub running_looked : (p : Parts) (count : ℕ) (fresh : Fresh) (u : View) (look : Look) → IsRunning p → IsFresh p.capacity count fresh p.words u
+    → fresh.first ≡ None
     → look.seen ≡ fresh.used → look.taken ≡ p.taken → IsRunning (record p { words = u; used_look = look })
 running_looked p count fresh u look run is none seen when =
     let got = fresh_none p.capacity count fresh p.words u is none in
@@ -79,7 +81,8 @@ pub looked_accounted : (p : Parts) (count : ℕ) (fresh : Fresh) (u : View) (loo
 looked_accounted p count fresh u look is none =
     accounted_same p (record p { words = u; used_look = look }) refl (fresh_none p.capacity count fresh p.words u is none).0 refl
 
-pub leaves_held_looked : (p : Parts) (count : ℕ) (fresh : Fresh) (u : View) (look : Look) → IsRunning p → IsFresh p.capacity count fresh p.words u → fresh.first ≡ None
+pub leaves_held_looked : (p : Parts) (count : ℕ) (fresh : Fresh) (u : View) (look : Look) → IsRunning p
+    → IsFresh p.capacity count fresh p.words u → fresh.first ≡ None
     → look.seen ≡ fresh.used → look.taken ≡ p.taken → IsNextLook p look → LeavesHeld (held_in p) p (record p { words = u; used_look = look })
 leaves_held_looked p count fresh u look run is none seen when next =
     let got = fresh_none p.capacity count fresh p.words u is none in
@@ -95,7 +98,8 @@ leaves_held_looked p count fresh u look run is none seen when next =
 
 -- raising `used` may stop within
 pub large_stops : (p : Parts) (count : ℕ) (w : View) → IsRunning p → StoresOnly (λ word. word ≡ used_word) p.words w
-    → MayLeaveStore used_word (image_of p used_word + count) p.words w → (UsedFits p.capacity p.words → UsedFits p.capacity w) → LeavesHeld (held_in p) p (record p { words = w })
+    → MayLeaveStore used_word (image_of p used_word + count) p.words w → (UsedFits p.capacity p.words → UsedFits p.capacity w)
+    → LeavesHeld (held_in p) p (record p { words = w })
 large_stops p count w run stores crash fits = record {
   capacity = refl;
   as_allocator = as_allocator_raised p.capacity (held_in p) (image_of p used_word + count) p.words w stores crash run.settled.used (omega arith) fits;
@@ -105,7 +109,8 @@ large_stops p count w run stores crash fits = record {
 }
 
 -- a word that is durable as loads see it stays so where it isn't stored to
-word_settled : (to : ℕ → Type 0) (v w : View) (word : ℕ) → StoresOnly to v w → (to word → ⊥) → durable_at v word ≡ volatile_at v word → durable_at w word ≡ volatile_at w word
+word_settled : (to : ℕ → Type 0) (v w : View) (word : ℕ) → StoresOnly to v w → (to word → ⊥) → durable_at v word ≡ volatile_at v word
+    → durable_at w word ≡ volatile_at w word
 word_settled to v w word stores out same = elim (stores.durable word out) as (λ _. durable_at w word ≡ volatile_at w word) [
   | inl e ↦ e ∙ same ∙ sym (stores.volatile word out)
   | inr e ↦ e ∙ sym (stores.volatile word out)
@@ -129,9 +134,11 @@ place_behind true at to other same = absurd (other (sym same))
 place_behind false at to other same = same
 
 -- So many superblocks are taken for the first time, and become a large block.
-module _ (p : Parts) (count d : ℕ) (fresh : Fresh) (u : View) (look : Look) (run : IsRunning p) (is_fresh : IsFresh p.capacity count fresh p.words u) (first : fresh.first ≡ Some d)
+module _ (p : Parts) (count d : ℕ) (fresh : Fresh) (u : View) (look : Look) (run : IsRunning p)
+    (is_fresh : IsFresh p.capacity count fresh p.words u) (first : fresh.first ≡ Some d)
   where
-    got : (d ≡ fresh.used) × (fresh.used + count ≤ p.capacity) × (u.volatile ≡ set p.words.volatile used_word (fresh.used + count)) × (durable_at u used_word ≡ fresh.used + count)
+    got : (d ≡ fresh.used) × (fresh.used + count ≤ p.capacity) × (u.volatile ≡ set p.words.volatile used_word (fresh.used + count))
+        × (durable_at u used_word ≡ fresh.used + count)
     got = fresh_some p.capacity count d fresh p.words u is_fresh first
 
     was_used : image_of p used_word ≡ d
@@ -147,8 +154,10 @@ module _ (p : Parts) (count d : ℕ) (fresh : Fresh) (u : View) (look : Look) (r
     pub fresh_unmarked : (mark : ℕ) → IsMarked p.blocks.marks.items mark → mark / 4096 ≢ d
     fresh_unmarked mark marked = no_mark_past p d mark run (let e = was_used in omega arith) marked
 
-    module _ (w : View) (some : 1 ≤ count) (stores : StoresOnly (λ word. word ≡ used_word) p.words u) (may : MayLeaveStore used_word (image_of p used_word + count) p.words u)
-        (fits : UsedFits p.capacity p.words → UsedFits p.capacity u) (seen : look.seen ≡ fresh.used) (when : look.taken ≡ p.taken) (info_stores : StoresOnly (λ word. word ≡ info_word d) u w) where
+    module _ (w : View) (some : 1 ≤ count) (stores : StoresOnly (λ word. word ≡ used_word) p.words u)
+        (may : MayLeaveStore used_word (image_of p used_word + count) p.words u)
+        (fits : UsedFits p.capacity p.words → UsedFits p.capacity u) (seen : look.seen ≡ fresh.used) (when : look.taken ≡ p.taken)
+        (info_stores : StoresOnly (λ word. word ≡ info_word d) u w) where
       raised : volatile_at u used_word ≡ d + count
       raised =
           let inside : used_word < word_count p.words = let long = run.words_open.long in omega arith in
@@ -162,7 +171,8 @@ module _ (p : Parts) (count d : ℕ) (fresh : Fresh) (u : View) (look : Look) (r
         as_allocator = as_allocator_then p.capacity (held_in p) p.words u w
             (as_allocator_raised p.capacity (held_in p) (image_of p used_word + count) p.words u stores may run.settled.used (omega arith) fits)
             (as_allocator_of p.capacity (held_in p) (λ word. word ≡ info_word d) u w
-            (λ word e. is_info d (fresh_within some) (none_past p.capacity d (image_of p) (held_in p) run.shape run.is (let at = was_used in omega arith)) e)
+            (λ word e. is_info d (fresh_within some) (none_past p.capacity d (image_of p) (held_in p) run.shape run.is (let at = was_used in
+            omega arith)) e)
             (λ e. omega arith) info_stores (let at = raised in omega (arith, got.0, got.3))).0;
         knows = let knows = run.knows in let used = is_fresh.used in omega arith;
         taken = omega arith;
@@ -186,18 +196,21 @@ module _ (p : Parts) (count d : ℕ) (fresh : Fresh) (u : View) (look : Look) (r
             let long = run.sizes.long in
             let below = fresh_within some in
             let index : (first_word - start) / 8192 ≡ d = omega arith in
-            ap (λ k. get_or words k 0) index ∙ ap (λ xs. get_or xs d 0) are ∙ get_or-set_same p.blocks.words.items d (superblock_words * count) 0 (omega arith)
+            ap (λ k. get_or words k 0) index ∙ ap (λ xs. get_or xs d 0) are
+            ∙ get_or-set_same p.blocks.words.items d (superblock_words * count) 0 (omega arith)
 
         adds_block : AddsTo block (held_in p) (held_of added)
         adds_block =
             let same : at_mark divided first_word ≡ block =
             same_fields (at_mark divided first_word) block at (marked_words_are divided.start divided.words.items divided_start divided_words) in
-            subst (λ (held : List Block). AddsTo block held (held_of added)) held_same (subst (λ (b : Block). AddsTo b (held_of divided) (held_of added)) same adds)
+            subst (λ (held : List Block). AddsTo block held (held_of added)) held_same
+            (subst (λ (b : Block). AddsTo b (held_of divided) (held_of added)) same adds)
 
         used_set : IsSet (image_of p) (volatile_at u) used_word (d + count)
         used_set =
             let long = run.words_open.long in
-            set_is p.words.volatile u.volatile used_word (d + count) (omega arith) (got.2 ∙ ap (λ k. set p.words.volatile used_word (k + count)) (sym got.0))
+            set_is p.words.volatile u.volatile used_word (d + count) (omega arith) (got.2
+            ∙ ap (λ k. set p.words.volatile used_word (k + count)) (sym got.0))
 
         info_set : IsSet (volatile_at u) (volatile_at w) (info_word d) (large_info count)
         info_set =
@@ -231,7 +244,8 @@ module _ (p : Parts) (count d : ℕ) (fresh : Fresh) (u : View) (look : Look) (r
               let last = is.last in
               absurd (omega arith)
           | inr other ↦
-              let info : volatile_at w (info_word e) ≡ image_of p (info_word e) = same_word (info_word e) (λ q. omega arith) (λ q. other (omega arith)) in
+              let info : volatile_at w (info_word e) ≡ image_of p (info_word e) =
+              same_word (info_word e) (λ q. omega arith) (λ q. other (omega arith)) in
               let test : Bool = nat_le d e && nat_lt e (d + count) in
               let before : (run.shape.place e ≡ in_list (image_of p (info_word e))) ⊎ (run.shape.place e ≡ is_full) = elim place [
                 | inl listed ↦ inl (place_behind test (run.shape.place e) (in_list (volatile_at w (info_word e))) (λ q. cc) listed ∙ ap in_list info)
@@ -248,14 +262,16 @@ module _ (p : Parts) (count d : ℕ) (fresh : Fresh) (u : View) (look : Look) (r
             | inr other ↦ word_settled (λ word. word ≡ info_word d) u w (info_word e) info_stores (λ q. other (omega arith))
                 (word_settled (λ word. word ≡ used_word) p.words u (info_word e) stores (λ q. omega arith) (run.settled.infos e below))
           ];
-          used = word_settled (λ word. word ≡ info_word d) u w used_word info_stores (λ q. omega arith) (let now = raised in omega (arith, got.0, got.3));
+          used = word_settled (λ word. word ≡ info_word d) u w used_word info_stores (λ q. omega arith) (let now = raised in
+              omega (arith, got.0, got.3));
         }
 
         pub join_running : IsRunning (record p { words = w; blocks = added; taken = p.taken + count; used_look = look })
         join_running = record {
           words_open = record { running = persisted.runs_within.running; long = info_stores.words ∙ stores.words ∙ run.words_open.long };
           below = persisted.runs_within.below;
-          bounded = let first = stores.budget in let second = info_stores.budget in let bounded = run.bounded in subst (λ n. n < 2 ^ 40) (sym (second ∙ first)) bounded;
+          bounded = let first = stores.budget in let second = info_stores.budget in let bounded = run.bounded in
+              subst (λ n. n < 2 ^ 40) (sym (second ∙ first)) bounded;
           caches_long = run.caches_long;
           looks_long = run.looks_long;
           shape = after_join run.shape d count;
@@ -268,7 +284,8 @@ module _ (p : Parts) (count d : ℕ) (fresh : Fresh) (u : View) (look : Look) (r
           };
           settled = settled_now;
           pops = λ list less.
-              let head : volatile_at w (head_word list) ≡ image_of p (head_word list) = same_word (head_word list) (λ q. omega arith) (λ q. omega arith) in
+              let head : volatile_at w (head_word list) ≡ image_of p (head_word list) =
+              same_word (head_word list) (λ q. omega arith) (λ q. omega arith) in
               let pops : head_pops (volatile_at w (head_word list)) ≡ head_pops (image_of p (head_word list)) = ap head_pops head in
               let before = run.pops list less in
               let first = stores.drawn in
@@ -280,7 +297,8 @@ module _ (p : Parts) (count d : ℕ) (fresh : Fresh) (u : View) (look : Look) (r
 
         -- the answer is the large block
         pub join_answers : (b : Block) → b ≡ at_mark added first_word
-            → (b.words ≡ superblock_words * count) × AddsTo b (held_in p) (held_of added) × (Contains (held_in p) b → ⊥) × (image_of p used_word + count ≤ p.capacity)
+            → (b.words ≡ superblock_words * count) × AddsTo b (held_in p) (held_of added) × (Contains (held_in p) b → ⊥)
+            × (image_of p used_word + count ≤ p.capacity)
             × (b.first_word ≡ start_word p.capacity (image_of p used_word)) × (p.taken + count ≡ p.taken + count)
         join_answers b is =
             let words = marked_words_are added.start added.words.items (added_start ∙ divided_start) (added_words ∙ divided_words) in

@@ -48,21 +48,26 @@ leads_nowhere link capacity from [] none leads = refl
 leads_nowhere link capacity from (d ∷ ds) none leads = absurd (let first = leads.0 in omega arith)
 
 -- where a request of a class found nothing there was nothing to drain
-pub drains_nothing : (class : ℕ) (p q : Parts) → IsClass class → q.capacity ≡ p.capacity → IsRefilling class p q → FindsNone class p q → DrainsNone class p
+pub drains_nothing : (class : ℕ) (p q : Parts) → IsClass class → q.capacity ≡ p.capacity → IsRefilling class p q → FindsNone class p q
+    → DrainsNone class p
 drains_nothing class p q is capacity refilling finds drainable b drained =
     let run = refilling.running in
     let looked = finds.looked in
     let empty = finds.empty in
     let last = is.last in
     let shape : IsShape p.capacity (image_of q) (held_in p) run.shape =
-    subst (λ held. IsShape p.capacity (image_of q) held run.shape) refilling.held (subst (λ k. IsShape k (image_of q) (held_in q) run.shape) capacity run.is) in
+    subst (λ held. IsShape p.capacity (image_of q) held run.shape) refilling.held
+    (subst (λ k. IsShape k (image_of q) (held_in q) run.shape) capacity run.is) in
     let count = (run.caches class is).count in
     let cached : run.shape.cached class ≡ [] = nil_from_length (run.shape.cached class) (omega arith) in
     let listed : run.shape.listed class ≡ [] =
-    leads_nowhere (λ d. image_of q (link_word d)) q.capacity (head_first (head_at q class)) (run.shape.listed class) looked.class_empty (run.is.follows class (omega arith)) in
+    leads_nowhere (λ d. image_of q (link_word d)) q.capacity (head_first (head_at q class)) (run.shape.listed class) looked.class_empty
+    (run.is.follows class (omega arith)) in
     let free : run.shape.listed 0 ≡ [] =
-    leads_nowhere (λ d. image_of q (link_word d)) q.capacity (head_first (head_at q 0)) (run.shape.listed 0) looked.free_empty (run.is.follows 0 (omega arith)) in
-    drained_none p.capacity class (image_of q) (held_in p) run.shape is shape cached listed free (let past = looked.past in omega arith) (refilling.drains.drainable drainable) b
+    leads_nowhere (λ d. image_of q (link_word d)) q.capacity (head_first (head_at q 0)) (run.shape.listed 0) looked.free_empty
+    (run.is.follows 0 (omega arith)) in
+    drained_none p.capacity class (image_of q) (held_in p) run.shape is shape cached listed free (let past = looked.past in
+    omega arith) (refilling.drains.drainable drainable) b
     (refilling.drains.has b drained)
 
 -- and there is no room after it too
@@ -73,7 +78,8 @@ still_none class p q finds (in_free_list some) = some finds.looked.free_empty
 still_none class p q finds (in_fresh room) = let past = finds.looked.past in omega arith
 
 -- a request of a class that got a block
-pub gets_in_class : (class : ℕ) (b : Block) (p q r : Parts) → IsClass class → CachesAreShort p 0 → q.capacity ≡ p.capacity → r.capacity ≡ q.capacity → IsRefilling class p q → HasRoom p class
+pub gets_in_class : (class : ℕ) (b : Block) (p q r : Parts) → IsClass class → CachesAreShort p 0 → q.capacity ≡ p.capacity
+    → r.capacity ≡ q.capacity → IsRefilling class p q → HasRoom p class
     → PopsBlock class b q r → GetsInClass class b p r
 gets_in_class class b p q r is short capacity same refilling room pops_block = record {
   running = pops_block.running;
@@ -87,11 +93,13 @@ gets_in_class class b p q r is short capacity same refilling room pops_block = r
       let filled : AreAccounted q = subst (λ n. IsAccounted n (image_of q) (held_in q)) (sym capacity)
       (subst (λ (held : List Block). IsAccounted p.capacity (image_of q) held) (sym refilling.held) (refilling.drains.accounted before)) in
       subst (λ n. IsAccounted n (image_of r) (held_in r)) (sym same)
-      (subst (λ (xs : List ℕ). IsAccounted q.capacity (λ word. get_or xs word 0) (held_in r)) (sym pops_block.volatile) (pops_block.drains.accounted filled));
+      (subst (λ (xs : List ℕ). IsAccounted q.capacity (λ word. get_or xs word 0) (held_in r)) (sym pops_block.volatile)
+      (pops_block.drains.accounted filled));
 }
 
 -- it was one of those to be drained
-pub drains_block : (class : ℕ) (b : Block) (p q r : Parts) → q.capacity ≡ p.capacity → IsRefilling class p q → PopsBlock class b q r → DrainsTo class b p r
+pub drains_block : (class : ℕ) (b : Block) (p q r : Parts) → q.capacity ≡ p.capacity → IsRefilling class p q → PopsBlock class b q r
+    → DrainsTo class b p r
 drains_block class b p q r capacity refilling pops_block drainable =
     let same = refilling.drains in
     let first : DrainsOne p.capacity class (image_of q) (held_in p) (held_in r) b =
@@ -109,7 +117,8 @@ drains_block class b p q r capacity refilling pops_block drainable =
     )
 
 -- the answer to a request that a class serves
-pub answers_small : (bytes class : ℕ) (answer : Option Block) (p q : Parts) → IsLeastClassFor bytes class → AnswersInClass class answer p q → Answers bytes answer p q
+pub answers_small : (bytes class : ℕ) (answer : Option Block) (p q : Parts) → IsLeastClassFor bytes class → AnswersInClass class answer p q
+    → Answers bytes answer p q
 answers_small bytes class None p q least misses = record {
   running = misses.running;
   short = misses.short;
@@ -136,7 +145,8 @@ answers_small bytes class (Some b) p q least gets = record {
 }
 
 -- the answer to one that takes superblocks of its own
-pub answers_large : (bytes : ℕ) (answer : Option Block) (p q : Parts) → largest_small < bytes → CachesAreShort p 0 → JoinsAs (span_of bytes) answer p q → IsRunning q
+pub answers_large : (bytes : ℕ) (answer : Option Block) (p q : Parts) → largest_small < bytes → CachesAreShort p 0
+    → JoinsAs (span_of bytes) answer p q → IsRunning q
     → (AreAccounted p → AreAccounted q) → q.caches ≡ p.caches → q.capacity ≡ p.capacity
     → (answer ≡ None → q.words.drawn ≡ p.words.drawn + 1) → q.words.drawn ≤ p.words.drawn + most_join_draws → Answers bytes answer p q
 answers_large bytes None p q large short joins running accounted caches capacity one few = record {
@@ -174,13 +184,15 @@ answers_large bytes (Some b) p q large short joins running accounted caches capa
 }
 
 -- a held block of a class has the size of that class
-pub size_of_held : (p : Parts) (b : Block) (class : ℕ) → IsRunning p → Contains (held_in p) b → IsLeastClassFor (8 * b.words) class → b.words ≡ words_of_class class
-size_of_held p b class run holds least = let named = run.is.named b holds in by_begins named.superblock named.words named.count named.is_of.begins named.is_of.size where
-  by_begins : (d w n : ℕ) → Begins (layout_at p.capacity (image_of p)) d w n → b.words ≡ w → b.words ≡ words_of_class class
-  by_begins d w n (of_class c info is) words =
-      let bytes : 8 * b.words ≡ size_of c = ap (λ x. 8 * x) words ∙ sym (size_of-words c is) in
-      words ∙ ap words_of_class (least_of_size (8 * b.words) class c least is bytes)
-  by_begins d w n (as_large k some info end zeros) words = absurd (let small = least_small (8 * b.words) class least in omega arith)
+pub size_of_held : (p : Parts) (b : Block) (class : ℕ) → IsRunning p → Contains (held_in p) b → IsLeastClassFor (8 * b.words) class
+    → b.words ≡ words_of_class class
+size_of_held p b class run holds least = let named = run.is.named b holds in
+    by_begins named.superblock named.words named.count named.is_of.begins named.is_of.size where
+      by_begins : (d w n : ℕ) → Begins (layout_at p.capacity (image_of p)) d w n → b.words ≡ w → b.words ≡ words_of_class class
+      by_begins d w n (of_class c info is) words =
+          let bytes : 8 * b.words ≡ size_of c = ap (λ x. 8 * x) words ∙ sym (size_of-words c is) in
+          words ∙ ap words_of_class (least_of_size (8 * b.words) class c least is bytes)
+      by_begins d w n (as_large k some info end zeros) words = absurd (let small = least_small (8 * b.words) class least in omega arith)
 
 -- one that no class serves has no size of a class
 pub no_size_of_held : (b : Block) → largest_small < 8 * b.words → (class : ℕ) → IsClass class → b.words ≢ words_of_class class

@@ -129,7 +129,8 @@ module _ (p : Parts) (class : ℕ) (is : IsClass class) (run : IsRunning p) (pre
       free = free;
       were = were;
       are = record {
-        walks = subst (λ ws. Walks (λ word. volatile_at w word) (first_of p.capacity class prefix.d (anchor_first (volatile_at w (anchor_word prefix.d)))) ws)
+        walks = subst (λ ws. Walks (λ word. volatile_at w word) (first_of p.capacity class prefix.d
+            (anchor_first (volatile_at w (anchor_word prefix.d)))) ws)
             chain_is has_free.of_class.walks;
         count = has_free.of_class.count ∙ ap length chain_is;
       };
@@ -164,7 +165,8 @@ module _ (p : Parts) (class : ℕ) (is : IsClass class) (run : IsRunning p) (pre
     gave_same : (word : ℕ) → word ≢ anchor_word prefix.d → volatile_at w word ≡ image_of p word
     gave_same word other = new_other p class is run prefix is_prefix w anchor given stores word other
         ∙ ap (λ (xs : List ℕ). get_or xs word 0) (cond-true (nat_eq anchor.count 0) p.words.volatile
-        (set p.words.volatile prefix.batch.last (start_word p.capacity prefix.d + anchor.first * words_of_class class)) (eq-eqb anchor.count 0 no_count))
+        (set p.words.volatile prefix.batch.last (start_word p.capacity prefix.d + anchor.first * words_of_class class))
+        (eq-eqb anchor.count 0 no_count))
 
     inside : (word : ℕ) → Contains blocks word → start_word p.capacity 0 ≤ word
     inside word has = let from = (first_inside p.capacity class prefix.d word is (is_prefix.firsts word has)).from in omega arith
@@ -182,7 +184,8 @@ module _ (p : Parts) (class : ℕ) (is : IsClass class) (run : IsRunning p) (pre
         let words = run.words_open.long in
         push_stores.volatile (anchor_word prefix.d) (λ at. elim at as (λ _. ⊥) [ inl head ↦ omega arith | inr link ↦ omega arith ])
         ∙ ap (λ (xs : List ℕ). get_or xs (anchor_word prefix.d) 0) given.words
-        ∙ get_or-set_same (linked_words p.capacity class prefix.d prefix.batch anchor p.words.volatile) (anchor_word prefix.d) (given_to anchor prefix.batch (blocks_of class)) 0 (omega arith)
+        ∙ get_or-set_same (linked_words p.capacity class prefix.d prefix.batch anchor p.words.volatile) (anchor_word prefix.d)
+        (given_to anchor prefix.batch (blocks_of class)) 0 (omega arith)
 
     abbrev all_now : Bool
     all_now = nat_eq (prefix.batch.count + anchor.count) (blocks_of class)
@@ -193,7 +196,8 @@ module _ (p : Parts) (class : ℕ) (is : IsClass class) (run : IsRunning p) (pre
     parts_now below =
         let short = prefix_first p class is run prefix is_prefix in
         let few = few_blocks class is in
-        let all = anchor_parts (cond all_now empty_state partial_state) prefix.batch.first (prefix.batch.count + anchor.count) (few_states all_now) (omega arith) in
+        let all = anchor_parts (cond all_now empty_state partial_state) prefix.batch.first (prefix.batch.count + anchor.count)
+        (few_states all_now) (omega arith) in
         let now = anchor_now below in
         (ap anchor_state now ∙ all.0, ap anchor_first now ∙ all.1, ap anchor_count now ∙ all.2)
 
@@ -204,7 +208,8 @@ module _ (p : Parts) (class : ℕ) (is : IsClass class) (run : IsRunning p) (pre
       are =
           let from : (cache_at p.caches class).first ≡ first_of p.capacity class prefix.d (anchor_first (volatile_at x (anchor_word prefix.d))) =
           is_prefix.first ∙ ap (first_of p.capacity class prefix.d) (sym (parts_now below).1) in record {
-            walks = subst (λ ws. Walks (λ word. volatile_at x word) (first_of p.capacity class prefix.d (anchor_first (volatile_at x (anchor_word prefix.d)))) ws)
+            walks = subst (λ ws. Walks (λ word. volatile_at x word) (first_of p.capacity class prefix.d
+                (anchor_first (volatile_at x (anchor_word prefix.d)))) ws)
                 (sym (append-nil blocks))
                 (subst (λ word. Walks (λ k. volatile_at x k) word blocks) from
                 (walks_same (image_of p) (λ word. volatile_at x word) (cache_at p.caches class).first blocks (same_block below) is_prefix.walks));
@@ -243,7 +248,8 @@ module _ (p : Parts) (class : ℕ) (is : IsClass class) (run : IsRunning p) (pre
         (eq-eqb (length blocks) (blocks_of class) (sym is_prefix.count ∙ all))))
 
     pub some_prefix : prefix.batch.count ≢ blocks_of class → list ≡ class → GivesPrefix class prefix p (parts_with x)
-    some_prefix some same = listed_prefix (let last = is.last in omega arith) (after_give_full run.shape class prefix.d blocks rest (image_of p prefix.batch.last))
+    some_prefix some same = listed_prefix (let last = is.last in omega arith)
+        (after_give_full run.shape class prefix.d blocks rest (image_of p prefix.batch.last))
         (some_shape p class is run prefix is_prefix w anchor given stores full list x pushed push_stores some same)
         (ap (λ k. with_at run.shape.listed k (prefix.d ∷ run.shape.listed k) list) (sym same)
         ∙ with_at_same run.shape.listed list (prefix.d ∷ run.shape.listed list))
@@ -282,7 +288,8 @@ module _ (class : ℕ) (q r t x : Parts) (capacity : r.capacity ≡ q.capacity) 
   same_capacity = now_capacity ∙ capacity
 
   -- the run behind it is of another superblock
-  apart : (runs : List BlockRun) → All (IsRunOf t.capacity class) runs → blocks_of_runs runs ≡ back.words → AreLongest runs → AreLongest (first_run ∷ runs)
+  apart : (runs : List BlockRun) → All (IsRunOf t.capacity class) runs → blocks_of_runs runs ≡ back.words → AreLongest runs
+      → AreLongest (first_run ∷ runs)
   apart [] each all behind = tt
   apart (next ∷ runs) each all behind = (
     λ same. elim longest as (λ _. ⊥) [

@@ -29,7 +29,8 @@ small_counted s seen t o to same ran stores keeps =
       refusals = record { count = refl; bytes = refl; looks = refl };
     }) ran keeps
 
-pub large_counted : (s seen t : SeqState) (o : Option ℕ) (held : List Block) (most : ℕ) → s ≡ seen → seen.stopped ≡ None → LeavesHeld held s.parts t.parts
+pub large_counted : (s seen t : SeqState) (o : Option ℕ) (held : List Block) (most : ℕ) → s ≡ seen → seen.stopped ≡ None
+    → LeavesHeld held s.parts t.parts
     → t.parts.taken ≤ s.parts.taken + most → KeepsFixed seen t → IsLargeCall most (seat_of seen) (large_view s t.parts o)
 large_counted s seen t o held most same ran leaves_held few keeps =
     subst (λ m. m.stopped ≡ None → KeepsFixed m t → IsLargeCall most (seat_of m) (large_view s t.parts o)) same (λ ran keeps. record {

@@ -49,7 +49,8 @@ use Rattle.block_heap.proofs.RefillLemmas.{IsMoved, moved_word, moved_info, move
 use Rattle.block_heap.proofs.CutWordLemmas.{divide_word, divide_before, divide_info, cut_is, settled_cut, others_kept}
 
 -- no mark lies in a superblock that no held block has a part in
-pub unmarked : (p : Parts) (d : ℕ) → IsRunning p → HasNoHeld p.capacity (held_in p) d → (mark : ℕ) → IsMarked p.blocks.marks.items mark → mark / 4096 ≢ d
+pub unmarked : (p : Parts) (d : ℕ) → IsRunning p → HasNoHeld p.capacity (held_in p) d → (mark : ℕ) → IsMarked p.blocks.marks.items mark
+    → mark / 4096 ≢ d
 unmarked p d run none mark marked at =
     let b : Block = block_of_mark p.blocks.start p.blocks.words.items mark in
     let holds : Contains (held_in p) b = has_map (block_of_mark p.blocks.start p.blocks.words.items) (marked_words p.blocks.marks.items) mark
@@ -66,7 +67,8 @@ long_firsts capacity class d index (suc count) = let rest = long_firsts capacity
 -- the parts after a cut of superblock d, whose words were these, with what was read and taken
 module _ (p : Parts) (class d : ℕ) (w : View) (looks : List Look) (look : Look) (taken : ℕ) (q : Parts) (run : IsRunning p) (is : IsClass class)
     (within : d < p.capacity)
-    (stores : StoresOnly (IsDivideWord p.capacity d) w q.words) (same : SameBut (record p { words = w; head_looks = looks; used_look = look; taken = taken })
+    (stores : StoresOnly (IsDivideWord p.capacity d) w q.words) (same : SameBut
+    (record p { words = w; head_looks = looks; used_look = look; taken = taken })
     q)
     (cuts : Cuts class d (record p { words = w; head_looks = looks; used_look = look; taken = taken }) q) where
   abbrev filled : Cache
@@ -85,7 +87,8 @@ module _ (p : Parts) (class d : ℕ) (w : View) (looks : List Look) (look : Look
   pub cut_others : (c : ℕ) → IsClass c → c ≢ class → cache_at q.caches c ≡ cache_at p.caches c
   cut_others c is_c other = ap (λ (cs : List Cache). cache_at cs c) cuts.caches ∙ caches_other p.caches class filled c is_c other
 
-  sizes : (t : Shape) → ((e : ℕ) → e < p.capacity → volatile_at w (info_word e) ≡ image_of p (info_word e)) → t.place ≡ with_at run.shape.place d is_full
+  sizes : (t : Shape) → ((e : ℕ) → e < p.capacity → volatile_at w (info_word e) ≡ image_of p (info_word e))
+      → t.place ≡ with_at run.shape.place d is_full
       → KnowsSizes p.capacity t (λ e. image_of q (info_word e)) q.blocks
   sizes t infos place = record {
     start = cuts.start ∙ run.sizes.start;
@@ -127,7 +130,8 @@ module _ (p : Parts) (class d : ℕ) (w : View) (looks : List Look) (look : Look
     looks_long = ap length same.head_looks ∙ looks_long;
     is = shape;
     caches = subst (λ (cs : List Cache). (c : ℕ) → IsClass c → IsCacheOf t c (cache_at cs c)) (sym cuts.caches)
-        (caches_filled run.shape t p.caches class (first_of p.capacity class d 0) (all_firsts p.capacity class d) filled run.caches_long is run.caches start
+        (caches_filled run.shape t p.caches class (first_of p.capacity class d 0)
+        (all_firsts p.capacity class d) filled run.caches_long is run.caches start
         cached
         (omega arith) (sym (long_firsts p.capacity class d 0 (blocks_of class))) (omega arith));
     sizes = sizes t infos place;
@@ -151,7 +155,8 @@ module _ (p : Parts) (class d : ℕ) (w : View) (looks : List Look) (look : Look
   })
 
 -- the first of the free list
-module _ (p : Parts) (class d : ℕ) (popped : Popped) (w : View) (look : Look) (run : IsRunning p) (is : IsClass class) (pop : IsPopped 0 popped p.words w)
+module _ (p : Parts) (class d : ℕ) (popped : Popped) (w : View) (look : Look) (run : IsRunning p) (is : IsClass class)
+    (pop : IsPopped 0 popped p.words w)
     (pop_stores : StoresOnly (λ word. word ≡ head_word 0) p.words w) (some : popped.first ≡ Some d) where
   zero_list : 0 < lists
   zero_list = omega arith
@@ -180,14 +185,19 @@ module _ (p : Parts) (class d : ℕ) (popped : Popped) (w : View) (look : Look) 
         (stores_more (IsDivideWord p.capacity d) IsFreeWord w q.words (λ word t. inr t) stores)
 
     free_not_used : IsFreeWord used_word → ⊥
-    free_not_used t = elim t as (λ _. ⊥) [ inl m ↦ moved_used p.capacity used_word m refl | inr t ↦ divide_before p.capacity d used_word (omega arith) t ]
+    free_not_used t = elim t as (λ _. ⊥) [
+      | inl m ↦ moved_used p.capacity used_word m refl
+      | inr t ↦ divide_before p.capacity d used_word
+          (omega arith) t
+    ]
 
     pub free_leaves_held : IsNextLook p look → LeavesHeld (held_in p) p q
     free_leaves_held next = leaves_held_of p q IsFreeWord run
         (λ word t. elim t as (λ _. IsAllocatorWord p.capacity (held_in p) word)
         [ inl m ↦ moved_word p.capacity (held_in p) word m | inr t ↦ divide_word p.capacity d (held_in p) word free_within free_none t ])
         free_not_used free_stores same.capacity same.used_look same.taken
-        (looked_at_head p q 0 look (let long = run.looks_long in omega arith) next (let drew = pop.runs_within.drew in let more = stores.drawn in omega arith)
+        (looked_at_head p q 0 look (let long = run.looks_long in omega arith) next (let drew = pop.runs_within.drew in
+        let more = stores.drawn in omega arith)
         (let e : q.taken ≡ p.taken = same.taken in omega arith) same.used_look same.head_looks)
 
     module _ (empty : (cache_at p.caches class).count ≡ 0) (cuts : Cuts class d (record p { words = w; head_looks = set p.head_looks 0 look }) q) where
@@ -201,9 +211,11 @@ module _ (p : Parts) (class d : ℕ) (popped : Popped) (w : View) (look : Look) 
       free_running : IsRunning q
       free_running = cut_running p class d w (set p.head_looks 0 look) p.used_look p.taken q run is free_within stores same cuts
           (after_cut run.shape p.capacity class d rest) pop_stores.words pop_stores.budget (length-set p.head_looks 0 look ∙ run.looks_long)
-          (settled_kept p.capacity (IsMoved p.capacity) p.words w (head_moved p.capacity 0 p.words w zero_list pop_stores) (λ e within m. moved_info p.capacity e (info_word e) m refl)
+          (settled_kept p.capacity (IsMoved p.capacity) p.words w (head_moved p.capacity 0 p.words w zero_list pop_stores)
+          (λ e within m. moved_info p.capacity e (info_word e) m refl)
           (λ m. moved_used p.capacity used_word m refl) run.settled)
-          (λ e within. (head_moved p.capacity 0 p.words w zero_list pop_stores).volatile (info_word e) (λ m. moved_info p.capacity e (info_word e) m refl))
+          (λ e within. (head_moved p.capacity 0 p.words w zero_list pop_stores).volatile (info_word e)
+          (λ m. moved_info p.capacity e (info_word e) m refl))
           free_shape
           refl refl refl
           (λ list less.
@@ -211,9 +223,11 @@ module _ (p : Parts) (class d : ℕ) (popped : Popped) (w : View) (look : Look) 
           let once = popped_pops p 0 popped w run zero_list pop pop_stores d some list less in
           let drew = pop.runs_within.drew in
           omega arith)
-          (let kept : volatile_at w used_word ≡ image_of p used_word = (head_moved p.capacity 0 p.words w zero_list pop_stores).volatile used_word (λ m. moved_used p.capacity used_word m refl) in let knew =
+          (let kept : volatile_at w used_word ≡ image_of p used_word =
+          (head_moved p.capacity 0 p.words w zero_list pop_stores).volatile used_word (λ m. moved_used p.capacity used_word m refl) in let knew =
           run.knows in omega arith)
-          (let kept : volatile_at w used_word ≡ image_of p used_word = (head_moved p.capacity 0 p.words w zero_list pop_stores).volatile used_word (λ m. moved_used p.capacity used_word m refl) in let least =
+          (let kept : volatile_at w used_word ≡ image_of p used_word =
+          (head_moved p.capacity 0 p.words w zero_list pop_stores).volatile used_word (λ m. moved_used p.capacity used_word m refl) in let least =
           run.few in omega arith)
 
       head_kept : (c : ℕ) → IsClass c → head_at q c ≡ head_at p c
@@ -234,7 +248,8 @@ module _ (p : Parts) (class d : ℕ) (popped : Popped) (w : View) (look : Look) 
       free_list : (list : ℕ) (ds : List ℕ) → list < lists → with_at run.shape.listed 0 rest list ≡ ds → LeadsAlong q list ds
       free_list list ds less is_ds =
           subst (λ n. Follows (λ e. image_of q (link_word e)) n (head_first (head_at q list)) ds) (sym same.capacity)
-          (subst (λ (es : List ℕ). Follows (λ e. image_of q (link_word e)) p.capacity (head_first (head_at q list)) es) is_ds (free_shape.follows list less))
+          (subst (λ (es : List ℕ). Follows (λ e. image_of q (link_word e)) p.capacity (head_first (head_at q list)) es) is_ds
+          (free_shape.follows list less))
 
       -- it left the free list, and no other did
       pub free_cuts : CutsFirst class d p q
@@ -249,7 +264,8 @@ module _ (p : Parts) (class d : ℕ) (popped : Popped) (w : View) (look : Look) 
           others = others_kept p q w d (head_word 0) free_within (omega arith) pop_stores stores;
           cache = cut_cache p class d w (set p.head_looks 0 look) p.used_look p.taken q run is free_within stores same cuts;
           free = λ e other there.
-              elim (head_or_rest d e rest (subst (λ xs. Contains xs e) listed (in_list_has p 0 e (run.shape.listed 0) there (run.is.follows 0 zero_list)))) as (λ _. IsInList q 0 e) [
+              elim (head_or_rest d e rest (subst (λ xs. Contains xs e) listed
+              (in_list_has p 0 e (run.shape.listed 0) there (run.is.follows 0 zero_list)))) as (λ _. IsInList q 0 e) [
                 | inl here ↦ absurd (other (sym here))
                 | inr later ↦ in_list_along q 0 e rest (free_list 0 rest zero_list (with_at_same run.shape.listed 0 rest)) later
               ];
@@ -289,7 +305,8 @@ module _ (p : Parts) (w : View) (run : IsRunning p) (stores : StoresOnly (λ wor
       none_fresh = record p { words = w; used_look = look }
 
       no_words : (w.volatile ≡ p.words.volatile) × (p.capacity < fresh.used + 1) × StoresOnly (λ _. ⊥) p.words w
-      no_words = subst (λ (o : Option ℕ). MatchOption o ((w.volatile ≡ p.words.volatile) × (p.capacity < fresh.used + 1) × StoresOnly (λ _. ⊥) p.words w)
+      no_words = subst (λ (o : Option ℕ). MatchOption o ((w.volatile ≡ p.words.volatile) × (p.capacity < fresh.used + 1)
+          × StoresOnly (λ _. ⊥) p.words w)
           (λ d. (d ≡ fresh.used) × (fresh.used + 1 ≤ p.capacity) × (w.volatile ≡ set p.words.volatile used_word (fresh.used + 1)) × (durable_at w
           used_word ≡ fresh.used + 1))) none took.words
 
@@ -328,7 +345,8 @@ module _ (p : Parts) (w : View) (run : IsRunning p) (stores : StoresOnly (λ wor
     module _ (d : ℕ) (some : fresh.first ≡ Some d) where
       some_words : (d ≡ fresh.used) × (fresh.used + 1 ≤ p.capacity) × (w.volatile ≡ set p.words.volatile used_word (fresh.used + 1)) × (durable_at w
           used_word ≡ fresh.used + 1)
-      some_words = subst (λ (o : Option ℕ). MatchOption o ((w.volatile ≡ p.words.volatile) × (p.capacity < fresh.used + 1) × StoresOnly (λ _. ⊥) p.words w)
+      some_words = subst (λ (o : Option ℕ). MatchOption o ((w.volatile ≡ p.words.volatile) × (p.capacity < fresh.used + 1)
+          × StoresOnly (λ _. ⊥) p.words w)
           (λ d. (d ≡ fresh.used) × (fresh.used + 1 ≤ p.capacity) × (w.volatile ≡ set p.words.volatile used_word (fresh.used + 1)) × (durable_at w
           used_word ≡ fresh.used + 1))) some took.words
 
@@ -379,7 +397,8 @@ module _ (p : Parts) (w : View) (run : IsRunning p) (stores : StoresOnly (λ wor
                   (λ t. divide_before p.capacity d used_word (omega arith) t) cut_stores settled.used).0;
               knows = omega arith;
               taken = omega arith;
-              looks = looked_at_used p q look next (let drew = took.runs_within.drew in let more = cut_stores.drawn in omega arith) (omega arith) same.used_look same.head_looks;
+              looks = looked_at_used p q look next (let drew = took.runs_within.drew in let more = cut_stores.drawn in
+                  omega arith) (omega arith) same.used_look same.head_looks;
             }
 
         module _ (is : IsClass class) (empty : (cache_at p.caches class).count ≡ 0)
@@ -413,7 +432,8 @@ module _ (p : Parts) (w : View) (run : IsRunning p) (stores : StoresOnly (λ wor
             heads = λ c is_c other.
                 cut_stores.volatile (head_word c) (divide_before p.capacity d (head_word c) (let last = is_c.last in omega arith))
                 ∙ stores.volatile (head_word c) (λ at. let last = is_c.last in omega arith);
-            drains = cut_fresh_drains p.capacity class d (image_of p) (λ word. volatile_at w word) (image_of q) (held_in p) run.shape is run.is past within
+            drains = cut_fresh_drains p.capacity class d (image_of p) (λ word. volatile_at w word) (image_of q)
+                (held_in p) run.shape is run.is past within
                 used_set fresh_image;
           }
 
@@ -430,7 +450,8 @@ module _ (p : Parts) (w : View) (run : IsRunning p) (stores : StoresOnly (λ wor
               cache = cut_cache p class d w p.head_looks look (p.taken + 1) q run is within cut_stores same cuts;
               linked = cuts.divided.linked;
               others = others_kept p q w d used_word within (omega arith) stores cut_stores;
-              free = λ e other there. list_kept p q 0 0 (run.shape.listed 0) (run.shape.listed 0) (run.is.follows 0 (omega arith)) (fresh_list 0 (omega arith))
+              free = λ e other there. list_kept p q 0 0 (run.shape.listed 0) (run.shape.listed 0) (run.is.follows 0 (omega arith))
+                  (fresh_list 0 (omega arith))
                   (λ k has. has) e there;
             }),
             same.taken,

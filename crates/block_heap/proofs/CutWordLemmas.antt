@@ -75,7 +75,8 @@ cut_is capacity class d v w stores divided = record {
   by_word word out not_info not_anchor (inr (inr anchor)) = not_anchor anchor
 
 -- it leaves infos and `used` durable
-pub settled_cut : (capacity class d : ℕ) (v w : View) → HasDurableInfos capacity v → StoresOnly (IsDivideWord capacity d) v w → IsDivided capacity class d v w
+pub settled_cut : (capacity class d : ℕ) (v w : View) → HasDurableInfos capacity v → StoresOnly (IsDivideWord capacity d) v w
+    → IsDivided capacity class d v w
     → HasDurableInfos capacity w
 settled_cut capacity class d v w settled stores divided = record {
   infos = λ e within. elim (cases_eq e d) as (λ _. durable_at w (info_word e) ≡ volatile_at w (info_word e)) [

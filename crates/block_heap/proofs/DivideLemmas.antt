@@ -15,7 +15,8 @@ use Rattle.block_heap.proofs.MediumLemmas.{stores_then, stores_more}
 use Rattle.block_heap.specs.Draws.{most_cut_draws}
 
 -- a block's first word lies in its superblock, and that in the image
-pub first_inside : (capacity class d k word : ℕ) → IsClass class → d < capacity → k < blocks_of class → word ≡ start_word capacity d + k * words_of_class class
+pub first_inside : (capacity class d k word : ℕ) → IsClass class → d < capacity → k < blocks_of class
+    → word ≡ start_word capacity d + k * words_of_class class
     → IsInSuperblock capacity d word × (word < image_words capacity)
 first_inside capacity class d k word is below few at =
     let step = block_step k (blocks_of class) (words_of_class class) few in
@@ -31,15 +32,18 @@ module _ (capacity class d i : ℕ) (v u w : View) (before next : ℕ) (is : IsC
   here : IsInSuperblock capacity d before × (before < image_words capacity)
   here = first_inside capacity class d i before is below (omega arith) at
 
-  linked_at : IsStored before next u w → (k : ℕ) → k + 1 < i + 2 → (k ≡ i) ⊎ (k ≡ i → ⊥) → volatile_at w (start_word capacity d + k * words_of_class class) ≡ start_word capacity d + (k + 1) * words_of_class class
+  linked_at : IsStored before next u w → (k : ℕ) → k + 1 < i + 2 → (k ≡ i) ⊎ (k ≡ i → ⊥)
+      → volatile_at w (start_word capacity d + k * words_of_class class) ≡ start_word capacity d + (k + 1) * words_of_class class
   linked_at stored k less (inl e) =
       let long : length u.volatile ≡ image_words capacity = chained.open_still.long in
       let inside : before < image_words capacity = here.1 in
       let within : before < length u.volatile = omega arith in
-      let now : get_or w.volatile before 0 ≡ next = ap (λ (xs : List ℕ). get_or xs before 0) stored.volatile ∙ get_or-set_same u.volatile before next 0 within in
+      let now : get_or w.volatile before 0 ≡ next = ap (λ (xs : List ℕ). get_or xs before 0) stored.volatile
+      ∙ get_or-set_same u.volatile before next 0 within in
       let there : volatile_at w (start_word capacity d + i * words_of_class class) ≡ start_word capacity d + (i + 1) * words_of_class class =
       subst (λ (word : ℕ). volatile_at w word ≡ start_word capacity d + (i + 1) * words_of_class class) at (now ∙ next_at) in
-      subst (λ (j : ℕ). volatile_at w (start_word capacity d + j * words_of_class class) ≡ start_word capacity d + (j + 1) * words_of_class class) (sym e) there
+      subst (λ (j : ℕ). volatile_at w (start_word capacity d + j * words_of_class class) ≡ start_word capacity d +
+      (j + 1) * words_of_class class) (sym e) there
   linked_at stored k less (inr ne) =
       let step = block_step k i (words_of_class class) (omega arith) in
       let two = two_words class is in
@@ -49,7 +53,8 @@ module _ (capacity class d i : ℕ) (v u w : View) (before next : ℕ) (is : IsC
   pub step_stores : StoresOnly (IsInSuperblock capacity d) v w
   step_stores =
       stores_then (IsInSuperblock capacity d) v u w chained.stores
-      (stores_more (λ (other : ℕ). other ≡ before) (IsInSuperblock capacity d) u w (λ word e. subst (λ (x : ℕ). IsInSuperblock capacity d x) (sym e) here.0) stores)
+      (stores_more (λ (other : ℕ). other ≡ before) (IsInSuperblock capacity d) u w
+      (λ word e. subst (λ (x : ℕ). IsInSuperblock capacity d x) (sym e) here.0) stores)
 
   pub chain_step : IsStored before next u w → AreInOneChain capacity class d (i + 2) v w
   chain_step stored =
@@ -65,10 +70,12 @@ module _ (capacity class d i : ℕ) (v u w : View) (before next : ℕ) (is : IsC
       }
 
 -- nothing is chained yet
-pub chain_begins : (capacity class d : ℕ) (v : View) → IsOpen capacity v → StoresOnly (IsInSuperblock capacity d) v v → AreInOneChain capacity class d 1 v v
+pub chain_begins : (capacity class d : ℕ) (v : View) → IsOpen capacity v → StoresOnly (IsInSuperblock capacity d) v v
+    → AreInOneChain capacity class d 1 v v
 chain_begins capacity class d v open_now same = record { open_still = open_now; drawn = refl; stores = same; linked = λ k less. absurd (omega arith) }
 
-module _ (capacity class d count : ℕ) (v u w : View) (before next : ℕ) (is : IsClass class) (below : d < capacity) (some : 1 ≤ count) (few : count < blocks_of class)
+module _ (capacity class d count : ℕ) (v u w : View) (before next : ℕ) (is : IsClass class) (below : d < capacity) (some : 1 ≤ count)
+    (few : count < blocks_of class)
     (at : before ≡ start_word capacity d + (count - 1) * words_of_class class) (next_at : next ≡ start_word capacity d + count * words_of_class class)
     (chained : AreInOneChain capacity class d count v u) (stores : StoresOnly (λ other. other ≡ before) u w) where
   one_more : count ≡ (count - 1) + 1
@@ -95,7 +102,8 @@ module _ (capacity class d count : ℕ) (v u w : View) (before next : ℕ) (is :
 -- the three parts of a division
 module _ (capacity class d : ℕ) (v u t w : View) (info anchor value : ℕ) (is : IsClass class) (below : d < capacity) (was_open : IsOpen capacity v)
     (info_at : info ≡ info_word d) (anchor_at : anchor ≡ anchor_word d) (value_is : value ≡ full_anchor)
-    (persisted : IsPersisted info class v u) (persist_stores : StoresOnly (λ other. other ≡ info) v u) (chained : AreInOneChain capacity class d (blocks_of class) u t)
+    (persisted : IsPersisted info class v u) (persist_stores : StoresOnly (λ other. other ≡ info) v u)
+    (chained : AreInOneChain capacity class d (blocks_of class) u t)
     (anchor_stores : StoresOnly (λ other. other ≡ anchor) t w) where
   not_inside : IsInSuperblock capacity d info → ⊥
   not_inside inside = let from = inside.from in omega arith
@@ -146,7 +154,14 @@ module _ (capacity class d : ℕ) (v u t w : View) (info anchor value : ℕ) (is
       let more = drawn_more in
       let from = stops_within.from in
       let most = stops_within.few in
-      record { stopped = stops_within.stopped; above = stops_within.above; from = omega arith; until = stops_within.until; last = stops_within.last; few = omega arith }
+      record {
+        stopped = stops_within.stopped;
+        above = stops_within.above;
+        from = omega arith;
+        until = stops_within.until;
+        last = stops_within.last;
+        few = omega arith;
+      }
 
   pub divided : IsStored anchor value t w → IsDivided capacity class d v w
   divided stored =
@@ -157,7 +172,8 @@ module _ (capacity class d : ℕ) (v u t w : View) (info anchor value : ℕ) (is
       let most = runs_within.few in
       let long : length t.volatile ≡ image_words capacity = chained.open_still.long in
       let within : anchor < length t.volatile = omega arith in
-      let there : volatile_at w anchor ≡ value = ap (λ (xs : List ℕ). get_or xs anchor 0) stored.volatile ∙ get_or-set_same t.volatile anchor value 0 within in
+      let there : volatile_at w anchor ≡ value = ap (λ (xs : List ℕ). get_or xs anchor 0) stored.volatile
+      ∙ get_or-set_same t.volatile anchor value 0 within in
       record {
         runs_within = record { running = runs_within.running; drew = omega arith; few = omega arith; below = runs_within.below };
         info = subst (λ (word : ℕ). volatile_at w word ≡ class) info_at seen_last;

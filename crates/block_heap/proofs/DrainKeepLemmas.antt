@@ -16,7 +16,8 @@ use Rattle.heap_seat.proofs.CallerLemmas.{keeps_word_then, pending_then}
 use Rattle.block_heap.proofs.DrawnLemmas.{step_of, class_of}
 
 -- more blocks have more own words
-own_more : (held more : List Block) (roots : List ℕ) (word : ℕ) → ((b : Block) → Contains held b → Contains more b) → IsOwn held roots word → IsOwn more roots word
+own_more : (held more : List Block) (roots : List ℕ) (word : ℕ) → ((b : Block) → Contains held b → Contains more b) → IsOwn held roots word
+    → IsOwn more roots word
 own_more held more roots _ keeps (in_block b word holds inside) = in_block b word (keeps b holds) inside
 own_more held more roots _ keeps (in_root i word has at) = in_root i word has at
 
@@ -28,7 +29,8 @@ held_then s t u a b = record {
     roots = b.words.roots ∙ a.words.roots;
     words = λ word own. keeps_word_then (seat_of s) (seat_of t) (seat_of u) word (a.words.words word own) (b.words.words word (more word own));
     pending = λ word own.
-        pending_then (seat_of s) (seat_of t) (seat_of u) word (a.words.pending word own) (b.words.words word (more word own)) (b.words.pending word (more word own));
+        pending_then (seat_of s) (seat_of t) (seat_of u) word (a.words.pending word own) (b.words.words word (more word own))
+        (b.words.pending word (more word own));
     refusals = record {
       count = b.words.refusals.count ∙ a.words.refusals.count;
       bytes = b.words.refusals.bytes ∙ a.words.refusals.bytes;
@@ -86,7 +88,13 @@ module _ (class : ℕ) (s t u : SeqState) (offsets : List ℕ) (has : HasKept cl
     running = runs.running;
     each = λ offset p.
         let found = has.each offset p in
-        record { block = found.block; at = found.at; size = found.size; holds = subst (λ blocks. Contains blocks found.block) (sym misses.held) found.holds; new = found.new };
+        record {
+          block = found.block;
+          at = found.at;
+          size = found.size;
+          holds = subst (λ blocks. Contains blocks found.block) (sym misses.held) found.holds;
+          new = found.new;
+        };
     only = λ b holds. has.only b (subst (λ blocks. Contains blocks b) misses.held holds);
   }
 
@@ -138,7 +146,8 @@ module _ (class : ℕ) (s t u : SeqState) (offsets : List ℕ) (has : HasKept cl
       }
 
 -- the same in terms of answers
-pub kept_pushed : (class bytes : ℕ) (s t u : SeqState) (offsets now : List ℕ) (answer : Option Block) (b : Block) → now ≡ offsets ++ 8 * b.first_word ∷ []
+pub kept_pushed : (class bytes : ℕ) (s t u : SeqState) (offsets now : List ℕ) (answer : Option Block) (b : Block)
+    → now ≡ offsets ++ 8 * b.first_word ∷ []
     → HasKept class s t offsets → answer ≡ Some b → Answers bytes answer t.parts u.parts → KeepsWords (seat_of t) (seat_of u)
     → IsClass class → bytes ≡ size_of class → Runs (seat_of t) (seat_of u) → HasKept class s u now
 kept_pushed class bytes s t u offsets now answer b pushed has is answers words is_class at runs =
@@ -151,7 +160,8 @@ kept_unpushed class bytes s t u offsets answer b has is answers words =
     kept_one class s t u offsets has words bytes b (subst (λ (o : Option Block). Answers bytes o t.parts u.parts) is answers)
 
 pub kept_done : (class bytes : ℕ) (s t u : SeqState) (offsets : List ℕ) (answer : Option Block)
-    → HasKept class s t offsets → answer ≡ None → Answers bytes answer t.parts u.parts → KeepsWords (seat_of t) (seat_of u) → Runs (seat_of t) (seat_of u)
+    → HasKept class s t offsets → answer ≡ None → Answers bytes answer t.parts u.parts → KeepsWords (seat_of t) (seat_of u)
+    → Runs (seat_of t) (seat_of u)
     → KeepsHeld s u × HoldsDrained class offsets s u
 kept_done class bytes s t u offsets answer has is answers words runs =
     let misses : Misses bytes t.parts u.parts = subst (λ (o : Option Block). Answers bytes o t.parts u.parts) is answers in

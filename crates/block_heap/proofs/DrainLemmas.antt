@@ -56,7 +56,8 @@ pairs_push R xs x pairs last = λ i j d less within.
     elim (cases_eq j (length xs)) as (λ _. R (get_or (xs ++ x ∷ []) i d) (get_or (xs ++ x ∷ []) j d)) [
       | inl end ↦
           let at_j : get_or (xs ++ x ∷ []) j d ≡ x = ap (λ k. get_or (xs ++ x ∷ []) k d) end ∙ get_or-append_seam xs x [] d in
-          subst (λ z. R z (get_or (xs ++ x ∷ []) j d)) (sym at_i) (subst (λ z. R (get_or xs i d) z) (sym at_j) (last (get_or xs i d) (Contains-get_or xs i d i_in)))
+          subst (λ z. R z (get_or (xs ++ x ∷ []) j d)) (sym at_i) (subst (λ z. R (get_or xs i d) z) (sym at_j)
+          (last (get_or xs i d) (Contains-get_or xs i d i_in)))
       | inr before ↦
           let j_in : j < length xs = omega arith in
           let at_j : get_or (xs ++ x ∷ []) j d ≡ get_or xs j d = get_or-append xs (x ∷ []) d j j_in in
@@ -88,7 +89,8 @@ drains_more class s t u offsets b has capacity drains = record {
       let same : found.0 ≡ b = one_block class s found.0 b found.2 (has.was b step.1) (sym found.1 ∙ e) in
       found.3 (subst (λ z. IsDrainedOf class t z) (sym same) step.1));
 } where
-  step : IsDrainable t.parts.capacity (image_of u.parts) (held_in u.parts) class × IsDrainedOf class t b × (IsToDrain t.parts.capacity (image_of u.parts) (held_in u.parts) class b → ⊥)
+  step : IsDrainable t.parts.capacity (image_of u.parts) (held_in u.parts) class × IsDrainedOf class t b
+      × (IsToDrain t.parts.capacity (image_of u.parts) (held_in u.parts) class b → ⊥)
       × ((a : Block) → IsDrainedOf class t a → (a ≡ b) ⊎ IsToDrain t.parts.capacity (image_of u.parts) (held_in u.parts) class a)
       × ((a : Block) → IsToDrain t.parts.capacity (image_of u.parts) (held_in u.parts) class a → IsDrainedOf class t a)
   step = drains has.drainable
@@ -100,12 +102,14 @@ drains_more class s t u offsets b has capacity drains = record {
   before a d = step.4 a (here a d)
 
   is_new : (offset : ℕ) → Contains (8 * b.first_word ∷ []) offset → offset ≡ 8 * b.first_word
-  is_new offset p = elim (head_or_rest (8 * b.first_word) offset [] p) as (λ _. offset ≡ 8 * b.first_word) [ inl same ↦ sym same | inr none ↦ absurd (in_none offset none) ]
+  is_new offset p = elim (head_or_rest (8 * b.first_word) offset [] p) as
+      (λ _. offset ≡ 8 * b.first_word) [ inl same ↦ sym same | inr none ↦ absurd (in_none offset none) ]
 
 -- a request of the class gave none: all were given
 pub drains_last : (class : ℕ) (s t : SeqState) (offsets : List ℕ) → HasDrained class s t offsets → DrainsNone class t.parts → Drains class offsets s
 drains_last class s t offsets has none = record {
   sound = λ offset p. let found = has.sound offset p in (found.0, found.1, found.2);
-  complete = λ b d. elim (has.rest b d) as (λ _. Contains offsets (8 * b.first_word)) [ inl given ↦ given | inr left ↦ absurd (none has.drainable b left) ];
+  complete = λ b d. elim (has.rest b d) as (λ _. Contains offsets (8 * b.first_word))
+      [ inl given ↦ given | inr left ↦ absurd (none has.drainable b left) ];
   once = has.once;
 }

@@ -44,7 +44,8 @@ pub record HasDrawn (class : ℕ) (s t : SeqState) (offsets : List ℕ) : Type 0
   pub short : length offsets ≤ t.parts.capacity * blocks_of class
   pub small : length offsets ≤ largest_capacity * most_blocks
   pub few : t.parts.words.drawn ≤ s.parts.words.drawn + 3 * most_small_draws * largest_capacity + length offsets
-  pub left : t.stopped ≡ None → (n : ℕ) × HasAtMost class t.parts n × (t.parts.words.drawn + most_small_draws * n ≤ s.parts.words.drawn + 3 * most_small_draws * largest_capacity + length offsets)
+  pub left : t.stopped ≡ None → (n : ℕ) × HasAtMost class t.parts n
+      × (t.parts.words.drawn + most_small_draws * n ≤ s.parts.words.drawn + 3 * most_small_draws * largest_capacity + length offsets)
   pub runs : s.stopped ≡ None → t.stopped ≡ None
   pub budget : t.parts.words.budget ≡ s.parts.words.budget
 
@@ -72,12 +73,14 @@ record IsPlacedAt (capacity class word : ℕ) : Type 0 where
 
 placed_at : (p : Parts) (class : ℕ) (a : Block) → IsClass class → IsRunning p → Contains (held_in p) a → a.words ≡ words_of_class class
     → IsPlacedAt p.capacity class a.first_word
-placed_at p class a is run holds size = by_begins named.superblock named.words named.count named.index named.is_of.begins named.is_of.taken named.is_of.below
+placed_at p class a is run holds size = by_begins named.superblock named.words named.count named.index named.is_of.begins named.is_of.taken
+    named.is_of.below
     named.is_of.at named.is_of.size where
       named : IsBlock (layout_at p.capacity (image_of p)) a
       named = run.is.named a holds
 
-      by_begins : (d w n i : ℕ) → Begins (layout_at p.capacity (image_of p)) d w n → d < image_of p used_word → i < n → a.first_word ≡ start_word p.capacity d + i * w
+      by_begins : (d w n i : ℕ) → Begins (layout_at p.capacity (image_of p)) d w n → d < image_of p used_word → i < n
+          → a.first_word ≡ start_word p.capacity d + i * w
           → a.words ≡ w → IsPlacedAt p.capacity class a.first_word
       by_begins d w n i (of_class c info is_c) taken below at words =
           let same : words_of_class c ≡ words_of_class class = sym words ∙ size in
@@ -143,7 +146,8 @@ module _ (class bytes most : ℕ) (s t u : SeqState) (offsets : List ℕ) (b : B
       let before = has.once x in
       elim (cases_eq (8 * b.first_word) x) as (λ _. times x more ≤ 1) [
         | inl same ↦
-            let here : times x (8 * b.first_word ∷ []) ≡ 1 + times x [] = subst (λ y. times y (8 * b.first_word ∷ []) ≡ 1 + times y []) same (times_here (8 * b.first_word) []) in
+            let here : times x (8 * b.first_word ∷ []) ≡ 1 + times x [] =
+            subst (λ y. times y (8 * b.first_word ∷ []) ≡ 1 + times y []) same (times_here (8 * b.first_word) []) in
             let none : times x offsets ≡ 0 = times_none x offsets (λ p. new_offset (subst (λ y. Contains offsets y) (sym same) p)) in
             omega arith
         | inr other ↦ let past = times_past (8 * b.first_word) x [] other in omega arith
@@ -177,11 +181,13 @@ module _ (class bytes most : ℕ) (s t u : SeqState) (offsets : List ℕ) (b : B
       omega arith
 
   module _ (costs : Costs class t.parts u.parts) (runs : Runs (seat_of t) (seat_of u)) (counted : IsLargeCall most (seat_of t) (seat_of u)) where
-    all_left : (n : ℕ) × HasAtMost class u.parts n × (u.parts.words.drawn + most_small_draws * n ≤ s.parts.words.drawn + 3 * most_small_draws * largest_capacity + length more)
+    all_left : (n : ℕ) × HasAtMost class u.parts n × (u.parts.words.drawn + most_small_draws * n ≤ s.parts.words.drawn + 3 * most_small_draws *
+        largest_capacity + length more)
     all_left =
         let before = has.left runs.ran in
         let long = longer in
-        elim costs as (λ _. (n : ℕ) × HasAtMost class u.parts n × (u.parts.words.drawn + most_small_draws * n ≤ s.parts.words.drawn + 3 * most_small_draws * largest_capacity + length more)) [
+        elim costs as (λ _. (n : ℕ) × HasAtMost class u.parts n × (u.parts.words.drawn + most_small_draws * n ≤ s.parts.words.drawn + 3 *
+        most_small_draws * largest_capacity + length more)) [
           | inl cached ↦ let now = cached.0 before.0 before.1 in (now.0, now.2, omega (arith, before.2, now.1, cached.1))
           | inr filled ↦ let now = filled.0 before.0 before.1 in (now.0, now.2, omega (arith, before.2, now.1, filled.1))
         ]
@@ -203,23 +209,27 @@ module _ (class bytes most : ℕ) (s t u : SeqState) (offsets : List ℕ) (b : B
 abbrev pub Draining : ℕ → SeqState → SeqState → List ℕ → Type 0
 Draining class s t offsets = (IsDrainableFor class s → HasDrained class s t offsets) × HasDrawn class s t offsets
 
-pub draining_first : (class : ℕ) (s seen : SeqState) (offsets : List ℕ) → offsets ≡ [] → IsClass class → s ≡ seen → IsSeqHeap s → Draining class seen seen offsets
+pub draining_first : (class : ℕ) (s seen : SeqState) (offsets : List ℕ) → offsets ≡ [] → IsClass class → s ≡ seen → IsSeqHeap s
+    → Draining class seen seen offsets
 draining_first class s seen offsets empty is same heap =
     ((λ drainable. drains_first class seen offsets empty drainable), drawn_first class seen offsets empty is (subst IsSeqHeap same heap))
 
-pub draining_more : (class bytes most : ℕ) (s t u : SeqState) (offsets now : List ℕ) (answer : Option Block) (b : Block) → now ≡ offsets ++ 8 * b.first_word ∷ []
+pub draining_more : (class bytes most : ℕ) (s t u : SeqState) (offsets now : List ℕ) (answer : Option Block) (b : Block)
+    → now ≡ offsets ++ 8 * b.first_word ∷ []
     → Draining class s t offsets → answer ≡ Some b → Answers bytes answer t.parts u.parts → DrainsAs class answer t.parts u.parts
     → IsClass class → bytes ≡ size_of class → Runs (seat_of t) (seat_of u) → IsLargeCall most (seat_of t) (seat_of u) → Draining class s u now
 draining_more class bytes most s t u offsets now answer b pushed draining is answers drains is_class at runs counted =
     let gets : GetsBlock bytes b t.parts u.parts = subst (λ (o : Option Block). Answers bytes o t.parts u.parts) is answers in
-    let gives : DrainsTo class b t.parts u.parts × Costs class t.parts u.parts = subst (λ (o : Option Block). DrainsAs class o t.parts u.parts) is drains in
+    let gives : DrainsTo class b t.parts u.parts × Costs class t.parts u.parts =
+    subst (λ (o : Option Block). DrainsAs class o t.parts u.parts) is drains in
     subst (λ xs. Draining class s u xs) (sym pushed) (
       (λ drainable. drains_more class s t u offsets b (draining.0 drainable) counted.goes_on.capacity gives.0),
       drawn_more class bytes most s t u offsets b is_class at draining.1 gets gives.1 runs counted,
     )
 
 -- whatever the next request answers, few tickets were drawn
-pub drawn_few : (class : ℕ) (s t u : SeqState) (offsets : List ℕ) → HasDrawn class s t offsets → u.parts.words.drawn ≤ t.parts.words.drawn + most_small_draws
+pub drawn_few : (class : ℕ) (s t u : SeqState) (offsets : List ℕ) → HasDrawn class s t offsets
+    → u.parts.words.drawn ≤ t.parts.words.drawn + most_small_draws
     → u.parts.words.drawn < s.parts.words.drawn + 2 ^ 32
 drawn_few class s t u offsets has draws = let small = has.small in let few = has.few in omega (arith, largest_capacity_fits)
 
@@ -228,7 +238,8 @@ pub room_for_one : (class bytes most room : ℕ) (s t u : SeqState) (offsets : L
     → answer ≡ Some b → Answers bytes answer t.parts u.parts → DrainsAs class answer t.parts u.parts → IsClass class → bytes ≡ size_of class
     → Runs (seat_of t) (seat_of u) → IsLargeCall most (seat_of t) (seat_of u) → room ≡ s.parts.capacity * blocks_of class → length offsets < room
 room_for_one class bytes most room s t u offsets answer b draining is answers drains is_class at runs counted all =
-    let next = draining_more class bytes most s t u offsets (offsets ++ 8 * b.first_word ∷ []) answer b refl draining is answers drains is_class at runs counted in
+    let next = draining_more class bytes most s t u offsets (offsets ++ 8 * b.first_word ∷ [])
+    answer b refl draining is answers drains is_class at runs counted in
     let short = next.1.short in
     let same : u.parts.capacity ≡ s.parts.capacity = next.1.capacity in
     let product : u.parts.capacity * blocks_of class ≡ s.parts.capacity * blocks_of class = ap (λ n. n * blocks_of class) same in
@@ -242,7 +253,8 @@ step_of MemoryFault = 0
 
 -- and if it stops the heap, the budget is used up
 pub drawn_stops_within : (class most : ℕ) (stopped e : Stopped) (s t u : SeqState) (offsets : List ℕ) → HasDrawn class s t offsets
-    → u.parts.words.drawn ≤ t.parts.words.drawn + most_small_draws → IsLargeCall most (seat_of t) (seat_of u) → Stops stopped.step (seat_of t) (seat_of u)
+    → u.parts.words.drawn ≤ t.parts.words.drawn + most_small_draws → IsLargeCall most (seat_of t) (seat_of u)
+    → Stops stopped.step (seat_of t) (seat_of u)
     → StoppedFault stopped ≡ StoppedFault e → s.stopped ≡ None
     → (s.parts.words.budget ≤ e.step) × (e.step < s.parts.words.drawn + 2 ^ 32)
 drawn_stops_within class most stopped e s t u offsets has draws counted stops one running =

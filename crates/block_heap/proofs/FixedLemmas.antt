@@ -40,7 +40,8 @@ fixed_opened words held budget s t opened keeps word is = (seen, keeps.durable w
   seen = keeps.volatile word fixed ∙ was
 
 -- and there are as many words as in the image
-pub long_opened : (words : List ℕ) (held : List Block) (budget : ℕ) (s t : SeqState) → IsOpened words held budget s → KeepsFixed s t → word_count t.parts.words ≡ length words
+pub long_opened : (words : List ℕ) (held : List Block) (budget : ℕ) (s t : SeqState) → IsOpened words held budget s → KeepsFixed s t
+    → word_count t.parts.words ≡ length words
 long_opened words held budget s t opened keeps = keeps.long ∙ ap word_count opened.opens.words_are
 
 -- so are the kinds of the roots, which stand in such words
@@ -60,7 +61,8 @@ unfolding kinds_seen
 kinds_opened words held budget s t opened keeps i below =
     get_or-words_from (image_of t.parts) (kind_word t.parts.capacity 0) roots i 0 below
     ∙ ap (image_of t.parts) (let same = keeps.capacity in let was = opened.opens.capacity in omega arith)
-    ∙ (fixed_opened words held budget s t opened keeps (kind_word (capacity_of (slice_index words)) i) (kind_fixed (capacity_of (slice_index words)) i below)).0
+    ∙ (fixed_opened words held budget s t opened keeps (kind_word (capacity_of (slice_index words)) i)
+    (kind_fixed (capacity_of (slice_index words)) i below)).0
 
 -- and in every image that may be left
 pub kinds_left : (words : List ℕ) (held : List Block) (budget : ℕ) (s t : SeqState) → IsOpened words held budget s → KeepsFixed s t
@@ -81,7 +83,8 @@ kinds_left words held budget s t opened keeps image left i below =
 pub fixed_by : (to : ℕ → Type 0) (s seen t : SeqState) → s ≡ seen → t.parts.capacity ≡ s.parts.capacity
     → StoresOnly to s.parts.words t.parts.words → ((word : ℕ) → to word → IsFixed s.parts.capacity word → ⊥)
     → s.parts.used_look.seen + t.parts.used_look.taken ≡ t.parts.used_look.seen + s.parts.used_look.taken
-    → t.parts.words.drawn + (s.small_calls + most_large_draws * s.large_calls) ≤ s.parts.words.drawn + (t.small_calls + most_large_draws * t.large_calls) → KeepsFixed seen t
+    → t.parts.words.drawn + (s.small_calls + most_large_draws * s.large_calls) ≤ s.parts.words.drawn +
+    (t.small_calls + most_large_draws * t.large_calls) → KeepsFixed seen t
 fixed_by to s seen t same capacity stores none looks draws = subst (λ m. KeepsFixed m t) same (record {
   capacity = capacity;
   long = stores.words;
@@ -100,20 +103,24 @@ fixed_by to s seen t same capacity stores none looks draws = subst (λ m. KeepsF
 pub fixed_store : (s seen t : SeqState) (word : ℕ) → IsSeqHeap s → s ≡ seen → t.parts.capacity ≡ s.parts.capacity
     → IsOwn (held_in s.parts) all_roots word → StoresOnly (λ other. other ≡ word) s.parts.words t.parts.words
     → s.parts.used_look.seen + t.parts.used_look.taken ≡ t.parts.used_look.seen + s.parts.used_look.taken
-    → t.parts.words.drawn + (s.small_calls + most_large_draws * s.large_calls) ≤ s.parts.words.drawn + (t.small_calls + most_large_draws * t.large_calls) → KeepsFixed seen t
+    → t.parts.words.drawn + (s.small_calls + most_large_draws * s.large_calls) ≤ s.parts.words.drawn +
+    (t.small_calls + most_large_draws * t.large_calls) → KeepsFixed seen t
 fixed_store s seen t word heap same capacity own stores looks draws = fixed_by (λ other. other ≡ word) s seen t same capacity stores (λ other at is.
-    own_not_fixed s.parts.capacity (held_in s.parts) s.parts.words other heap.lasts.stable (subst (IsOwn (held_in s.parts) all_roots) (sym at) own) is) looks draws
+    own_not_fixed s.parts.capacity (held_in s.parts) s.parts.words other heap.lasts.stable
+    (subst (IsOwn (held_in s.parts) all_roots) (sym at) own) is) looks draws
 
 -- a request, and a free
 pub fixed_request : (s seen t : SeqState) → IsSeqHeap s → s ≡ seen → LeavesHeld (held_in s.parts) s.parts t.parts
-    → t.parts.words.drawn + (s.small_calls + most_large_draws * s.large_calls) ≤ s.parts.words.drawn + (t.small_calls + most_large_draws * t.large_calls) → KeepsFixed seen t
+    → t.parts.words.drawn + (s.small_calls + most_large_draws * s.large_calls) ≤ s.parts.words.drawn +
+    (t.small_calls + most_large_draws * t.large_calls) → KeepsFixed seen t
 fixed_request s seen t heap same leaves_held draws =
     fixed_by (IsAllocatorWord s.parts.capacity (held_in s.parts)) s seen t same leaves_held.capacity leaves_held.as_allocator.stores (λ word may is.
     not_fixed s.parts.capacity (held_in s.parts) s.parts.words word heap.lasts.stable may is) leaves_held.knows draws
 
 pub fixed_free : (s seen t : SeqState) (b : Block) → IsSeqHeap s → s ≡ seen → TakesFrom b (held_in s.parts) (held_in t.parts)
     → LeavesHeld (held_in t.parts) s.parts t.parts
-    → t.parts.words.drawn + (s.small_calls + most_large_draws * s.large_calls) ≤ s.parts.words.drawn + (t.small_calls + most_large_draws * t.large_calls) → KeepsFixed seen t
+    → t.parts.words.drawn + (s.small_calls + most_large_draws * s.large_calls) ≤ s.parts.words.drawn +
+    (t.small_calls + most_large_draws * t.large_calls) → KeepsFixed seen t
 fixed_free s seen t b heap same takes leaves_held draws =
     let stable = stable_fewer s.parts.capacity (held_in s.parts) (held_in t.parts) s.parts.words takes.only heap.lasts.stable in
     fixed_by (IsAllocatorWord s.parts.capacity (held_in t.parts)) s seen t same leaves_held.capacity leaves_held.as_allocator.stores (λ word may is.

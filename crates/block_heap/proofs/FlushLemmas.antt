@@ -63,7 +63,8 @@ module _ (p : Parts) (class : ℕ) (is : IsClass class) (run : IsRunning p) (pre
       let count : (cache_at p.caches class).count ≡ length (s.cached class) = cache_of.count in
       let batch = is_prefix.count in
       let left = is_prefix.rest in
-      walk_prefix (image_of p) (s.start class) blocks (s.cached class) (subst (λ x. Walks (image_of p) x blocks) first is_prefix.walks) (run.is.walks class is)
+      walk_prefix (image_of p) (s.start class) blocks (s.cached class) (subst (λ x. Walks (image_of p) x blocks) first is_prefix.walks)
+      (run.is.walks class is)
       (omega arith)
 
   pub rest_long : length split.0 ≡ prefix.rest.count
@@ -88,7 +89,8 @@ module _ (p : Parts) (class : ℕ) (is : IsClass class) (run : IsRunning p) (pre
   found_is : (run.is.cached class prefix.batch.last is last_cached).superblock ≡ prefix.d
   found_is =
       let found = run.is.cached class prefix.batch.last is last_cached in
-      inside_one p.capacity found.superblock prefix.d prefix.batch.last (first_inside p.capacity class found.superblock prefix.batch.last is found.is_first)
+      inside_one p.capacity found.superblock prefix.d prefix.batch.last
+      (first_inside p.capacity class found.superblock prefix.batch.last is found.is_first)
       last_inside
 
   pub prefix_class : IsOfClass p.capacity (image_of p) s (held_in p) class prefix.d
@@ -149,7 +151,8 @@ module _ (p : Parts) (class : ℕ) (is : IsClass class) (run : IsRunning p) (pre
   -- the words that giving stores to are an allocator's
   pub give_word : (word : ℕ) → IsGiveWord prefix.d prefix.batch word → IsAllocatorWord p.capacity (held_in p) word
   give_word word (inl at) = is_anchor prefix.d is_prefix.within at
-  give_word word (inr at) = is_inside (let from = last_inside.from in omega arith) (let within = is_prefix.within in let until = last_inside.until in omega arith)
+  give_word word (inr at) = is_inside (let from = last_inside.from in omega arith) (let within = is_prefix.within in
+      let until = last_inside.until in omega arith)
       (λ b holds is_in. cached_apart p.capacity (image_of p) (held_in p) s class prefix.batch.last b run.is is last_cached holds
       (subst (λ x. IsIn b x) at is_in))
 
@@ -208,7 +211,8 @@ module _ (p : Parts) (class : ℕ) (is : IsClass class) (run : IsRunning p) (pre
             cond-true (nat_eq anchor.count 0) p.words.volatile (set p.words.volatile prefix.batch.last next_word)
                 (eq-eqb anchor.count 0 none),
           )
-          | inr some ↦ inr (cond-false (nat_eq anchor.count 0) p.words.volatile (set p.words.volatile prefix.batch.last next_word) (ne_eqb anchor.count 0 some))
+          | inr some ↦ inr (cond-false (nat_eq anchor.count 0) p.words.volatile (set p.words.volatile prefix.batch.last next_word)
+              (ne_eqb anchor.count 0 some))
         ]
 
     pub linked_long : length linked ≡ word_count p.words
@@ -266,7 +270,8 @@ module _ (p : Parts) (class : ℕ) (is : IsClass class) (run : IsRunning p) (pre
             elim linked_is as (λ _. (s.chain prefix.d ≡ []) ⊎ (volatile_at w prefix.batch.last ≡ first_of p.capacity class prefix.d
             (anchor_first (image_of p (anchor_word prefix.d))))) [
               | inl none ↦ inl (nil_from_length (s.chain prefix.d) (sym chain_count ∙ none.0))
-              | inr some ↦ inr (seen ∙ ap (λ (xs : List ℕ). get_or xs prefix.batch.last 0) some ∙ get_or-set_same p.words.volatile prefix.batch.last next_word 0
+              | inr some ↦ inr (seen ∙ ap (λ (xs : List ℕ). get_or xs prefix.batch.last 0) some
+                  ∙ get_or-set_same p.words.volatile prefix.batch.last next_word 0
                   (omega arith)
                   ∙ ap (λ n. first_of p.capacity class prefix.d n) first)
             ]
@@ -308,7 +313,8 @@ module _ (p : Parts) (class : ℕ) (is : IsClass class) (run : IsRunning p) (pre
 
     pub gave_accounted : anchor.state ≢ Full → AreAccounted p → AreAccounted (changed p w (set p.caches class prefix.rest) p.blocks)
     gave_accounted other = accounted_kept p.capacity (image_of p) (λ word. volatile_at w word) (held_in p) s
-        (after_give s class prefix.d blocks split.0 (image_of p prefix.batch.last)) (held_in p) run.is (gave_shape other) gave_fixed.used gave_fixed.infos
+        (after_give s class prefix.d blocks split.0 (image_of p prefix.batch.last)) (held_in p) run.is
+        (gave_shape other) gave_fixed.used gave_fixed.infos
         (λ e p. p)
 
     pub gave_running : anchor.state ≢ Full → IsRunning (changed p w (set p.caches class prefix.rest) p.blocks)
@@ -350,10 +356,12 @@ module _ (p : Parts) (class : ℕ) (is : IsClass class) (run : IsRunning p) (pre
           (give_low (head_word l) (omega arith) (omega arith)) in
           elim (cases_eq l list) as (λ _. head_pops (volatile_at x (head_word l)) ≡ head_pops (image_of p (head_word l))) [
             | inl same ↦
-                let at : volatile_at x (head_word list) ≡ head_of (prefix.d + 1) (head_pops (volatile_at w (head_word list))) = (pushed_on below).head.at in
+                let at : volatile_at x (head_word list) ≡ head_of (prefix.d + 1) (head_pops (volatile_at w (head_word list))) =
+                (pushed_on below).head.at in
                 let there : volatile_at w (head_word list) ≡ image_of p (head_word list) = subst
                 (λ k. volatile_at w (head_word k) ≡ image_of p (head_word k)) same first in
-                subst (λ k. head_pops (volatile_at x (head_word k)) ≡ head_pops (image_of p (head_word k))) (sym same) (omega (arith, largest_capacity_fits))
+                subst (λ k. head_pops (volatile_at x (head_word k)) ≡ head_pops (image_of p (head_word k))) (sym same)
+                (omega (arith, largest_capacity_fits))
             | inr other ↦ ap head_pops (push_stores.volatile (head_word l) (push_other l l_below other) ∙ first)
           ]
         where
@@ -379,16 +387,19 @@ module _ (p : Parts) (class : ℕ) (is : IsClass class) (run : IsRunning p) (pre
           → ((c : ℕ) → t.cached c ≡ with_at s.cached class split.0 c) → ((c : ℕ) → t.start c ≡ with_at s.start class (image_of p prefix.batch.last) c)
           → ((e : ℕ) → t.place e ≡ with_at s.place prefix.d (in_list list_place) e) → IsRunning now_listed
       listed_running t list_place below shape cached start place =
-          running_after p x (set p.caches class prefix.rest) p.blocks t run (listed_fixed below) (length-set p.caches class prefix.rest ∙ run.caches_long) refl refl shape (caches_now t cached start) places
+          running_after p x (set p.caches class prefix.rest) p.blocks t run (listed_fixed below) (length-set p.caches class prefix.rest
+          ∙ run.caches_long) refl refl shape (caches_now t cached start) places
         where
-          places : (e : ℕ) → e < p.capacity → IsClass (image_of p (info_word e)) → (t.place e ≡ in_list (image_of p (info_word e))) ⊎ (t.place e ≡ is_full)
+          places : (e : ℕ) → e < p.capacity → IsClass (image_of p (info_word e))
+              → (t.place e ≡ in_list (image_of p (info_word e))) ⊎ (t.place e ≡ is_full)
               → (s.place e ≡ in_list (image_of p (info_word e))) ⊎ (s.place e ≡ is_full)
-          places e e_below is_class placed = elim (cases_eq e prefix.d) as (λ _. (s.place e ≡ in_list (image_of p (info_word e))) ⊎ (s.place e ≡ is_full)) [
-            | inl same ↦ inr (ap s.place same ∙ (gave_full full).0)
-            | inr other ↦
-                let before : t.place e ≡ s.place e = place e ∙ with_at_other s.place prefix.d (in_list list_place) e other in
-                subst (λ y. (y ≡ in_list (image_of p (info_word e))) ⊎ (y ≡ is_full)) before placed
-          ]
+          places e e_below is_class placed = elim (cases_eq e prefix.d) as
+              (λ _. (s.place e ≡ in_list (image_of p (info_word e))) ⊎ (s.place e ≡ is_full)) [
+                | inl same ↦ inr (ap s.place same ∙ (gave_full full).0)
+                | inr other ↦
+                    let before : t.place e ≡ s.place e = place e ∙ with_at_other s.place prefix.d (in_list list_place) e other in
+                    subst (λ y. (y ≡ in_list (image_of p (info_word e))) ⊎ (y ≡ is_full)) before placed
+              ]
 
       none_before : length (s.chain prefix.d) ≡ 0
       none_before = ap (λ (xs : List ℕ). length xs) (gave_full full).3
@@ -400,13 +411,16 @@ module _ (p : Parts) (class : ℕ) (is : IsClass class) (run : IsRunning p) (pre
           let count = is_prefix.count in
           let none = none_before in
           let total : length blocks + length (s.chain prefix.d) ≡ blocks_of class = omega arith in
-          let empty : state_now ≡ empty_state = cond-true (nat_eq (length blocks + length (s.chain prefix.d)) (blocks_of class)) empty_state partial_state
+          let empty : state_now ≡ empty_state = cond-true (nat_eq (length blocks + length (s.chain prefix.d)) (blocks_of class))
+          empty_state partial_state
           (eq-eqb (length blocks + length (s.chain prefix.d)) (blocks_of class) total) in
           let is_state = gave_full full in
-          give_all p.capacity class prefix.d (image_of p) (λ word. volatile_at w word) (held_in p) s is_prefix.before split.0 prefix.batch.last is run.is
+          give_all p.capacity class prefix.d (image_of p) (λ word. volatile_at w word)
+          (held_in p) s is_prefix.before split.0 prefix.batch.last is run.is
           is_prefix.within split.1 is_prefix.firsts
           (λ word. volatile_at x word) is_state.0 is_state.1 (omega arith)
-          (subst (λ state. IsGivenBack p.capacity (image_of p) (λ word. volatile_at w word) s class prefix.d is_prefix.before prefix.batch.last state) empty
+          (subst (λ state. IsGivenBack p.capacity (image_of p) (λ word. volatile_at w word)
+          s class prefix.d is_prefix.before prefix.batch.last state) empty
           given_back)
           (subst (λ l. IsPushedOn (λ word. volatile_at w word) (λ word. volatile_at x word) l prefix.d) same (pushed_on (omega arith)))
 
@@ -427,13 +441,16 @@ module _ (p : Parts) (class : ℕ) (is : IsClass class) (run : IsRunning p) (pre
           let none = none_before in
           let fits = prefix_fits in
           let differs : length blocks + length (s.chain prefix.d) ≢ blocks_of class = λ e. not_all (omega arith) in
-          let partial : state_now ≡ partial_state = cond-false (nat_eq (length blocks + length (s.chain prefix.d)) (blocks_of class)) empty_state partial_state
+          let partial : state_now ≡ partial_state = cond-false (nat_eq (length blocks + length (s.chain prefix.d)) (blocks_of class))
+          empty_state partial_state
           (ne_eqb (length blocks + length (s.chain prefix.d)) (blocks_of class) differs) in
           let is_state = gave_full full in
-          give_full p.capacity class prefix.d (image_of p) (λ word. volatile_at w word) (held_in p) s is_prefix.before split.0 prefix.batch.last is run.is
+          give_full p.capacity class prefix.d (image_of p) (λ word. volatile_at w word)
+          (held_in p) s is_prefix.before split.0 prefix.batch.last is run.is
           is_prefix.within split.1 is_prefix.firsts
           (λ word. volatile_at x word) is_state.0 is_state.1 (omega arith)
-          (subst (λ state. IsGivenBack p.capacity (image_of p) (λ word. volatile_at w word) s class prefix.d is_prefix.before prefix.batch.last state) partial
+          (subst (λ state. IsGivenBack p.capacity (image_of p) (λ word. volatile_at w word)
+          s class prefix.d is_prefix.before prefix.batch.last state) partial
           given_back)
           (subst (λ l. IsPushedOn (λ word. volatile_at w word) (λ word. volatile_at x word) l prefix.d) same (pushed_on (omega arith)))
 

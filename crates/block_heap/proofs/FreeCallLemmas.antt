@@ -21,12 +21,14 @@ pub free_stable : (p q : Parts) (b : Block) → IsStable p.capacity p.words (hel
     → IsStable q.capacity q.words (held_in q)
 free_stable p q b stable takes leaves_held =
     subst (λ n. IsStable n q.words (held_in q)) (sym leaves_held.capacity)
-    (stable_kept p.capacity (held_in q) p.words q.words (stable_fewer p.capacity (held_in p) (held_in q) p.words takes.only stable) leaves_held.as_allocator)
+    (stable_kept p.capacity (held_in q) p.words q.words (stable_fewer p.capacity (held_in p) (held_in q) p.words takes.only stable)
+    leaves_held.as_allocator)
 
 -- what lasts over a free
 pub free_lasts : (r : Result Unit Stopped) (p q : Parts) (b : Block) (old o : Option ℕ) → IsLasting p.capacity p.words (held_in p) old
     → TakesFrom b (held_in p) (held_in q) → LeavesHeld (held_in q) p q
-    → OnOk r (o ≡ None) → IfErr r (λ e. o ≡ Some e.step) → IfErr r (λ e. StopsWithin e.step most_free_draws p.words q.words) → IsLasting q.capacity q.words (held_in q) o
+    → OnOk r (o ≡ None) → IfErr r (λ e. o ≡ Some e.step) → IfErr r (λ e. StopsWithin e.step most_free_draws p.words q.words)
+    → IsLasting q.capacity q.words (held_in q) o
 free_lasts r p q b old o lasts takes leaves_held none stops stops_within =
     large_lasts r p q (held_in q) most_free_draws old o lasts leaves_held (free_stable p q b lasts.stable takes leaves_held) none stops stops_within
 
@@ -55,7 +57,8 @@ module _ (s : SeqState) (q : Parts) (o : Option ℕ) (b : Block) (heap : IsSeqHe
     only = takes.only;
     keeps = takes.keeps;
     roots = refl;
-    words = λ word own out. word_kept s q o (IsAllocatorWord s.parts.capacity (held_in q)) word leaves_held.as_allocator.stores (not_stored word own out);
+    words = λ word own out. word_kept s q o (IsAllocatorWord s.parts.capacity (held_in q)) word leaves_held.as_allocator.stores
+        (not_stored word own out);
     refusals = record { count = refl; bytes = refl; looks = refl };
   })
 
@@ -65,6 +68,7 @@ module _ (s : SeqState) (q : Parts) (o : Option ℕ) (b : Block) (heap : IsSeqHe
   frees (Ok t) seen most same ran runs runs_within = subst (λ t. Frees b (seat_of t) (large_view s q o)) same (record {
     runs = record { ran = ap (λ (t : SeqState). t.stopped) same ∙ ran; running = runs; drew = runs_within.drew; below = runs_within.below };
     gone = takes.gone;
-    pending = λ word own out. pending_kept s q o (IsAllocatorWord s.parts.capacity (held_in q)) word leaves_held.as_allocator.stores (not_stored word own out);
+    pending = λ word own out. pending_kept s q o (IsAllocatorWord s.parts.capacity (held_in q)) word leaves_held.as_allocator.stores
+        (not_stored word own out);
   })
   frees (Err e) seen most same ran runs runs_within = tt

@@ -73,7 +73,8 @@ pub record IsFreed (first d end : ℕ) (p q : Parts) : Type 0 where
 
 -- one superblock more is in the free list
 pub freed_more : (first d end : ℕ) (p q r : Parts) → d < end → IsFreed first d end p q → IsRunning r → ((e : ℕ) → e ≢ d → IsDropped q e → IsDropped r e)
-    → GivesUse d q r → FreesOne d q r → RunsWithin 4 q.words r.words → r.blocks ≡ q.blocks → LeavesHeld (held_in q) q r → r.caches ≡ q.caches → r.taken ≡ q.taken → IsFreed first (d + 1) end p r
+    → GivesUse d q r → FreesOne d q r → RunsWithin 4 q.words r.words → r.blocks ≡ q.blocks → LeavesHeld (held_in q) q r → r.caches ≡ q.caches
+    → r.taken ≡ q.taken → IsFreed first (d + 1) end p r
 freed_more first d end p q r below freed running others gives frees runs_within blocks leaves_held caches taken = record {
   some = freed.some;
   most = freed.most;
@@ -111,21 +112,32 @@ freed_more first d end p q r below freed running others gives frees runs_within 
   ]
 
 -- the parts leave the blocks that are held still
-pub freed_leaves_held : (first d end : ℕ) (h : HeldBlocks) (p q r : Parts) → IsFreed first d end (record p { blocks = h }) q → r.blocks ≡ q.blocks → LeavesHeld (held_in q) q r
+pub freed_leaves_held : (first d end : ℕ) (h : HeldBlocks) (p q r : Parts) → IsFreed first d end (record p { blocks = h }) q
+    → r.blocks ≡ q.blocks → LeavesHeld (held_in q) q r
     → LeavesHeld (held_in r) p r
 freed_leaves_held first d end h p q r freed blocks leaves_held =
-    let all = leaves_held_then (record p { blocks = h }) q r (held_of h) freed.leaves_held (subst (λ (x : HeldBlocks). LeavesHeld (held_of x) q r) freed.blocks leaves_held) in
+    let all = leaves_held_then (record p { blocks = h }) q r (held_of h) freed.leaves_held
+    (subst (λ (x : HeldBlocks). LeavesHeld (held_of x) q r) freed.blocks leaves_held) in
     subst (λ (x : HeldBlocks). LeavesHeld (held_of x) p r) (sym (blocks ∙ freed.blocks))
-    (record { capacity = all.capacity; as_allocator = all.as_allocator; knows = all.knows; taken = all.taken; looks = record { used = all.looks.used; heads = all.looks.heads } })
+    (record {
+      capacity = all.capacity;
+      as_allocator = all.as_allocator;
+      knows = all.knows;
+      taken = all.taken;
+      looks = record { used = all.looks.used; heads = all.looks.heads };
+    })
 
 -- the block is held no more
-pub freed_takes : (p r : Parts) (b : Block) (h : HeldBlocks) → Contains (held_in p) b → TakesFrom (at_mark p.blocks b.first_word) (held_in p) (held_of h) → r.blocks ≡ h
+pub freed_takes : (p r : Parts) (b : Block) (h : HeldBlocks) → Contains (held_in p) b
+    → TakesFrom (at_mark p.blocks b.first_word) (held_in p) (held_of h) → r.blocks ≡ h
     → TakesFrom b (held_in p) (held_in r)
 freed_takes p r b h holds takes same =
-    subst (λ (x : HeldBlocks). TakesFrom b (held_in p) (held_of x)) (sym same) (subst (λ x. TakesFrom x (held_in p) (held_of h)) (held_mark p.blocks b holds) takes)
+    subst (λ (x : HeldBlocks). TakesFrom b (held_in p) (held_of x)) (sym same)
+    (subst (λ x. TakesFrom x (held_in p) (held_of h)) (held_mark p.blocks b holds) takes)
 
 -- A large block is held no more.
-module _ (p : Parts) (b : Block) (run : IsRunning p) (holds : Contains (held_in p) b) (large : (class : ℕ) → IsClass class → b.words ≢ words_of_class class) where
+module _ (p : Parts) (b : Block) (run : IsRunning p) (holds : Contains (held_in p) b) (large : (class : ℕ) → IsClass class
+    → b.words ≢ words_of_class class) where
   lies : IsWhole p.capacity b
   lies =
       let found = large_block p.capacity (image_of p) (held_in p) run.shape b run.is holds large in
@@ -152,7 +164,8 @@ module _ (p : Parts) (b : Block) (run : IsRunning p) (holds : Contains (held_in 
 
     dropped : IsShape p.capacity (image_of p) (held_of h) run.shape
         × ((d : ℕ) → b.first_word ≤ start_word p.capacity d → start_word p.capacity d < b.first_word + b.words → HasNoHeld p.capacity (held_of h) d)
-    dropped = drop_large p.capacity (image_of p) (held_in p) (held_of h) run.shape b run.is holds whole_words (freed_takes p (record p { blocks = h }) b h holds takes refl)
+    dropped = drop_large p.capacity (image_of p) (held_in p) (held_of h) run.shape b run.is holds whole_words
+        (freed_takes p (record p { blocks = h }) b h holds takes refl)
 
     drop_running : IsRunning (record p { blocks = h })
     drop_running = record {
@@ -175,11 +188,13 @@ module _ (p : Parts) (b : Block) (run : IsRunning p) (holds : Contains (held_in 
       few = run.few;
     }
 
-    drop_left : (d : ℕ) → b.first_word ≤ start_word p.capacity d → start_word p.capacity d < b.first_word + b.words → IsDropped (record p { blocks = h }) d
+    drop_left : (d : ℕ) → b.first_word ≤ start_word p.capacity d → start_word p.capacity d < b.first_word + b.words
+        → IsDropped (record p { blocks = h }) d
     drop_left d from until = by_place (large_places p.capacity d (image_of p) (held_in p) run.shape b run.is holds whole_words from until) where
       by_place : (d < p.capacity) × (run.shape.place d ≡ in_large) → IsDropped (record p { blocks = h }) d
       by_place place =
-          let is : IsTakenByLarge (image_of p) d = subst (λ at. IsAs p.capacity (image_of p) run.shape (held_in p) d at) place.1 (run.is.places d place.0) in
+          let is : IsTakenByLarge (image_of p) d = subst (λ at. IsAs p.capacity (image_of p) run.shape (held_in p) d at) place.1
+          (run.is.places d place.0) in
           record {
             within = place.0;
             taken = is.taken;
@@ -188,7 +203,8 @@ module _ (p : Parts) (b : Block) (run : IsRunning p) (holds : Contains (held_in 
             unlisted = λ ds leads in_ds.
                 let one = one_following (λ k. image_of p (link_word k)) p.capacity (head_first (image_of p (head_word 0))) ds (run.shape.listed 0) leads
                 (run.is.follows 0 (omega arith)) in
-                let there = member_place p.capacity (image_of p) (held_in p) run.shape run.is 0 d (omega arith) (subst (λ xs. Contains xs d) one in_ds) in
+                let there = member_place p.capacity (image_of p) (held_in p) run.shape run.is 0 d (omega arith)
+                (subst (λ xs. Contains xs d) one in_ds) in
                 list_not_large (sym there.0 ∙ place.1);
           }
 
@@ -211,7 +227,8 @@ module _ (p : Parts) (b : Block) (run : IsRunning p) (holds : Contains (held_in 
           running = drop_running;
           left = λ e from until. drop_left e (omega arith) (omega arith);
           used = refl;
-          uses = λ e before. elim before as (λ _. IsUsed (record p { blocks = h }) e) [ inl none ↦ absurd (omega (arith, none.0, none.1)) | inr same ↦ same ];
+          uses = λ e before. elim before as (λ _. IsUsed (record p { blocks = h }) e)
+              [ inl none ↦ absurd (omega (arith, none.0, none.1)) | inr same ↦ same ];
           listed = λ e from until. absurd (omega arith);
           only = λ e there. inl there;
           free = λ e there. there;
@@ -265,7 +282,8 @@ module _ (p : Parts) (b : Block) (run : IsRunning p) (holds : Contains (held_in 
           let size = whole.size in
           let one : first ≡ whole.first = omega arith in
           let count : b.words / 8192 ≡ whole.count = omega arith in
-          elim (use_without p.capacity e (image_of p) (held_in p) (held_of h) b (freed_takes p (record p { blocks = h }) b h holds takes refl) (before.each e (omega arith))) as (λ _. IsUsed q e) [
+          elim (use_without p.capacity e (image_of p) (held_in p) (held_of h) b (freed_takes p (record p { blocks = h }) b h holds takes refl)
+          (before.each e (omega arith))) as (λ _. IsUsed q e) [
             | inl still ↦ freed.uses e (inr still)
             | inr part ↦ let begins = part.begins in let ends = part.ends in freed.uses e (inl (omega arith, omega arith))
           ]

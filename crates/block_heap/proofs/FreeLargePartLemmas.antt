@@ -36,7 +36,8 @@ use Rattle.block_heap.proofs.StableLemmas.{as_allocator_of}
 use Rattle.block_heap.proofs.PushLemmas.{pushed_is, pushed_pops, words_inside}
 
 -- parts with other words leave the held blocks, where each word stored to is an allocator's
-pub leaves_held_words : (held : List Block) (p : Parts) (to : ℕ → Type 0) (w : View) → ((word : ℕ) → to word → IsAllocatorWord p.capacity held word) → (to used_word → ⊥)
+pub leaves_held_words : (held : List Block) (p : Parts) (to : ℕ → Type 0) (w : View)
+    → ((word : ℕ) → to word → IsAllocatorWord p.capacity held word) → (to used_word → ⊥)
     → StoresOnly to p.words w → durable_at p.words used_word ≡ volatile_at p.words used_word → LeavesHeld held p (record p { words = w })
 leaves_held_words held p to w are not_used stores settled = record {
   capacity = refl;
@@ -100,7 +101,8 @@ module _ (p : Parts) (d anchor : ℕ) (u w : View) (run : IsRunning p) (dropped 
   anchor_stores = stores_more (λ word. word ≡ anchor) (IsSplitWord d) p.words u (λ word e. inl (e ∙ at)) store
 
   pub anchor_leaves_held : LeavesHeld (held_in p) p (record p { words = u })
-  anchor_leaves_held = leaves_held_words (held_in p) p (IsSplitWord d) u (split_words p.capacity d (held_in p) within) (split_not_used d) anchor_stores run.settled.used
+  anchor_leaves_held = leaves_held_words (held_in p) p (IsSplitWord d) u (split_words p.capacity d (held_in p) within)
+      (split_not_used d) anchor_stores run.settled.used
 
   -- after both
   module _ (push : StoresOnly (IsPushWord 0 d) u w) where
@@ -108,7 +110,8 @@ module _ (p : Parts) (d anchor : ℕ) (u w : View) (run : IsRunning p) (dropped 
     split_stores = stores_then (IsSplitWord d) p.words u w anchor_stores (stores_more (IsPushWord 0 d) (IsSplitWord d) u w (λ word e. inr e) push)
 
     pub split_leaves_held : LeavesHeld (held_in p) p (record p { words = w })
-    split_leaves_held = leaves_held_words (held_in p) p (IsSplitWord d) w (split_words p.capacity d (held_in p) within) (split_not_used d) split_stores run.settled.used
+    split_leaves_held = leaves_held_words (held_in p) p (IsSplitWord d) w (split_words p.capacity d (held_in p) within)
+        (split_not_used d) split_stores run.settled.used
 
     -- where both were done
     module _ (stored : IsStored anchor 0 p.words u) (pushed : IsPushed 0 d u w) where
@@ -116,7 +119,8 @@ module _ (p : Parts) (d anchor : ℕ) (u w : View) (run : IsRunning p) (dropped 
       inside = words_inside p.capacity d 0 p.words run.words_open within (omega arith)
 
       anchor_set : IsSet (image_of p) (volatile_at u) (anchor_word d) 0
-      anchor_set = set_is p.words.volatile u.volatile (anchor_word d) 0 (omega (arith, inside.1)) (stored.volatile ∙ ap (λ a. set p.words.volatile a 0) at)
+      anchor_set = set_is p.words.volatile u.volatile (anchor_word d) 0 (omega (arith, inside.1)) (stored.volatile
+          ∙ ap (λ a. set p.words.volatile a 0) at)
 
       long : word_count u ≡ word_count p.words
       long = store.words
@@ -125,7 +129,8 @@ module _ (p : Parts) (d anchor : ℕ) (u w : View) (run : IsRunning p) (dropped 
       on_list = pushed_is 0 d u w (omega arith) (let k = long in omega (arith, inside.0)) (let k = long in omega (arith, inside.2)) pushed
 
       is_shape : IsShape p.capacity (volatile_at w) (held_in p) (after_split s d)
-      is_shape = split_one p.capacity d (image_of p) (volatile_at u) (volatile_at w) (held_in p) s run.is within (dropped_place p d run dropped) dropped.none anchor_set on_list
+      is_shape = split_one p.capacity d (image_of p) (volatile_at u) (volatile_at w) (held_in p) s run.is within
+          (dropped_place p d run dropped) dropped.none anchor_set on_list
 
       info_same : (e : ℕ) → volatile_at w (info_word e) ≡ volatile_at p.words (info_word e)
       info_same e = split_stores.volatile (info_word e) (split_not_info d e)
@@ -133,7 +138,8 @@ module _ (p : Parts) (d anchor : ℕ) (u w : View) (run : IsRunning p) (dropped 
       used_same : volatile_at w used_word ≡ volatile_at p.words used_word
       used_same = split_stores.volatile used_word (split_not_used d)
 
-      sizes_at : (e : ℕ) → e < p.capacity → IsClass (volatile_at w (info_word e)) → ((after_split s d).place e ≡ in_list (volatile_at w (info_word e))) ⊎ ((after_split s d).place e ≡ is_full)
+      sizes_at : (e : ℕ) → e < p.capacity → IsClass (volatile_at w (info_word e))
+          → ((after_split s d).place e ≡ in_list (volatile_at w (info_word e))) ⊎ ((after_split s d).place e ≡ is_full)
           → get_or p.blocks.words.items e 0 ≡ words_of_class (volatile_at w (info_word e))
       sizes_at e below is place = elim (cases_eq e d) as (λ _. get_or p.blocks.words.items e 0 ≡ words_of_class (volatile_at w (info_word e))) [
         | inl one ↦ absurd (dropped.no_class (subst (λ k. IsClass (volatile_at p.words (info_word k))) one (subst IsClass (info_same e) is)))
@@ -153,7 +159,8 @@ module _ (p : Parts) (d anchor : ℕ) (u w : View) (run : IsRunning p) (dropped 
           let k = long in
           let first : head_pops (volatile_at u (head_word list)) ≡ head_pops (image_of p (head_word list)) =
           ap head_pops (anchor_set.others (head_word list) (λ e. omega arith)) in
-          let second = pushed_pops 0 d u w (omega arith) (omega (arith, inside.0)) (omega (arith, inside.2)) (omega (arith, largest_capacity_fits)) pushed list less in
+          let second = pushed_pops 0 d u w (omega arith) (omega (arith, inside.0)) (omega (arith, inside.2))
+          (omega (arith, largest_capacity_fits)) pushed list less in
           let before = run.pops list less in
           let drawn = split_stores.drawn in
           omega arith
@@ -209,8 +216,10 @@ module _ (p : Parts) (d anchor : ℕ) (u w : View) (run : IsRunning p) (dropped 
         no_class = λ class. is.no_class (subst IsClass (info_same e) class);
         none = is.none;
         unlisted = λ ds leads in_ds.
-            let one : d ∷ s.listed 0 ≡ ds = one_following (λ k. volatile_at w (link_word k)) p.capacity (head_first (volatile_at w (head_word 0))) (d ∷ s.listed 0) ds
-            (subst (λ ls. Follows (λ k. volatile_at w (link_word k)) p.capacity (head_first (volatile_at w (head_word 0))) ls) (with_at_same s.listed 0 (d ∷ s.listed 0)) (is_shape.follows 0 (omega arith))) leads in
+            let one : d ∷ s.listed 0 ≡ ds = one_following (λ k. volatile_at w (link_word k)) p.capacity
+            (head_first (volatile_at w (head_word 0))) (d ∷ s.listed 0) ds
+            (subst (λ ls. Follows (λ k. volatile_at w (link_word k)) p.capacity (head_first (volatile_at w (head_word 0))) ls)
+            (with_at_same s.listed 0 (d ∷ s.listed 0)) (is_shape.follows 0 (omega arith))) leads in
             elim (head_or_rest d e (s.listed 0) (subst (λ ls. Contains ls e) (sym one) in_ds)) as (λ _. ⊥) [
               | inl same ↦ other (sym same)
               | inr later ↦ is.unlisted (s.listed 0) (run.is.follows 0 (omega arith)) later

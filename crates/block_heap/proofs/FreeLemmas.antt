@@ -36,7 +36,8 @@ use Rattle.block_heap.proofs.SmallLemmas.{changed, KeepsFixed, keeps_fixed, runn
 use Rattle.block_heap.specs.Draws.{most_free_draws}
 
 -- a superblock of a class with a held block stands in the list of its class, or is full
-place_known : (capacity : ℕ) (image : Image) (s : Shape) (held : List Block) (d : ℕ) (place : Place) → IsClass (image (info_word d)) → d < image used_word
+place_known : (capacity : ℕ) (image : Image) (s : Shape) (held : List Block) (d : ℕ) (place : Place) → IsClass (image (info_word d))
+    → d < image used_word
     → (HasNoHeld capacity held d → ⊥)
     → IsAs capacity image s held d place → (place ≡ in_list (image (info_word d))) ⊎ (place ≡ is_full)
 place_known capacity image s held d (in_list zero) is taken some free = absurd (some free.none)
@@ -206,7 +207,8 @@ module _ (p : Parts) (class : ℕ) (is : IsClass class) (run : IsRunning p) (b :
         each = λ c is_c other. elim (cases_eq c class) as (λ _. (cache_at (set p.caches class freed_cache) c).count < blocks_of c) [
           | inl same ↦ subst (λ k. (cache_at (set p.caches class freed_cache) k).count < blocks_of k) (sym same)
               (let e = freed_count in let few = count_short in omega arith)
-          | inr differs ↦ subst (λ (x : Cache). x.count < blocks_of c) (sym (other_cache p.caches class freed_cache c differs)) (short.each c is_c other)
+          | inr differs ↦ subst (λ (x : Cache). x.count < blocks_of c) (sym (other_cache p.caches class freed_cache c differs))
+              (short.each c is_c other)
         ];
       }
 

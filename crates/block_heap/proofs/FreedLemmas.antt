@@ -21,10 +21,12 @@ use Rattle.block_heap.proofs.BlockRunLemmas.{cached_along}
 use Rattle.heap_at_rest.proofs.ListLemmas.{one_walk}
 use Rattle.block_heap.proofs.SmallLemmas.{other_cache}
 
-module _ (p : Parts) (class : ℕ) (is : IsClass class) (run : IsRunning p) (b : Block) (holds : Contains (held_in p) b) (size : b.words ≡ words_of_class class)
+module _ (p : Parts) (class : ℕ) (is : IsClass class) (run : IsRunning p) (b : Block) (holds : Contains (held_in p) b)
+    (size : b.words ≡ words_of_class class)
     (h : HeldBlocks) (takes : TakesFrom (at_mark p.blocks b.first_word) (held_in p) (held_of h)) (words : h.words.items ≡ p.blocks.words.items)
     (start : h.start ≡ p.blocks.start) (cache : Cache) (cache_is : cache ≡ cache_at p.caches class) (w : View)
-    (stored : IsStored b.first_word cache.first p.words w) (stores : StoresOnly (λ word. word ≡ b.first_word) p.words w) (short : CachesAreShort p 0) where
+    (stored : IsStored b.first_word cache.first p.words w) (stores : StoresOnly (λ word. word ≡ b.first_word) p.words w)
+    (short : CachesAreShort p 0) where
   abbrev q : Parts
   q = freed_parts p class is run b holds size h takes words start cache cache_is w stored stores short
 
@@ -53,7 +55,8 @@ module _ (p : Parts) (class : ℕ) (is : IsClass class) (run : IsRunning p) (b :
       let shape = freed_shape p class is run b holds size h takes words start cache cache_is w stored stores short in
       let walks : Walks (λ word. volatile_at w word) b.first_word (b.first_word ∷ run.shape.cached class) =
       subst (λ xs. Walks (λ word. volatile_at w word) b.first_word xs) (with_at_same run.shape.cached class (b.first_word ∷ run.shape.cached class))
-      (subst (λ x. Walks (λ word. volatile_at w word) x (with_at run.shape.cached class (b.first_word ∷ run.shape.cached class) class)) (with_at_same run.shape.start class b.first_word) (shape.walks class is)) in
+      (subst (λ x. Walks (λ word. volatile_at w word) x (with_at run.shape.cached class (b.first_word ∷ run.shape.cached class) class))
+      (with_at_same run.shape.start class b.first_word) (shape.walks class is)) in
       let first : (cache_at q.caches class).first ≡ b.first_word = ap (λ (x : Cache). x.first) now in
       let count : (cache_at q.caches class).count ≡ cache.count + 1 = ap (λ (x : Cache). x.count) now in
       let before : (cache_at p.caches class).count ≡ length (run.shape.cached class) = (run.caches class is).count in

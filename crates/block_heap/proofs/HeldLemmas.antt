@@ -50,7 +50,8 @@ module _ (f : ℕ → Block) (marks : List Bool) (m : ℕ) (within : m < length 
               | inl e ↦ subst (λ (k : ℕ). IsMarked (set marks m true) k) (sym e) (get_or-set_same marks m true false within)
               | inr ne ↦ get_or-set_other marks m found.0 true false ne ∙ marked
             ] in
-            subst (λ (b : Block). Contains (map f (marked_words (set marks m true))) b) found.2 (has_map f (marked_words (set marks m true)) found.0 (marked_words-has (set marks m true) found.0 still));
+            subst (λ (b : Block). Contains (map f (marked_words (set marks m true))) b) found.2
+            (has_map f (marked_words (set marks m true)) found.0 (marked_words-has (set marks m true) found.0 still));
         only = λ a p.
             let found = only_map f (marked_words (set marks m true)) a p in
             let marked : IsMarked (set marks m true) found.0 = marked_words-only (set marks m true) found.0 found.1 in
@@ -58,7 +59,8 @@ module _ (f : ℕ → Block) (marks : List Bool) (m : ℕ) (within : m < length 
               | inl e ↦ inl (sym found.2 ∙ ap f e)
               | inr ne ↦
                   let before : IsMarked marks found.0 = sym (get_or-set_other marks m found.0 true false ne) ∙ marked in
-                  inr (subst (λ (b : Block). Contains (map f (marked_words marks)) b) found.2 (has_map f (marked_words marks) found.0 (marked_words-has marks found.0 before)))
+                  inr (subst (λ (b : Block). Contains (map f (marked_words marks)) b) found.2
+                  (has_map f (marked_words marks) found.0 (marked_words-has marks found.0 before)))
             ];
       }
 
@@ -78,7 +80,8 @@ module _ (f : ℕ → Block) (marks : List Bool) (m : ℕ) (within : m < length 
             let marked : IsMarked marks found.0 = marked_words-only marks found.0 found.1 in
             let other : found.0 ≢ m = λ e. differs (sym found.2 ∙ ap f e) in
             let still : IsMarked (set marks m false) found.0 = get_or-set_other marks m found.0 false false other ∙ marked in
-            subst (λ (b : Block). Contains (map f (marked_words (set marks m false))) b) found.2 (has_map f (marked_words (set marks m false)) found.0 (marked_words-has (set marks m false) found.0 still));
+            subst (λ (b : Block). Contains (map f (marked_words (set marks m false))) b) found.2
+            (has_map f (marked_words (set marks m false)) found.0 (marked_words-has (set marks m false) found.0 still));
         only = λ a p.
             let found = only_map f (marked_words (set marks m false)) a p in
             let marked : IsMarked (set marks m false) found.0 = marked_words-only (set marks m false) found.0 found.1 in
@@ -87,7 +90,8 @@ module _ (f : ℕ → Block) (marks : List Bool) (m : ℕ) (within : m < length 
             let clear : get_or (set marks m false) m false ≡ false = get_or-set_same marks m false false within in
             cc in
             let before : IsMarked marks found.0 = sym (get_or-set_other marks m found.0 false false other) ∙ marked in
-            subst (λ (b : Block). Contains (map f (marked_words marks)) b) found.2 (has_map f (marked_words marks) found.0 (marked_words-has marks found.0 before));
+            subst (λ (b : Block). Contains (map f (marked_words marks)) b) found.2
+            (has_map f (marked_words marks) found.0 (marked_words-has marks found.0 before));
       }
 
 -- the block of a mark, told by its first word
@@ -95,7 +99,8 @@ pub mark_block : (start : ℕ) (words : List ℕ) (m word : ℕ) → start + 2 *
     → block_of_mark start words m ≡ record { first_word = word; words = get_or words ((word - start) / 8192) 0 }
 mark_block start words m word at =
     let e : m / 4096 ≡ (word - start) / 8192 = omega arith in
-    same_fields (block_of_mark start words m) (record { first_word = word; words = get_or words ((word - start) / 8192) 0 }) at (ap (λ (k : ℕ). get_or words k 0) e)
+    same_fields (block_of_mark start words m) (record { first_word = word; words = get_or words ((word - start) / 8192) 0 }) at
+    (ap (λ (k : ℕ). get_or words k 0) e)
 
 -- two marks have two blocks
 pub one_mark : (start : ℕ) (words : List ℕ) (i j : ℕ) → block_of_mark start words i ≡ block_of_mark start words j → i ≡ j

@@ -42,7 +42,8 @@ module _ (s : SeqState) where
   module _ (volatile durable : List ℕ) (seen : volatile ≡ s.parts.words.volatile) (left : durable ≡ s.parts.words.durable) where
     pub finished_names : NamesAreDurable (slice_index volatile) (slice_index durable) (Contains (held_in s.parts))
     finished_names = subst (λ (xs : List ℕ). NamesAreDurable (slice_index xs) (slice_index durable) (Contains (held_in s.parts))) (sym seen)
-        (subst (λ (xs : List ℕ). NamesAreDurable (slice_index s.parts.words.volatile) (slice_index xs) (Contains (held_in s.parts))) (sym left) names_last)
+        (subst (λ (xs : List ℕ). NamesAreDurable (slice_index s.parts.words.volatile) (slice_index xs) (Contains (held_in s.parts)))
+        (sym left) names_last)
 
     pub finished_crash : (image : Image) → IsCrashImage (slice_index durable) image → MayLeave s image
     finished_crash image crash = crash_left image (subst (λ (xs : List ℕ). IsCrashImage (slice_index xs) image) left crash)

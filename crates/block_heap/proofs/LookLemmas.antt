@@ -19,8 +19,10 @@ looks_kept p q same = record { used = inl (ap (λ x. x.0) same); heads = λ list
 pub looks_then : (p u q : Parts) → p.words.drawn ≤ u.words.drawn → u.words.drawn ≤ q.words.drawn → p.taken ≤ u.taken → u.taken ≤ q.taken
     → MakesLooks p u → MakesLooks u q → MakesLooks p q
 looks_then p u q first then less more a b = record {
-  used = look_then p.words.drawn u.words.drawn q.words.drawn p.taken u.taken q.taken p.used_look u.used_look q.used_look first then less more a.used b.used;
-  heads = λ list. look_then p.words.drawn u.words.drawn q.words.drawn p.taken u.taken q.taken (head_look p.head_looks list) (head_look u.head_looks list)
+  used = look_then p.words.drawn u.words.drawn q.words.drawn p.taken u.taken q.taken p.used_look u.used_look q.used_look first then less more
+      a.used b.used;
+  heads = λ list. look_then p.words.drawn u.words.drawn q.words.drawn p.taken u.taken q.taken (head_look p.head_looks list)
+      (head_look u.head_looks list)
       (head_look q.head_looks list) first then less more (a.heads list) (b.heads list);
 }
 
@@ -41,12 +43,14 @@ look_made p q look next drew more = record {
 }
 
 -- it was at a head, or at `used`
-pub looked_at_head : (p q : Parts) (at : ℕ) (look : Look) → at < length p.head_looks → IsNextLook p look → p.words.drawn < q.words.drawn → p.taken ≤ q.taken
+pub looked_at_head : (p q : Parts) (at : ℕ) (look : Look) → at < length p.head_looks → IsNextLook p look → p.words.drawn < q.words.drawn
+    → p.taken ≤ q.taken
     → q.used_look ≡ p.used_look → q.head_looks ≡ set p.head_looks at look → MakesLooks p q
 looked_at_head p q at look below next drew more used heads = record {
   used = inl used;
   heads = λ list. elim (cases_eq list at)
-      as (λ _. (head_look q.head_looks list ≡ head_look p.head_looks list) ⊎ IsMade p.words.drawn q.words.drawn p.taken q.taken (head_look q.head_looks list)) [
+      as (λ _. (head_look q.head_looks list ≡ head_look p.head_looks list) ⊎ IsMade p.words.drawn q.words.drawn p.taken q.taken
+      (head_look q.head_looks list)) [
         | inl same ↦
             let here : head_look q.head_looks list ≡ look =
             ap (λ looks. head_look looks list) heads ∙ subst (λ k. head_look (set p.head_looks at look) k ≡ look) (sym same)

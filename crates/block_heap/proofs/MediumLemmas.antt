@@ -110,10 +110,12 @@ same_runs_within r v w running allowed same =
     let budget : w.budget ≡ v.budget = same.budget in
     record { running = same.stopped ∙ running; drew = omega arith; few = omega arith; below = omega arith }
 
-pub load_is : (gives : ℕ → Type 0) (word value : ℕ) (v w : View) → TakesBy gives (IsLoad word value) v w → IsLoaded word value v w × StoresOnly (λ _. ⊥) v w
+pub load_is : (gives : ℕ → Type 0) (word value : ℕ) (v w : View) → TakesBy gives (IsLoad word value) v w → IsLoaded word value v w
+    × StoresOnly (λ _. ⊥) v w
 load_is gives word value v w takes =
     let done = takes.done in
-    let same : SameTickets (after_draw takes.number v) w = subst (λ (x : View). SameTickets (after_draw takes.number v) x) (sym done.unchanged) (record { drawn = refl; budget = refl; stopped = refl }) in (
+    let same : SameTickets (after_draw takes.number v) w = subst (λ (x : View). SameTickets (after_draw takes.number v) x) (sym done.unchanged)
+    (record { drawn = refl; budget = refl; stopped = refl }) in (
       record {
         runs_within = same_runs_within takes.number v w takes.running takes.allowed same;
         seen = done.seen;
@@ -123,7 +125,8 @@ load_is gives word value v w takes =
       draw_stores takes.number v w done.unchanged,
     )
 
-pub store_is : (gives : ℕ → Type 0) (word value : ℕ) (v w : View) → TakesBy gives (IsStore word value) v w → IsStored word value v w × StoresOnly (λ other. other ≡ word) v w
+pub store_is : (gives : ℕ → Type 0) (word value : ℕ) (v w : View) → TakesBy gives (IsStore word value) v w → IsStored word value v w
+    × StoresOnly (λ other. other ≡ word) v w
 store_is gives word value v w takes =
     let done = takes.done in
     let drawn = draw_stores takes.number v (after_draw takes.number v) refl in
@@ -145,7 +148,8 @@ store_is gives word value v w takes =
       },
     )
 
-pub write_back_is : (gives : ℕ → Type 0) (line word : ℕ) (v w : View) → IsSound v → line ≡ line_of word → TakesBy gives (IsWriteBack line) v w → IsWritten word v w × StoresOnly (λ _. ⊥) v w
+pub write_back_is : (gives : ℕ → Type 0) (line word : ℕ) (v w : View) → IsSound v → line ≡ line_of word → TakesBy gives (IsWriteBack line) v w
+    → IsWritten word v w × StoresOnly (λ _. ⊥) v w
 write_back_is gives line word v w sound at takes =
     let done = takes.done in
     let drawn = draw_stores takes.number v (after_draw takes.number v) refl in
@@ -228,7 +232,9 @@ may_then word value v u w may none =
       left =
           elim (none.durable word (λ f. f)) as (λ _. (durable_at w word ≡ value) ⊎ IsValueOf v word (durable_at w word)) [
             | inl e ↦ subst (λ x. (x ≡ value) ⊎ IsValueOf v word x) (sym e) may.left
-            | inr e ↦ subst (λ x. (x ≡ value) ⊎ IsValueOf v word x) (sym e) (elim may.seen as (λ _. (volatile_at u word ≡ value) ⊎ IsValueOf v word (volatile_at u word)) [ inl new ↦ inl new | inr old ↦ inr (inr old) ])
+            | inr e ↦ subst (λ x. (x ≡ value) ⊎ IsValueOf v word x) (sym e)
+                (elim may.seen as (λ _. (volatile_at u word ≡ value) ⊎ IsValueOf v word (volatile_at u word))
+                [ inl new ↦ inl new | inr old ↦ inr (inr old) ])
           ];
     }
 

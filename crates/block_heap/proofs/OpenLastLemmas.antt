@@ -11,7 +11,8 @@ use Rattle.block_heap.specs.AllocatorWords.{IsLasting}
 use Rattle.block_heap.specs.SeqState.{IsSeqHeap}
 use Rattle.block_heap.proofs.RunningLemmas.{running_stable}
 
-pub opened_lasts : (words : List ℕ) (held : List Block) (budget : ℕ) (p : Parts) → 1 ≤ p.capacity → p.capacity ≤ largest_capacity → Opens words held budget p → IsLasting p.capacity p.words (held_in p) None
+pub opened_lasts : (words : List ℕ) (held : List Block) (budget : ℕ) (p : Parts) → 1 ≤ p.capacity → p.capacity ≤ largest_capacity
+    → Opens words held budget p → IsLasting p.capacity p.words (held_in p) None
 opened_lasts words held budget p some small opens = record {
   some = some;
   small = small;
@@ -28,11 +29,28 @@ opened_lasts words held budget p some small opens = record {
   stopping = λ ticket at. absurd (cc);
 }
 
-pub opened_heap : (words : List ℕ) (held : List Block) (budget : ℕ) (p : Parts) (looks : Looks) (l : ∥ IsLasting p.capacity p.words (held_in p) None ∥₁) → 1 ≤ p.capacity → p.capacity ≤ largest_capacity → Opens words held budget p
-    → IsSeqHeap (record { parts = p; stopped = None; small_calls = 0; large_calls = 0; refusals = 0; refused_bytes = 0; refused_looks = looks; lasts = l })
+pub opened_heap : (words : List ℕ) (held : List Block) (budget : ℕ) (p : Parts) (looks : Looks)
+    (l : ∥ IsLasting p.capacity p.words (held_in p) None ∥₁) → 1 ≤ p.capacity → p.capacity ≤ largest_capacity → Opens words held budget p
+    → IsSeqHeap (record {
+      parts = p;
+      stopped = None;
+      small_calls = 0;
+      large_calls = 0;
+      refusals = 0;
+      refused_bytes = 0;
+      refused_looks = looks;
+      lasts = l;
+    })
 opened_heap words held budget p looks l some small opens = record {
   lasts = opened_lasts words held budget p some small opens;
-  running = λ runs. (opens.running, record { each = λ class is other. let none = opens.empty class is in let more = four_blocks class is in omega arith }, opens.accounted);
+  running = λ runs. (
+    opens.running,
+    record {
+      each = λ class is other. let none = opens.empty class is in let more = four_blocks class is in
+          omega arith;
+    },
+    opens.accounted,
+  );
   calls = omega arith;
   refused = omega arith;
 }

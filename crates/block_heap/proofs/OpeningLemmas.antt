@@ -135,18 +135,21 @@ pub record HoldsFirst (held : List Block) (count : ℕ) (h : HeldBlocks) : Type 
   pub only : (b : Block) → Contains (held_of h) b → IsOneOf held count b
 
 -- and one more
-pub holds_more : (held : List Block) (count : ℕ) (h new : HeldBlocks) (b : Block) → HoldsFirst held count h → count < length held → get_or held count b ≡ b
+pub holds_more : (held : List Block) (count : ℕ) (h new : HeldBlocks) (b : Block) → HoldsFirst held count h → count < length held
+    → get_or held count b ≡ b
     → AddsTo b (held_of h) (held_of new) → HoldsFirst held (count + 1) new
 holds_more held count h new b holds within at adds = record {
   has = λ a one. elim (cases_eq one.number count) as (λ _. Contains (held_of new) a) [
     | inl last ↦
         let same : b ≡ a = sym at ∙ get_or_default held count b a within ∙ subst (λ k. get_or held k a ≡ a) last one.at in
         subst (λ x. Contains (held_of new) x) same adds.has
-    | inr before ↦ adds.keeps a (holds.has a (let below = one.below in record { number = one.number; below = omega arith; within = one.within; at = one.at }))
+    | inr before ↦ adds.keeps a (holds.has a (let below = one.below in
+        record { number = one.number; below = omega arith; within = one.within; at = one.at }))
   ];
   only = λ a p. elim (adds.only a p) as (λ _. IsOneOf held (count + 1) a) [
     | inl same ↦ record { number = count; below = omega arith; within = within; at = subst (λ x. get_or held count x ≡ x) (sym same) at }
-    | inr old ↦ let one = holds.only a old in let below = one.below in record { number = one.number; below = omega arith; within = one.within; at = one.at }
+    | inr old ↦ let one = holds.only a old in let below = one.below in
+        record { number = one.number; below = omega arith; within = one.within; at = one.at }
   ];
 }
 
@@ -158,7 +161,8 @@ holds_none held h none = record {
 }
 
 -- after the last the blocks are those of the list
-pub all_held : (words : List ℕ) (held : List Block) (h : HeldBlocks) → KnowsFirst words h (capacity_of (slice_index words)) → HoldsFirst held (length held) h
+pub all_held : (words : List ℕ) (held : List Block) (h : HeldBlocks) → KnowsFirst words h (capacity_of (slice_index words))
+    → HoldsFirst held (length held) h
     → IsHeldOf words held h
 all_held words held h knows holds = record {
   start = knows.start;
@@ -185,7 +189,8 @@ module _ (words : List ℕ) (held : List Block) (count : ℕ) (none : Block) (h 
   pub next_marked : HasMark h next.first_word
   next_marked = has_mark words h next ready.formed.small ready.formed.used knows next_is
 
-  pub next_held : (new : HeldBlocks) → HoldsFirst held count h → AddsTo (at_mark h next.first_word) (held_of h) (held_of new) → HoldsFirst held (count + 1) new
+  pub next_held : (new : HeldBlocks) → HoldsFirst held count h → AddsTo (at_mark h next.first_word) (held_of h) (held_of new)
+      → HoldsFirst held (count + 1) new
   next_held new holds adds =
       let finds = mark_finds words h next ready.formed.small ready.formed.used knows next_is in
       holds_more held count h new next holds within next_at (subst (λ b. AddsTo b (held_of h) (held_of new)) finds adds)

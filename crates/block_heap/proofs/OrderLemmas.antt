@@ -39,7 +39,8 @@ pub list_kept : (p q : Parts) (list other : ℕ) (ds es : List ℕ) → LeadsAlo
 list_kept p q list other ds es leads now all d before = in_list_along q other d es now (all d (in_list_has p list d ds before leads))
 
 -- lists stay where loads see the same
-pub leads_same : (p q : Parts) (list : ℕ) (ds : List ℕ) → q.capacity ≡ p.capacity → q.words.volatile ≡ p.words.volatile → LeadsAlong q list ds → LeadsAlong p list ds
+pub leads_same : (p q : Parts) (list : ℕ) (ds : List ℕ) → q.capacity ≡ p.capacity → q.words.volatile ≡ p.words.volatile → LeadsAlong q list ds
+    → LeadsAlong p list ds
 leads_same p q list ds capacity same leads =
     subst (λ n. LeadsAlong (record p { capacity = n }) list ds) capacity
     (subst (λ (xs : List ℕ). LeadsAlong (record q { words = record q.words { volatile = xs } }) list ds) same leads)
@@ -112,7 +113,8 @@ moves_same class p q capacity same = record {
   were = λ ds leads. leads_same p q class ds capacity same leads;
   passed = λ e none. absurd (in_none e none);
   frees = λ fs leads. leads_same q p 0 fs (sym capacity) (sym same) leads;
-  nothing = λ none d listed. ap (λ (xs : List ℕ). anchor_state (get_or xs (anchor_word d) 0)) (sym same) ∙ none d (list_same p q class d capacity same listed);
+  nothing = λ none d listed. ap (λ (xs : List ℕ). anchor_state (get_or xs (anchor_word d) 0)) (sym same)
+      ∙ none d (list_same p q class d capacity same listed);
   free = λ d listed. list_same p q 0 d capacity same listed;
 }
 
@@ -133,11 +135,15 @@ takes_after class d p q r moves taken takes =
       rest = takes.rest;
       partial = ap anchor_state (sym same) ∙ takes.partial;
       cache = takes.cache
-          ∙ ap (λ n. record { first = first_of n class d (anchor_first (image_of q (anchor_word d))); count = anchor_count (image_of q (anchor_word d)) }) moves.capacity
+          ∙ ap (λ n. record {
+            first = first_of n class d (anchor_first (image_of q (anchor_word d)));
+            count = anchor_count (image_of q (anchor_word d));
+          }) moves.capacity
           ∙ ap (λ a. record { first = first_of p.capacity class d (anchor_first a); count = anchor_count a }) same;
       now = takes.now;
       info = takes.info ∙ (moves.all d within).info;
-      words = λ word inside. takes.words word (subst (λ n. IsInSuperblock n d word) (sym moves.capacity) inside) ∙ (moves.all d within).words word inside;
+      words = λ word inside. takes.words word (subst (λ n. IsInSuperblock n d word) (sym moves.capacity) inside)
+          ∙ (moves.all d within).words word inside;
       others = λ e below other. keeps_then e p q r moves.capacity (moves.all e below) (takes.others e (within_then e p q moves.capacity below) other);
       frees = frees_then moves.moved takes.before p q r moves.frees takes.frees;
       free = λ e listed. takes.free e (moves.free e listed);
@@ -165,7 +171,8 @@ module _ (class : ℕ) (p a q : Parts) (moves : MovesEmpty class p a) (nothing :
     behind = first.behind;
     class_leads = subst (λ es. LeadsAlong p class es) (append-nil moves.moved) (moves.were [] empty);
     free_leads = run.is.follows 0 (omega arith);
-    first = one_following (λ e. image_of a (link_word e)) a.capacity (head_first (head_at a 0)) (reverse moves.moved ++ run.shape.listed 0) (d ∷ first.behind)
+    first = one_following (λ e. image_of a (link_word e)) a.capacity (head_first (head_at a 0)) (reverse moves.moved ++ run.shape.listed 0)
+        (d ∷ first.behind)
         (moves.frees (run.shape.listed 0) (run.is.follows 0 (omega arith))) first.was;
     empty = ap head_first first.class_head ∙ empty;
     rest = first.rest;
@@ -176,7 +183,8 @@ pub takes_first : (class : ℕ) (b : Block) (p q : Parts) → q.capacity ≡ p.c
 takes_first class b p q capacity pops_block = record {
   capacity = capacity;
   held = subst (λ x. AddsTo x (held_in p) (held_in q))
-      (same_fields b (record { first_word = (cache_at p.caches class).first; words = words_of_class class }) pops_block.at pops_block.size) pops_block.adds;
+      (same_fields b (record { first_word = (cache_at p.caches class).first; words = words_of_class class }) pops_block.at pops_block.size)
+      pops_block.adds;
   next = pops_block.next ∙ ap (λ x. image_of p x) pops_block.at;
   count = pops_block.count;
   caches = pops_block.caches;

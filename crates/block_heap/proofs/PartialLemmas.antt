@@ -26,7 +26,13 @@ use Rattle.block_heap.proofs.RefillLemmas.{leaves_held_same, drains_none, drains
 
 -- nothing done yet, and two rows of steps
 pub refilling_none : (class : ℕ) (p : Parts) → IsRunning p → IsRefilling class p p
-refilling_none class p run = record { running = run; held = refl; caches = λ c is other. refl; heads = λ c is other. refl; drains = drains_none p.capacity class (held_in p) (image_of p) }
+refilling_none class p run = record {
+  running = run;
+  held = refl;
+  caches = λ c is other. refl;
+  heads = λ c is other. refl;
+  drains = drains_none p.capacity class (held_in p) (image_of p);
+}
 
 pub refilling_then : (class : ℕ) (p u q : Parts) → u.capacity ≡ p.capacity → IsRefilling class p u → IsRefilling class u q → IsRefilling class p q
 refilling_then class p u q capacity a b = record {
@@ -88,7 +94,8 @@ walk_begins class p is run empty = record {
 }
 
 -- one more look at the first of the list
-module _ (class : ℕ) (p q r : Parts) (is : IsClass class) (walked : Walked class p q) (leaves_held : LeavesHeld (held_in q) q r) (held : held_in r ≡ held_in q)
+module _ (class : ℕ) (p q r : Parts) (is : IsClass class) (walked : Walked class p q) (leaves_held : LeavesHeld (held_in q) q r)
+    (held : held_in r ≡ held_in q)
     (taken : r.taken ≡ q.taken) where
   begun : p.words.drawn ≤ q.words.drawn
   begun = walked.leaves_held.as_allocator.stores.drawn
@@ -112,7 +119,14 @@ module _ (class : ℕ) (p q r : Parts) (is : IsClass class) (walked : Walked cla
       let few = stops_within.few in
       let first = begun in
       let most = so_far in
-      record { stopped = stops_within.stopped; above = stops_within.above; from = omega arith; until = stops_within.until; last = stops_within.last; few = omega arith }
+      record {
+        stopped = stops_within.stopped;
+        above = stops_within.above;
+        from = omega arith;
+        until = stops_within.until;
+        last = stops_within.last;
+        few = omega arith;
+      }
 
   pub walk_held : held_in r ≡ held_in p
   walk_held = held ∙ walked.refilling.held

@@ -46,7 +46,8 @@ pub record HasLoaded (most : ℕ) (p q : Parts) : Type 0 where
 -- loads leave a heap right, and its held blocks too
 module _ (p q : Parts) (most : ℕ) (run : IsRunning p) (loaded : HasLoaded most p q) where
   loaded_running : IsRunning (record p { words = q.words })
-  loaded_running = running_words p q.words (λ _. ⊥) run loaded.runs_within.running loaded.volatile loaded.stores (λ d within out. out) (λ out. out) loaded.runs_within.below
+  loaded_running = running_words p q.words (λ _. ⊥) run loaded.runs_within.running loaded.volatile loaded.stores (λ d within out. out)
+      (λ out. out) loaded.runs_within.below
 
   pub loaded_run : IsRunning q
   loaded_run = subst (λ x. IsRunning x) (sym loaded.same) loaded_running
@@ -91,7 +92,8 @@ pub loaded_capacity : (p q : Parts) (most : ℕ) → HasLoaded most p q → q.ca
 loaded_capacity p q most loaded = ap (λ (x : Parts). x.capacity) loaded.same
 
 -- one more load
-pub loaded_more : (p q r : Parts) (most : ℕ) (word value : ℕ) → HasLoaded most p q → r ≡ record q { words = r.words } → IsLoaded word value q.words r.words
+pub loaded_more : (p q r : Parts) (most : ℕ) (word value : ℕ) → HasLoaded most p q → r ≡ record q { words = r.words }
+    → IsLoaded word value q.words r.words
     → StoresOnly (λ _. ⊥) q.words r.words
     → HasLoaded (most + 1) p r
 loaded_more p q r most word value before same loaded stores = record {
@@ -166,7 +168,8 @@ module _ (p : Parts) (class : ℕ) (is : IsClass class) (run : IsRunning p) (cac
         (subst (λ xs. Walks (image_of p) (run.shape.start class) xs) split.1 all) in
         let has : Contains split.0 next = subst (λ x. Contains split.0 x) (sym walked.next_is)
         (walk_begin (image_of p) (image_of p last) split.0 behind (omega arith)) in
-        let cached : Contains (run.shape.cached class) next = subst (λ xs. Contains xs next) (sym split.1) (Contains-append_right blocks split.0 next has) in
+        let cached : Contains (run.shape.cached class) next = subst (λ xs. Contains xs next) (sym split.1)
+        (Contains-append_right blocks split.0 next has) in
         let found = run.is.cached class next is cached in
         record { d = found.superblock; within = found.within; first = found.is_first }
 
@@ -262,12 +265,15 @@ keeps_then class p q r a b = record {
 }
 
 pub flushed_leaves_held : (class : ℕ) (p q r : Parts) → IsFlushed class p q → LeavesHeld (held_in q) q r → LeavesHeld (held_in p) p r
-flushed_leaves_held class p q r before leaves_held = leaves_held_then p q r (held_in p) before.leaves_held (subst (λ held. LeavesHeld held q r) before.held leaves_held)
+flushed_leaves_held class p q r before leaves_held = leaves_held_then p q r (held_in p) before.leaves_held
+    (subst (λ held. LeavesHeld held q r) before.held leaves_held)
 
 -- a prefix was found
-module _ (class : ℕ) (p q r : Parts) (prefix : CachePrefix) (before : IsFlushed class p q) (is_prefix : IsCachePrefix class prefix r) (run : IsRunning r)
+module _ (class : ℕ) (p q r : Parts) (prefix : CachePrefix) (before : IsFlushed class p q) (is_prefix : IsCachePrefix class prefix r)
+    (run : IsRunning r)
     (keeps : KeepsAll class q r) (caches : r.caches ≡ q.caches)
-    (runs_within : RunsWithin prefix.batch.count q.words r.words) (held : held_in r ≡ held_in q) (leaves_held : LeavesHeld (held_in q) q r) (taken : r.taken ≡ q.taken) where
+    (runs_within : RunsWithin prefix.batch.count q.words r.words) (held : held_in r ≡ held_in q) (leaves_held : LeavesHeld (held_in q) q r)
+    (taken : r.taken ≡ q.taken) where
   some_given : 1 ≤ prefix.batch.count
   some_given = let count = is_prefix.count in let both = length-append is_prefix.before (prefix.batch.last ∷ []) in omega arith
 
@@ -289,9 +295,11 @@ module _ (class : ℕ) (p q r : Parts) (prefix : CachePrefix) (before : IsFlushe
   prefix_leaves_held = flushed_leaves_held class p q r before leaves_held
 
   -- and given back
-  module _ (t : Parts) (gave_run : IsRunning t) (gives : GivesBack class prefix r t) (gave : RunsWithin 6 r.words t.words) (gave_held : held_in t ≡ held_in r)
+  module _ (t : Parts) (gave_run : IsRunning t) (gives : GivesBack class prefix r t) (gave : RunsWithin 6 r.words t.words)
+      (gave_held : held_in t ≡ held_in r)
       (gave_serve : LeavesHeld (held_in r) r t) (gave_taken : t.taken ≡ r.taken) (is : IsClass class) (first : IsRunning p)
-      (volatile : r.words.volatile ≡ q.words.volatile) (longest : IsLongest prefix r) (to : GivesTo class prefix r t) (in_front : GivesPrefix class prefix r t) where
+      (volatile : r.words.volatile ≡ q.words.volatile) (longest : IsLongest prefix r) (to : GivesTo class prefix r t)
+      (in_front : GivesPrefix class prefix r t) where
     pub flushed_more : IsFlushed class p t
     flushed_more = record {
       running = gave_run;
@@ -306,7 +314,8 @@ module _ (class : ℕ) (p q r : Parts) (prefix : CachePrefix) (before : IsFlushe
       held = gave_held ∙ prefix_held;
       leaves_held = leaves_held_then p r t (held_in p) prefix_leaves_held (subst (λ h. LeavesHeld h r t) prefix_held gave_serve);
       taken = gave_taken ∙ taken ∙ before.taken;
-      order = flushes_more class p q r t is (first.caches class is).most before.order leaves_held.capacity volatile (ap (λ (xs : List Cache). cache_at xs class) caches)
+      order = flushes_more class p q r t is (first.caches class is).most before.order leaves_held.capacity volatile
+          (ap (λ (xs : List Cache). cache_at xs class) caches)
           run prefix is_prefix longest some_given to in_front gave_serve.capacity gives.cache;
     }
 
@@ -323,7 +332,8 @@ module _ (class : ℕ) (p q r : Parts) (prefix : CachePrefix) (before : IsFlushe
   give_leaves_held x gave = leaves_held_then p r x (held_in p) prefix_leaves_held (subst (λ h. LeavesHeld h r x) prefix_held gave)
 
   -- how far it went where giving it stopped
-  pub give_stops_within : (w : View) (ticket : ℕ) → IsClass class → IsRunning p → StopsWithin ticket 6 r.words w → StopsWithin ticket most_flush_draws p.words w
+  pub give_stops_within : (w : View) (ticket : ℕ) → IsClass class → IsRunning p → StopsWithin ticket 6 r.words w
+      → StopsWithin ticket most_flush_draws p.words w
   give_stops_within w ticket is first stops_within = record {
     stopped = stops_within.stopped;
     above = stops_within.above;

@@ -23,7 +23,8 @@ pushed_is list d v w less head link pushed =
     }
 
 -- it keeps how often each list was popped
-pub pushed_pops : (list d : ℕ) (v w : View) → list < lists → head_word list < word_count v → link_word d < word_count v → d < 16777215 → IsPushed list d v w
+pub pushed_pops : (list d : ℕ) (v w : View) → list < lists → head_word list < word_count v → link_word d < word_count v → d < 16777215
+    → IsPushed list d v w
     → (other : ℕ) → other < lists → head_pops (volatile_at w (head_word other)) ≡ head_pops (volatile_at v (head_word other))
 pushed_pops list d v w less head link small pushed other below =
     let long = length-set v.volatile (link_word d) (head_first (volatile_at v (head_word list))) in

@@ -71,7 +71,8 @@ moved_word capacity held word (an_anchor d below at) = is_anchor d below at
 moved_word capacity held word (a_link d below at) = is_link d below at
 
 -- a row of steps that doesn't store to `used`; one that stores to such words alone, or none at all; and two rows
-pub leaves_held_of : (p q : Parts) (to : ℕ → Type 0) → IsRunning p → ((word : ℕ) → to word → IsAllocatorWord p.capacity (held_in p) word) → (to used_word → ⊥)
+pub leaves_held_of : (p q : Parts) (to : ℕ → Type 0) → IsRunning p → ((word : ℕ) → to word → IsAllocatorWord p.capacity (held_in p) word)
+    → (to used_word → ⊥)
     → StoresOnly to p.words q.words
     → q.capacity ≡ p.capacity → q.used_look ≡ p.used_look → q.taken ≡ p.taken → MakesLooks p q → LeavesHeld (held_in p) p q
 leaves_held_of p q to run are not_used stores capacity look taken looks =
@@ -85,14 +86,22 @@ leaves_held_of p q to run are not_used stores capacity look taken looks =
       looks = looks;
     }
 
-pub leaves_held_moved : (p q : Parts) → IsRunning p → StoresOnly (IsMoved p.capacity) p.words q.words → q.capacity ≡ p.capacity → q.used_look ≡ p.used_look
+pub leaves_held_moved : (p q : Parts) → IsRunning p → StoresOnly (IsMoved p.capacity) p.words q.words → q.capacity ≡ p.capacity
+    → q.used_look ≡ p.used_look
     → q.taken ≡ p.taken → MakesLooks p q → LeavesHeld (held_in p) p q
 leaves_held_moved p q run stores capacity look taken looks =
-    leaves_held_of p q (IsMoved p.capacity) run (λ word m. moved_word p.capacity (held_in p) word m) (λ m. moved_used p.capacity used_word m refl) stores capacity
+    leaves_held_of p q (IsMoved p.capacity) run (λ word m. moved_word p.capacity (held_in p) word m)
+    (λ m. moved_used p.capacity used_word m refl) stores capacity
     look taken looks
 
 pub leaves_held_same : (p : Parts) → LeavesHeld (held_in p) p p
-leaves_held_same p = record { capacity = refl; as_allocator = as_allocator_none p.capacity (held_in p) p.words; knows = refl; taken = omega arith; looks = looks_kept p p refl }
+leaves_held_same p = record {
+  capacity = refl;
+  as_allocator = as_allocator_none p.capacity (held_in p) p.words;
+  knows = refl;
+  taken = omega arith;
+  looks = looks_kept p p refl;
+}
 
 pub leaves_held_all : (p u q : Parts) → held_in u ≡ held_in p → LeavesHeld (held_in p) p u → LeavesHeld (held_in u) u q → LeavesHeld (held_in p) p q
 leaves_held_all p u q held a b = leaves_held_then p u q (held_in p) a (subst (λ (h : List Block). LeavesHeld h u q) held b)
@@ -137,7 +146,8 @@ made p q t run m = record {
   caches_long = m.caches_long;
   looks_long = m.looks_long;
   shape = t;
-  is = subst (λ c. IsShape c (image_of q) (held_in q) t) (sym m.capacity) (subst (λ (h : List Block). IsShape p.capacity (image_of q) h t) (sym m.held) m.is);
+  is = subst (λ c. IsShape c (image_of q) (held_in q) t) (sym m.capacity)
+      (subst (λ (h : List Block). IsShape p.capacity (image_of q) h t) (sym m.held) m.is);
   caches = m.caches;
   sizes = subst (λ c. KnowsSizes c t (λ d. image_of q (info_word d)) q.blocks) (sym m.capacity) m.sizes;
   settled = subst (λ c. HasDurableInfos c q.words) (sym m.capacity) m.settled;
@@ -170,7 +180,8 @@ caches_filled s t caches class first ws cache long is before start cached first_
           })
     ]
 
-pub caches_other : (caches : List Cache) (class : ℕ) (cache : Cache) (c : ℕ) → IsClass c → c ≢ class → cache_at (set caches class cache) c ≡ cache_at caches c
+pub caches_other : (caches : List Cache) (class : ℕ) (cache : Cache) (c : ℕ) → IsClass c → c ≢ class
+    → cache_at (set caches class cache) c ≡ cache_at caches c
 caches_other caches class cache c is_c other = get_or-set_other caches class c cache (record { first = 0; count = 0 }) other
 
 -- the sizes stay where infos do, and superblocks of a class are ones from before
@@ -216,7 +227,8 @@ module _ (p : Parts) (list : ℕ) (popped : Popped) (w : View) (run : IsRunning 
       let at : 0 ≡ link_of popped.first = ap link_of (sym none) in (
         sym (at ∙ pop.first ∙ ap head_first pop.head),
         subst (λ (o : Option ℕ). MatchOption o (w.volatile ≡ p.words.volatile)
-            (λ d. w.volatile ≡ set p.words.volatile (head_word list) (head_of (head_first (volatile_at p.words (link_word d))) (head_pops popped.head + 1))))
+            (λ d. w.volatile ≡ set p.words.volatile (head_word list) (head_of (head_first (volatile_at p.words (link_word d)))
+            (head_pops popped.head + 1))))
             none pop.words,
       )
 
@@ -228,7 +240,8 @@ module _ (p : Parts) (list : ℕ) (popped : Popped) (w : View) (run : IsRunning 
 
     words : w.volatile ≡ set p.words.volatile (head_word list) (head_of (head_first (volatile_at p.words (link_word d))) (head_pops popped.head + 1))
     words = subst (λ (o : Option ℕ). MatchOption o (w.volatile ≡ p.words.volatile)
-        (λ d. w.volatile ≡ set p.words.volatile (head_word list) (head_of (head_first (volatile_at p.words (link_word d))) (head_pops popped.head + 1))))
+        (λ d. w.volatile ≡ set p.words.volatile (head_word list) (head_of (head_first (volatile_at p.words (link_word d)))
+        (head_pops popped.head + 1))))
         some pop.words
 
     within : head_word list < length p.words.volatile
@@ -238,7 +251,8 @@ module _ (p : Parts) (list : ℕ) (popped : Popped) (w : View) (run : IsRunning 
     popped_of = record {
       pops = head_pops popped.head + 1;
       is_first = popped_head;
-      set = set_is p.words.volatile w.volatile (head_word list) (head_of (head_first (volatile_at p.words (link_word d))) (head_pops popped.head + 1)) within
+      set = set_is p.words.volatile w.volatile (head_word list) (head_of (head_first (volatile_at p.words (link_word d)))
+          (head_pops popped.head + 1)) within
           words;
     }
 
@@ -291,7 +305,8 @@ module _ (p : Parts) (class list : ℕ) (popped : Popped) (w : View) (look : Loo
 
   pub emptied_running : IsRunning emptied
   emptied_running = running_looks (record p { words = w }) (set p.head_looks list look) (length-set p.head_looks list look ∙ run.looks_long)
-      (running_words p w (IsMoved p.capacity) run pop.runs_within.running same_words (pop_moved p list popped w run below pop stores) (λ d less m. moved_info p.capacity d (info_word d) m refl)
+      (running_words p w (IsMoved p.capacity) run pop.runs_within.running same_words (pop_moved p list popped w run below pop stores)
+      (λ d less m. moved_info p.capacity d (info_word d) m refl)
       (λ m. moved_used p.capacity used_word m refl) pop.runs_within.below)
 
   pub emptied_leaves_held : IsNextLook p look → LeavesHeld (held_in p) p emptied

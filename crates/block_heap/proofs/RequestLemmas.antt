@@ -54,26 +54,32 @@ large_view s q o = record (seat_of s) {
 }
 
 -- the parts that an answer leaves run
-pub answer_runs : (answer : Option Block) (bytes : ℕ) (p q : Parts) → Answers bytes answer p q → IsRunning q × CachesAreShort q 0 × (AreAccounted p → AreAccounted q)
+pub answer_runs : (answer : Option Block) (bytes : ℕ) (p q : Parts) → Answers bytes answer p q → IsRunning q × CachesAreShort q 0
+    × (AreAccounted p → AreAccounted q)
 answer_runs None bytes p q misses = (misses.running, misses.short, misses.accounted)
 answer_runs (Some b) bytes p q gets = (gets.running, gets.short, gets.accounted)
 
 -- held blocks are stable after a request
-pub request_stable : (r : Result (Option Block) Stopped) (p q : Parts) (bytes : ℕ) → IsStable p.capacity p.words (held_in p) → LeavesHeld (held_in p) p q
+pub request_stable : (r : Result (Option Block) Stopped) (p q : Parts) (bytes : ℕ) → IsStable p.capacity p.words (held_in p)
+    → LeavesHeld (held_in p) p q
     → IfOk r (λ answer. Answers bytes answer p q)
     → OnErr r (held_in q ≡ held_in p) → IsStable q.capacity q.words (held_in q)
 request_stable (Ok answer) p q bytes stable leaves_held answers held =
     let kept = stable_kept p.capacity (held_in p) p.words q.words stable leaves_held.as_allocator in
-    running_stable q (answer_runs answer bytes p q answers).0 (kept.capacity_is ∙ sym leaves_held.capacity) (kept.capacity_durable ∙ sym leaves_held.capacity)
-    (subst (λ n. (root : ℕ) → root < roots → durable_at q.words (kind_word n root) ≡ volatile_at q.words (kind_word n root)) (sym leaves_held.capacity) kept.kinds_durable)
+    running_stable q (answer_runs answer bytes p q answers).0 (kept.capacity_is ∙ sym leaves_held.capacity) (kept.capacity_durable
+    ∙ sym leaves_held.capacity)
+    (subst (λ n. (root : ℕ) → root < roots → durable_at q.words (kind_word n root) ≡ volatile_at q.words (kind_word n root))
+    (sym leaves_held.capacity) kept.kinds_durable)
 request_stable (Err e) p q bytes stable leaves_held answers held =
     subst (λ n. IsStable n q.words (held_in q)) (sym leaves_held.capacity)
-    (subst (λ blocks. IsStable p.capacity q.words blocks) (sym held) (stable_kept p.capacity (held_in p) p.words q.words stable leaves_held.as_allocator))
+    (subst (λ blocks. IsStable p.capacity q.words blocks) (sym held)
+    (stable_kept p.capacity (held_in p) p.words q.words stable leaves_held.as_allocator))
 
 -- what lasts over a request or a free
 pub large_lasts : {T : Type 0} (r : Result T Stopped) (p q : Parts) (held : List Block) (most : ℕ) (old o : Option ℕ)
     → IsLasting p.capacity p.words (held_in p) old → LeavesHeld held p q
-    → IsStable q.capacity q.words (held_in q) → OnOk r (o ≡ None) → IfErr r (λ e. o ≡ Some e.step) → IfErr r (λ e. StopsWithin e.step most p.words q.words)
+    → IsStable q.capacity q.words (held_in q) → OnOk r (o ≡ None) → IfErr r (λ e. o ≡ Some e.step)
+    → IfErr r (λ e. StopsWithin e.step most p.words q.words)
     → IsLasting q.capacity q.words (held_in q) o
 large_lasts r p q held most old o lasts leaves_held stable none stops stops_within = record {
   some = let same = leaves_held.capacity in let some = lasts.some in omega arith;
@@ -90,12 +96,15 @@ pub request_lasts : (r : Result (Option Block) Stopped) (p q : Parts) (bytes : �
     → IfErr r (λ e. StopsWithin e.step most_small_draws p.words q.words)
     → IsLasting q.capacity q.words (held_in q) o
 request_lasts r p q bytes old o lasts leaves_held answers held none stops stops_within =
-    large_lasts r p q (held_in p) most_small_draws old o lasts leaves_held (request_stable r p q bytes lasts.stable leaves_held answers held) none stops stops_within
+    large_lasts r p q (held_in p) most_small_draws old o lasts leaves_held
+    (request_stable r p q bytes lasts.stable leaves_held answers held) none stops stops_within
 
 -- a request or a free keeps the heap
-pub large_heap : {T : Type 0} (r : Result T Stopped) (s : SeqState) (q : Parts) (most : ℕ) (o : Option ℕ) (l : ∥ IsLasting q.capacity q.words (held_in q) o ∥₁)
+pub large_heap : {T : Type 0} (r : Result T Stopped) (s : SeqState) (q : Parts) (most : ℕ) (o : Option ℕ)
+    (l : ∥ IsLasting q.capacity q.words (held_in q) o ∥₁)
     → IsSeqHeap s
-    → IsLasting q.capacity q.words (held_in q) o → OnOk r (IsRunning q × CachesAreShort q 0 × AreAccounted q) → OnOk r (RunsWithin most s.parts.words q.words)
+    → IsLasting q.capacity q.words (held_in q) o → OnOk r (IsRunning q × CachesAreShort q 0 × AreAccounted q)
+    → OnOk r (RunsWithin most s.parts.words q.words)
     → IfErr r (λ e. StopsWithin e.step most s.parts.words q.words) → IfErr r (λ e. o ≡ Some e.step)
     → IsSeqHeap (record {
       parts = q;
@@ -125,10 +134,11 @@ word_kept s q o to word stores out = record {
 -- and stays pending, or a fence made it durable
 pub pending_kept : (s : SeqState) (q : Parts) (o : Option ℕ) (to : ℕ → Type 0) (word : ℕ) → StoresOnly to s.parts.words q.words → (to word → ⊥)
     → KeepsPending (seat_of s) (large_view s q o) word
-pending_kept s q o to word stores out = λ p. elim (stores.pending word out p) as (λ _. Contains q.words.pending word ⊎ IsDurable (large_view s q o) word) [
-  | inl still ↦ inl still
-  | inr same ↦ inr (record { value = volatile_at q.words word; seen = refl; left = ap Some same })
-]
+pending_kept s q o to word stores out = λ p. elim (stores.pending word out p) as
+    (λ _. Contains q.words.pending word ⊎ IsDurable (large_view s q o) word) [
+      | inl still ↦ inl still
+      | inr same ↦ inr (record { value = volatile_at q.words word; seen = refl; left = ap Some same })
+    ]
 
 -- a request keeps all own words
 pub request_words : (s seen : SeqState) (q : Parts) (o : Option ℕ) → IsSeqHeap s → s ≡ seen → LeavesHeld (held_in s.parts) s.parts q
@@ -149,7 +159,8 @@ request_runs (Ok answer) bytes p q before answers = let runs = answer_runs answe
 request_runs (Err e) bytes p q before answers = tt
 
 -- the least class, from `from` on, whose blocks hold so many bytes
-least_from : (bytes from more : ℕ) → 1 ≤ from → from + more ≡ last_class → bytes ≤ size_of last_class → ((other : ℕ) → IsClass other → other < from → bytes ≤ size_of other → ⊥)
+least_from : (bytes from more : ℕ) → 1 ≤ from → from + more ≡ last_class → bytes ≤ size_of last_class
+    → ((other : ℕ) → IsClass other → other < from → bytes ≤ size_of other → ⊥)
     → (c : ℕ) × IsLeastClassFor bytes c
 least_from bytes from zero some end fits none =
     let last : last_class ≡ from = omega arith in (
@@ -157,7 +168,8 @@ least_from bytes from zero some end fits none =
       record {
         is_class = record { some = some; last = omega arith };
         holds = subst (λ c. bytes ≤ size_of c) last fits;
-        least = λ other is holds. elim (cases_lt other from) as (λ _. from ≤ other) [ inl less ↦ absurd (none other is less holds) | inr not ↦ omega arith ];
+        least = λ other is holds. elim (cases_lt other from) as (λ _. from ≤ other)
+            [ inl less ↦ absurd (none other is less holds) | inr not ↦ omega arith ];
       },
     )
 least_from bytes from (suc more) some end fits none = elim (cases_lt (size_of from) bytes) as (λ _. (c : ℕ) × IsLeastClassFor bytes c) [
@@ -170,7 +182,8 @@ least_from bytes from (suc more) some end fits none = elim (cases_lt (size_of fr
     record {
       is_class = record { some = some; last = omega arith };
       holds = omega arith;
-      least = λ other is fitting. elim (cases_lt other from) as (λ _. from ≤ other) [ inl less ↦ absurd (none other is less fitting) | inr not ↦ omega arith ];
+      least = λ other is fitting. elim (cases_lt other from) as (λ _. from ≤ other)
+          [ inl less ↦ absurd (none other is less fitting) | inr not ↦ omega arith ];
     },
   )
 ]
@@ -180,7 +193,8 @@ unfolding size_of class_sizes
 last_size bytes small = small
 
 least_class : (bytes : ℕ) → bytes ≤ largest_small → (c : ℕ) × IsLeastClassFor bytes c
-least_class bytes small = least_from bytes 1 (last_class - 1) (omega arith) (omega arith) (last_size bytes small) (λ other is less holds. let some = is.some in omega arith)
+least_class bytes small = least_from bytes 1 (last_class - 1) (omega arith) (omega arith) (last_size bytes small)
+    (λ other is less holds. let some = is.some in omega arith)
 
 -- a class serves a request of as many bytes as its blocks have
 pub size_served : (class bytes : ℕ) (a b : SizeClass) → IsClass class → bytes ≡ size_of class → a.number ≡ class → Some a ≡ Some b
@@ -226,19 +240,22 @@ module _ (bytes : ℕ) (looks : Looks) (s t : SeqState) (misses : Misses bytes s
     large = are.large;
   } where
     used : IsLastSeen (seat_of s) refused_view t.parts.used_look looks.used × (t.parts.capacity < looks.used + span_of bytes)
-    used = elim (cases_lt largest_small bytes) as (λ _. IsLastSeen (seat_of s) refused_view t.parts.used_look looks.used × (t.parts.capacity < looks.used + span_of bytes)) [
-      | inl large ↦
-          let looked = misses.at_used large in
-          let e : looks.used ≡ image_of t.parts used_word = are.used ∙ looked.used_look.seen_is in
-          let past = looked.past in
-          (seen t.parts.used_look (image_of t.parts used_word) looks.used looked.used_look are.used, subst (λ n. t.parts.capacity < n + span_of bytes) (sym e) past)
-      | inr not ↦
-          let least = least_class bytes (omega arith) in
-          let looked = misses.in_class least.0 least.1 in
-          let e : looks.used ≡ image_of t.parts used_word = are.used ∙ looked.used_look.seen_is in
-          let past = looked.past in
-          (seen t.parts.used_look (image_of t.parts used_word) looks.used looked.used_look are.used, omega arith)
-    ]
+    used = elim (cases_lt largest_small bytes) as (λ _. IsLastSeen (seat_of s) refused_view t.parts.used_look looks.used
+        × (t.parts.capacity < looks.used + span_of bytes)) [
+          | inl large ↦
+              let looked = misses.at_used large in
+              let e : looks.used ≡ image_of t.parts used_word = are.used ∙ looked.used_look.seen_is in
+              let past = looked.past in (
+                seen t.parts.used_look (image_of t.parts used_word) looks.used looked.used_look are.used,
+                subst (λ n. t.parts.capacity < n + span_of bytes) (sym e) past,
+              )
+          | inr not ↦
+              let least = least_class bytes (omega arith) in
+              let looked = misses.in_class least.0 least.1 in
+              let e : looks.used ≡ image_of t.parts used_word = are.used ∙ looked.used_look.seen_is in
+              let past = looked.past in
+              (seen t.parts.used_look (image_of t.parts used_word) looks.used looked.used_look are.used, omega arith)
+        ]
 
   -- a request that found no room is refused
   pub refuses : Runs (seat_of s) (seat_of t) → KeepsWords (seat_of s) (seat_of t) → Refuses bytes looks (seat_of s) refused_view
@@ -272,7 +289,8 @@ refused_as bytes looks p q misses are = record {
   one_look = misses.one_look;
 }
 
-pub refused_by_as : (bytes : ℕ) (looks given : Looks) (answer : Option Block) (p q r : Parts) → r ≡ q → answer ≡ None → Answers bytes answer p q → IsLooksOf bytes looks r
+pub refused_by_as : (bytes : ℕ) (looks given : Looks) (answer : Option Block) (p q r : Parts) → r ≡ q → answer ≡ None → Answers bytes answer p q
+    → IsLooksOf bytes looks r
     → Full looks ≡ Full given → RefusesAs bytes given p r
 refused_by_as bytes looks given answer p q r same none answers are one =
     let e : looks ≡ given = ap looks_in one in
@@ -280,7 +298,8 @@ refused_by_as bytes looks given answer p q r same none answers are one =
     (refused_as bytes looks p r (subst (λ m. Misses bytes p m) (sym same) (subst (λ a. Answers bytes a p q) none answers)) are)
 
 -- the refusal is counted
-pub refused_heap : (s : SeqState) (bytes : ℕ) (looks : Looks) (l : ∥ IsLasting s.parts.capacity s.parts.words (held_in s.parts) s.stopped ∥₁) → IsSeqHeap s
+pub refused_heap : (s : SeqState) (bytes : ℕ) (looks : Looks) (l : ∥ IsLasting s.parts.capacity s.parts.words (held_in s.parts) s.stopped ∥₁)
+    → IsSeqHeap s
     → s.refusals < s.large_calls
     → IsSeqHeap (record {
       parts = s.parts;
@@ -295,7 +314,8 @@ pub refused_heap : (s : SeqState) (bytes : ℕ) (looks : Looks) (l : ∥ IsLasti
 refused_heap s bytes looks l heap room = record { lasts = heap.lasts; running = heap.running; calls = heap.calls; refused = omega arith }
 
 -- a request that found no room, as its caller sees it
-pub refused_by : (bytes : ℕ) (looks : Looks) (answer : Option Block) (s seen t : SeqState) → t ≡ seen → answer ≡ None → Answers bytes answer s.parts seen.parts
+pub refused_by : (bytes : ℕ) (looks : Looks) (answer : Option Block) (s seen t : SeqState) → t ≡ seen → answer ≡ None
+    → Answers bytes answer s.parts seen.parts
     → Runs (seat_of s) (seat_of seen) → KeepsWords (seat_of s) (seat_of seen)
     → IsLooksOf bytes looks t.parts
     → Refuses bytes looks (seat_of s) (record (seat_of t) { refusals = t.refusals + 1; refused_bytes = bytes; refused_looks = looks })

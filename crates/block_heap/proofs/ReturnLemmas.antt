@@ -53,7 +53,8 @@ listed_where capacity image held s shape list d below place =
     times_some d (s.listed list) (omega arith)
 
 -- the cache of a running heap leads along that of its shape alone
-pub along_one : (p : Parts) (class : ℕ) (words : List ℕ) → IsClass class → (run : IsRunning p) → CachesAlong class p words → words ≡ run.shape.cached class
+pub along_one : (p : Parts) (class : ℕ) (words : List ℕ) → IsClass class → (run : IsRunning p) → CachesAlong class p words
+    → words ≡ run.shape.cached class
 along_one p class words is run along =
     let here = cached_along p class is run in
     one_walk (image_of p) (cache_at p.caches class).first words (run.shape.cached class) along.walks here.walks (sym along.count ∙ here.count)
@@ -110,7 +111,8 @@ module _ (p : Parts) (class : ℕ) (is : IsClass class) (run : IsRunning p) (pre
     }
 
   -- to a full one, which went to a list
-  module _ (full : anchor.state ≡ Full) (list : ℕ) (x : View) (pushed : IsPushed list prefix.d w x) (push_stores : StoresOnly (IsPushWord list prefix.d) w x)
+  module _ (full : anchor.state ≡ Full) (list : ℕ) (x : View) (pushed : IsPushed list prefix.d w x)
+      (push_stores : StoresOnly (IsPushWord list prefix.d) w x)
       (list_below : list < lists) (t : Shape) (shape : IsShape p.capacity (λ word. volatile_at x word) (held_in p) t)
       (listed : (l : ℕ) → t.listed l ≡ with_at run.shape.listed list (prefix.d ∷ run.shape.listed list) l) where
     now_leads : (l : ℕ) → l < lists → LeadsAlong (parts_with x) l (with_at run.shape.listed list (prefix.d ∷ run.shape.listed list) l)
@@ -121,12 +123,15 @@ module _ (p : Parts) (class : ℕ) (is : IsClass class) (run : IsRunning p) (pre
         (run.is.follows l less) (now_leads l less) (with_more run.shape.listed list prefix.d l)
 
     here : IsInList (parts_with x) list prefix.d
-    here = in_list_along (parts_with x) list prefix.d (with_at run.shape.listed list (prefix.d ∷ run.shape.listed list) list) (now_leads list list_below)
-        (subst (λ ds. Contains ds prefix.d) (sym (with_at_same run.shape.listed list (prefix.d ∷ run.shape.listed list))) (in_head prefix.d (run.shape.listed list)))
+    here = in_list_along (parts_with x) list prefix.d (with_at run.shape.listed list (prefix.d ∷ run.shape.listed list) list)
+        (now_leads list list_below)
+        (subst (λ ds. Contains ds prefix.d) (sym (with_at_same run.shape.listed list (prefix.d ∷ run.shape.listed list)))
+        (in_head prefix.d (run.shape.listed list)))
 
     free_only : (d : ℕ) → IsInList (parts_with x) 0 d → IsInList p 0 d ⊎ ((d ≡ prefix.d) × (list ≡ 0))
     free_only d there =
-        let has = in_list_has (parts_with x) 0 d (with_at run.shape.listed list (prefix.d ∷ run.shape.listed list) 0) there (now_leads 0 (omega arith)) in
+        let has = in_list_has (parts_with x) 0 d (with_at run.shape.listed list (prefix.d ∷ run.shape.listed list) 0) there
+        (now_leads 0 (omega arith)) in
         elim (cases_eq 0 list) as (λ _. IsInList p 0 d ⊎ ((d ≡ prefix.d) × (list ≡ 0))) [
           | inr other ↦ inl (in_list_along p 0 d (run.shape.listed 0) free_leads
               (subst (λ ds. Contains ds d) (with_at_other run.shape.listed list (prefix.d ∷ run.shape.listed list) 0 other) has))
@@ -134,9 +139,11 @@ module _ (p : Parts) (class : ℕ) (is : IsClass class) (run : IsRunning p) (pre
               let at : with_at run.shape.listed list (prefix.d ∷ run.shape.listed list) 0 ≡ prefix.d ∷ run.shape.listed list =
               subst (λ k. with_at run.shape.listed list (prefix.d ∷ run.shape.listed list) k ≡ prefix.d ∷ run.shape.listed list) (sym same)
               (with_at_same run.shape.listed list (prefix.d ∷ run.shape.listed list)) in
-              elim (head_or_rest prefix.d d (run.shape.listed list) (subst (λ ds. Contains ds d) at has)) as (λ _. IsInList p 0 d ⊎ ((d ≡ prefix.d) × (list ≡ 0))) [
+              elim (head_or_rest prefix.d d (run.shape.listed list) (subst (λ ds. Contains ds d) at has)) as
+              (λ _. IsInList p 0 d ⊎ ((d ≡ prefix.d) × (list ≡ 0))) [
                 | inl one ↦ inr (sym one, sym same)
-                | inr before ↦ inl (in_list_along p 0 d (run.shape.listed 0) free_leads (subst (λ k. Contains (run.shape.listed k) d) (sym same) before))
+                | inr before ↦ inl (in_list_along p 0 d (run.shape.listed 0) free_leads
+                    (subst (λ k. Contains (run.shape.listed k) d) (sym same) before))
               ]
         ]
 
@@ -151,7 +158,8 @@ module _ (p : Parts) (class : ℕ) (is : IsClass class) (run : IsRunning p) (pre
     infos_kept : (d : ℕ) → d < p.capacity → volatile_at x (info_word d) ≡ image_of p (info_word d)
     infos_kept = (listed_fixed p class is run prefix is_prefix w anchor given stores full list x pushed push_stores list_below).infos
 
-    listed_to : ((prefix.batch.count ≡ blocks_of class) × (list ≡ 0)) ⊎ ((prefix.batch.count ≢ blocks_of class) × (list ≡ class)) → GivesTo class prefix p (parts_with x)
+    listed_to : ((prefix.batch.count ≡ blocks_of class) × (list ≡ 0)) ⊎ ((prefix.batch.count ≢ blocks_of class) × (list ≡ class))
+        → GivesTo class prefix p (parts_with x)
     listed_to (inl all) = record {
       free = kept_in 0 (omega arith);
       listed = kept_in class below;
@@ -173,7 +181,8 @@ module _ (p : Parts) (class : ℕ) (is : IsClass class) (run : IsRunning p) (pre
       infos = infos_kept;
     }
 
-  module _ (full : anchor.state ≡ Full) (list : ℕ) (x : View) (pushed : IsPushed list prefix.d w x) (push_stores : StoresOnly (IsPushWord list prefix.d) w x) where
+  module _ (full : anchor.state ≡ Full) (list : ℕ) (x : View) (pushed : IsPushed list prefix.d w x)
+      (push_stores : StoresOnly (IsPushWord list prefix.d) w x) where
     pub all_to : prefix.batch.count ≡ blocks_of class → list ≡ 0 → GivesTo class prefix p (parts_with x)
     all_to all same = listed_to full list x pushed push_stores (omega arith) _
         (all_shape p class is run prefix is_prefix w anchor given stores full list x pushed push_stores all same)
@@ -185,7 +194,8 @@ module _ (p : Parts) (class : ℕ) (is : IsClass class) (run : IsRunning p) (pre
         (λ l. ap (λ k. with_at run.shape.listed k (prefix.d ∷ run.shape.listed k) l) (sym same)) (inr (some, same))
 
 -- the cache is the same where loads see the same
-pub only_same : (class d : ℕ) (p q : Parts) → q.capacity ≡ p.capacity → q.words.volatile ≡ p.words.volatile → cache_at q.caches class ≡ cache_at p.caches class
+pub only_same : (class d : ℕ) (p q : Parts) → q.capacity ≡ p.capacity → q.words.volatile ≡ p.words.volatile
+    → cache_at q.caches class ≡ cache_at p.caches class
     → CachesAllOf class d p → CachesAllOf class d q
 only_same class d p q capacity same cache all = (
   ap (λ (x : Cache). x.count) cache ∙ all.0,
@@ -221,10 +231,12 @@ module _ (p : Parts) (class : ℕ) (is : IsClass class) (run : IsRunning p) (pre
     in_all word has = all.1 (run.shape.cached class) (cached_along p class is run) word (subst (λ ws. Contains ws word) (sym cached_is) has)
 
     same_superblock : (word : ℕ) → IsFirstOf p.capacity class d word → IsFirstOf p.capacity class prefix.d word → d ≡ prefix.d
-    same_superblock word a b = inside_one p.capacity d prefix.d word (first_inside p.capacity class d word is a) (first_inside p.capacity class prefix.d word is b)
+    same_superblock word a b = inside_one p.capacity d prefix.d word (first_inside p.capacity class d word is a)
+        (first_inside p.capacity class prefix.d word is b)
 
     one : d ≡ prefix.d
-    one = same_superblock (cache_at p.caches class).first (in_all (cache_at p.caches class).first (Contains-append_left whole rest (cache_at p.caches class).first first_in)) (is_prefix.firsts (cache_at p.caches class).first first_in)
+    one = same_superblock (cache_at p.caches class).first (in_all (cache_at p.caches class).first
+        (Contains-append_left whole rest (cache_at p.caches class).first first_in)) (is_prefix.firsts (cache_at p.caches class).first first_in)
 
     none_behind : prefix.rest.count ≡ 0
     none_behind = elim longest as (λ _. prefix.rest.count ≡ 0) [
@@ -235,10 +247,12 @@ module _ (p : Parts) (class : ℕ) (is : IsClass class) (run : IsRunning p) (pre
             let long = rest_long p class is run prefix is_prefix in
             let behind : Walks (image_of p) (image_of p prefix.batch.last) rest =
             walk_behind (image_of p) (cache_at p.caches class).first is_prefix.before prefix.batch.last rest cached_walk in
-            let next : Contains rest (image_of p prefix.batch.last) = walk_begin (image_of p) (image_of p prefix.batch.last) rest behind (omega arith) in
+            let next : Contains rest (image_of p prefix.batch.last) = walk_begin (image_of p) (image_of p prefix.batch.last) rest behind
+            (omega arith) in
             let first = in_all (image_of p prefix.batch.last) (Contains-append_right whole rest (image_of p prefix.batch.last) next) in
             let inside : IsInSuperblock p.capacity prefix.d (image_of p prefix.batch.last) =
-            subst (λ k. IsInSuperblock p.capacity k (image_of p prefix.batch.last)) one (first_inside p.capacity class d (image_of p prefix.batch.last) is first) in
+            subst (λ k. IsInSuperblock p.capacity k (image_of p prefix.batch.last)) one
+            (first_inside p.capacity class d (image_of p prefix.batch.last) is first) in
             absurd (outside (subst (λ word. IsInSuperblock p.capacity prefix.d word) (sym is_prefix.next) inside))
       ]
     ]
@@ -279,20 +293,31 @@ pub record FlushesSoFar (class : ℕ) (p q : Parts) : Type 0 where
       ⊎ (((cache_at q.caches class).count < (cache_at p.caches class).count) × ((d : ℕ) → CachesAllOf class d p → IsInList q 0 d))
 
 pub flushes_none : (class : ℕ) (p : Parts) → FlushesSoFar class p p
-flushes_none class p = record { free = λ d there. there; listed = λ d there. there; only = λ d there. inl there; same_capacity = refl; in_runs = λ x back. back; heads = λ c is other. refl; infos = λ d below. refl; way = inl (refl, refl, refl) }
+flushes_none class p = record {
+  free = λ d there. there;
+  listed = λ d there. there;
+  only = λ d there. inl there;
+  same_capacity = refl;
+  in_runs = λ x back. back;
+  heads = λ c is other. refl;
+  infos = λ d below. refl;
+  way = inl (refl, refl, refl);
+}
 
 -- one prefix more
 module _ (class : ℕ) (p q r t : Parts) (is : IsClass class) (most : (cache_at p.caches class).count ≤ blocks_of class) (before : FlushesSoFar class p q)
     (capacity : r.capacity ≡ q.capacity) (volatile : r.words.volatile ≡ q.words.volatile) (cache : cache_at r.caches class ≡ cache_at q.caches class)
     (run : IsRunning r) (prefix : CachePrefix) (is_prefix : IsCachePrefix class prefix r) (longest : IsLongest prefix r) (some : 1 ≤ prefix.batch.count)
-    (to : GivesTo class prefix r t) (gave : GivesPrefix class prefix r t) (now_capacity : t.capacity ≡ r.capacity) (back : cache_at t.caches class ≡ prefix.rest) where
+    (to : GivesTo class prefix r t) (gave : GivesPrefix class prefix r t) (now_capacity : t.capacity ≡ r.capacity)
+    (back : cache_at t.caches class ≡ prefix.rest) where
   loaded : (list d : ℕ) → IsInList q list d → IsInList r list d
   loaded list d there = list_same q r list d capacity volatile there
 
   now_free : (d : ℕ) → CachesAllOf class d p → IsInList t 0 d
   now_free d all = elim before.way as (λ _. IsInList t 0 d) [
     | inl same ↦
-        let found = all_in_prefix r class is run prefix is_prefix longest d (only_same class d p r (capacity ∙ same.0) (volatile ∙ same.1) (cache ∙ same.2) all) in
+        let found = all_in_prefix r class is run prefix is_prefix longest d
+        (only_same class d p r (capacity ∙ same.0) (volatile ∙ same.1) (cache ∙ same.2) all) in
         subst (λ k. IsInList t 0 k) found.1 (to.all found.0)
     | inr less ↦ to.free d (loaded 0 d (less.1 d all))
   ]
@@ -326,7 +351,8 @@ module _ (class : ℕ) (p q r t : Parts) (is : IsClass class) (most : (cache_at 
           let was : (cache_at r.caches class).count ≡ (cache_at q.caches class).count = ap (λ (x : Cache). x.count) cache in
           let left = is_prefix.rest in
           elim before.way as (λ _. (cache_at t.caches class).count < (cache_at p.caches class).count) [
-            | inl same ↦ let count : (cache_at q.caches class).count ≡ (cache_at p.caches class).count = ap (λ (x : Cache). x.count) same.2 in omega arith
+            | inl same ↦ let count : (cache_at q.caches class).count ≡ (cache_at p.caches class).count = ap (λ (x : Cache). x.count) same.2 in
+                omega arith
             | inr fewer ↦ omega (arith, fewer.0)
           ]),
       now_free,
@@ -355,13 +381,15 @@ module _ (class : ℕ) (p q : Parts) (is : IsClass class) (run : IsRunning p) (n
     found_is : (run.is.cached class word is has).superblock ≡ d
     found_is =
         let found = run.is.cached class word is has in
-        inside_one p.capacity found.superblock d word (first_inside p.capacity class found.superblock word is found.is_first) (first_inside p.capacity class d word is first)
+        inside_one p.capacity found.superblock d word (first_inside p.capacity class found.superblock word is found.is_first)
+        (first_inside p.capacity class d word is first)
 
     below : d < p.capacity
     below = subst (λ k. k < p.capacity) found_is (run.is.cached class word is has).within
 
     was_info : image_of p (info_word d) ≡ class
-    was_info = subst (λ k. image_of p (info_word k) ≡ class) found_is (cached_of_class p.capacity (image_of p) (held_in p) run.shape run.is class word is has).info
+    was_info = subst (λ k. image_of p (info_word k) ≡ class) found_is
+        (cached_of_class p.capacity (image_of p) (held_in p) run.shape run.is class word is has).info
 
     info : image_of q (info_word d) ≡ class
     info = so_far.infos d below ∙ was_info
@@ -378,7 +406,8 @@ module _ (class : ℕ) (p q : Parts) (is : IsClass class) (run : IsRunning p) (n
         omega arith
     by_owner c same chain (a_held none holds) = not_held word has (subst (λ (blocks : List Block). HoldsAt blocks word) held holds)
 
-    by_place : (place : Place) → now.shape.place d ≡ place → IsAs q.capacity (image_of q) now.shape (held_in q) d place → IsInList q class d ⊎ IsInList q 0 d
+    by_place : (place : Place) → now.shape.place d ≡ place → IsAs q.capacity (image_of q) now.shape (held_in q) d place
+        → IsInList q class d ⊎ IsInList q 0 d
     by_place (in_list zero) at free = inr (in_list_of 0 (omega arith) at)
     by_place (in_list (suc c)) at listed =
         let same : suc c ≡ class = sym listed.of_class.info ∙ info in
@@ -394,7 +423,8 @@ module _ (class : ℕ) (p q : Parts) (is : IsClass class) (run : IsRunning p) (n
     by_place is_new at new = absurd (let some = is.some in let none = new.info in let cut = info in omega arith)
 
 -- all was given back
-pub flushes_all : (class : ℕ) (p q : Parts) → IsClass class → IsRunning p → IsRunning q → held_in q ≡ held_in p → FlushesSoFar class p q → KeepsAll class p q
+pub flushes_all : (class : ℕ) (p q : Parts) → IsClass class → IsRunning p → IsRunning q → held_in q ≡ held_in p → FlushesSoFar class p q
+    → KeepsAll class p q
     → (cache_at q.caches class).count ≡ 0 → Flushes class p q
 flushes_all class p q is run now held so_far keeps empty = record {
   capacity = so_far.same_capacity;

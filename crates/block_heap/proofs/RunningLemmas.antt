@@ -15,14 +15,16 @@ use Rattle.block_heap.specs.AllocatorWords.{IsStable}
 use Rattle.block_heap.specs.Lists.{head_at}
 
 -- a list with another number at one place, as an image
-pub set_is : (words new : List ℕ) (word value : ℕ) → word < length words → new ≡ set words word value → IsSet (λ i. get_or words i 0) (λ i. get_or new i 0) word value
+pub set_is : (words new : List ℕ) (word value : ℕ) → word < length words → new ≡ set words word value
+    → IsSet (λ i. get_or words i 0) (λ i. get_or new i 0) word value
 set_is words new word value within is = record {
   at = ap (λ xs. get_or xs word 0) is ∙ get_or-set_same words word value 0 within;
   others = λ other differs. ap (λ xs. get_or xs other 0) is ∙ get_or-set_other words word other value 0 differs;
 }
 
 -- infos and `used` stay durable where none of them is stored to
-pub settled_kept : (capacity : ℕ) (to : ℕ → Type 0) (v w : View) → StoresOnly to v w → ((d : ℕ) → d < capacity → to (info_word d) → ⊥) → (to used_word → ⊥) → HasDurableInfos capacity v → HasDurableInfos capacity w
+pub settled_kept : (capacity : ℕ) (to : ℕ → Type 0) (v w : View) → StoresOnly to v w → ((d : ℕ) → d < capacity → to (info_word d) → ⊥)
+    → (to used_word → ⊥) → HasDurableInfos capacity v → HasDurableInfos capacity w
 settled_kept capacity to v w stores infos used settled = record {
   infos = λ d below. one (info_word d) (infos d below) (settled.infos d below);
   used = one used_word used settled.used;
@@ -34,7 +36,8 @@ settled_kept capacity to v w stores infos used settled = record {
   ]
 
 -- steps that change no word for loads
-pub running_words : (p : Parts) (w : View) (to : ℕ → Type 0) → IsRunning p → w.stopped ≡ None → w.volatile ≡ p.words.volatile → StoresOnly to p.words w → ((d : ℕ) → d < p.capacity → to (info_word d) → ⊥) → (to used_word → ⊥)
+pub running_words : (p : Parts) (w : View) (to : ℕ → Type 0) → IsRunning p → w.stopped ≡ None → w.volatile ≡ p.words.volatile
+    → StoresOnly to p.words w → ((d : ℕ) → d < p.capacity → to (info_word d) → ⊥) → (to used_word → ⊥)
     → w.drawn ≤ w.budget → IsRunning (record p { words = w })
 running_words p w to run running same stores infos used below = record {
   words_open = record { running = running; long = ap length same ∙ run.words_open.long };
@@ -45,7 +48,8 @@ running_words p w to run running same stores infos used below = record {
   shape = run.shape;
   is = subst (λ xs. IsShape p.capacity (λ word. get_or xs word 0) (held_in p) run.shape) (sym same) run.is;
   caches = run.caches;
-  sizes = subst (λ (xs : List ℕ). Rattle.block_heap.specs.Running.KnowsSizes p.capacity run.shape (λ d. get_or xs (info_word d) 0) p.blocks) (sym same) run.sizes;
+  sizes = subst (λ (xs : List ℕ). Rattle.block_heap.specs.Running.KnowsSizes p.capacity run.shape (λ d. get_or xs (info_word d) 0) p.blocks)
+      (sym same) run.sizes;
   settled = settled_kept p.capacity to p.words w stores infos used run.settled;
   pops = λ list less.
       let before = run.pops list less in
@@ -65,7 +69,8 @@ is_head p list run less = record {
 
 -- the held blocks of a heap that runs are stable
 pub running_stable : (p : Parts) → IsRunning p → volatile_at p.words capacity_word ≡ p.capacity → durable_at p.words capacity_word ≡ p.capacity
-    → ((root : ℕ) → root < roots → durable_at p.words (kind_word p.capacity root) ≡ volatile_at p.words (kind_word p.capacity root)) → IsStable p.capacity p.words (held_in p)
+    → ((root : ℕ) → root < roots → durable_at p.words (kind_word p.capacity root) ≡ volatile_at p.words (kind_word p.capacity root))
+    → IsStable p.capacity p.words (held_in p)
 running_stable p run volatile durable kinds = record {
   capacity_is = volatile;
   capacity_durable = durable;

@@ -118,7 +118,8 @@ caches_set p run class t first ws new is first_is count_is few cached start c is
     as (λ _. IsCacheOf t c (cache_at (set p.caches class new) c)) [
       | inl same ↦ subst (λ k. IsCacheOf t k (cache_at (set p.caches class new) k)) (sym same) here
       | inr other ↦
-          let e : cache_at (set p.caches class new) c ≡ cache_at p.caches c = get_or-set_other p.caches class c new (record { first = 0; count = 0 }) other in
+          let e : cache_at (set p.caches class new) c ≡ cache_at p.caches c =
+          get_or-set_other p.caches class c new (record { first = 0; count = 0 }) other in
           let before = run.caches c is_c in
           let words : t.cached c ≡ run.shape.cached c = cached c ∙ with_at_other run.shape.cached class ws c other in
           let begins : t.start c ≡ run.shape.start c = start c ∙ with_at_other run.shape.start class first c other in
@@ -142,7 +143,8 @@ caches_set p run class t first ws new is first_is count_is few cached start c is
           })
 
 -- the cache that was read
-pub read_cache : (p : Parts) (class : ℕ) (cache : Cache) → IsClass class → IsRunning p → cache ≡ get_or p.caches class cache → cache ≡ cache_at p.caches class
+pub read_cache : (p : Parts) (class : ℕ) (cache : Cache) → IsClass class → IsRunning p → cache ≡ get_or p.caches class cache
+    → cache ≡ cache_at p.caches class
 read_cache p class cache is run e =
     let last = is.last in
     let long = run.caches_long in
@@ -153,7 +155,8 @@ pub other_cache : (caches : List Cache) (class : ℕ) (new : Cache) (c : ℕ) �
 other_cache caches class new c other = get_or-set_other caches class c new (record { first = 0; count = 0 }) other
 
 -- steps that store to words of an allocator leave the held blocks
-pub leaves_held_of : (p q : Parts) (held : List Block) (to : ℕ → Type 0) → IsRunning p → q.capacity ≡ p.capacity → looks_of q ≡ looks_of p → q.taken ≡ p.taken
+pub leaves_held_of : (p q : Parts) (held : List Block) (to : ℕ → Type 0) → IsRunning p → q.capacity ≡ p.capacity → looks_of q ≡ looks_of p
+    → q.taken ≡ p.taken
     → ((word : ℕ) → to word → IsAllocatorWord p.capacity held word) → (to used_word → ⊥) → StoresOnly to p.words q.words → LeavesHeld held p q
 leaves_held_of p q held to run capacity look taken are not_used stores = record {
   capacity = capacity;
@@ -167,12 +170,19 @@ leaves_held_of p q held to run capacity look taken are not_used stores = record 
 }
 
 pub leaves_held_none : (p : Parts) (held : List Block) → LeavesHeld held p p
-leaves_held_none p held = record { capacity = refl; as_allocator = as_allocator_none p.capacity held p.words; knows = omega arith; taken = omega arith; looks = looks_kept p p refl }
+leaves_held_none p held = record {
+  capacity = refl;
+  as_allocator = as_allocator_none p.capacity held p.words;
+  knows = omega arith;
+  taken = omega arith;
+  looks = looks_kept p p refl;
+}
 
 pub leaves_held_then : (p q r : Parts) (held : List Block) → LeavesHeld held p q → LeavesHeld held q r → LeavesHeld held p r
 leaves_held_then p q r held a b = record {
   capacity = b.capacity ∙ a.capacity;
-  as_allocator = as_allocator_then p.capacity held p.words q.words r.words a.as_allocator (subst (λ n. StoresAsAllocator n held q.words r.words) a.capacity
+  as_allocator = as_allocator_then p.capacity held p.words q.words r.words a.as_allocator
+      (subst (λ n. StoresAsAllocator n held q.words r.words) a.capacity
       b.as_allocator);
   knows = let x = a.knows in let y = b.knows in omega arith;
   taken = let x = a.taken in let y = b.taken in omega arith;
@@ -191,7 +201,8 @@ even_product index words even =
     omega arith
 
 -- a first word of a block of superblock d
-module _ (p : Parts) (class d word : ℕ) (is : IsClass class) (run : IsRunning p) (within : d < p.capacity) (first : IsFirstOf p.capacity class d word) where
+module _ (p : Parts) (class d word : ℕ) (is : IsClass class) (run : IsRunning p) (within : d < p.capacity)
+    (first : IsFirstOf p.capacity class d word) where
   first_in : IsInSuperblock p.capacity d word
   first_in = first_inside p.capacity class d word is first
 
@@ -225,7 +236,8 @@ pub record IsFirstCached (p : Parts) (class : ℕ) (run : IsRunning p) (first : 
   pub place : (run.shape.place d ≡ in_list class) ⊎ (run.shape.place d ≡ is_full)
 
 -- a cached block
-pub cached_where : (p : Parts) (class : ℕ) (is : IsClass class) (run : IsRunning p) (first : ℕ) (behind : List ℕ) → run.shape.cached class ≡ first ∷ behind
+pub cached_where : (p : Parts) (class : ℕ) (is : IsClass class) (run : IsRunning p) (first : ℕ) (behind : List ℕ)
+    → run.shape.cached class ≡ first ∷ behind
     → IsFirstCached p class run first
 cached_where p class is run first behind e =
     let has : Contains (run.shape.cached class) first = subst (λ xs. Contains xs first) (sym e) (in_head first behind) in
@@ -310,9 +322,11 @@ module _ (p : Parts) (class : ℕ) (is : IsClass class) (run : IsRunning p) (cac
       let n = count_is in
       omega arith
 
-  shape_after : IsShape p.capacity (λ word. volatile_at w word) (held_of h) (with_cache run.shape class next front.behind) × (Contains (held_in p) block → ⊥)
+  shape_after : IsShape p.capacity (λ word. volatile_at w word) (held_of h) (with_cache run.shape class next front.behind)
+      × (Contains (held_in p) block → ⊥)
   shape_after =
-      let both = pop_block p.capacity class cache.first (image_of p) (held_in p) (held_of h) run.shape front.behind is run.is front.cached adds_block in (
+      let both = pop_block p.capacity class cache.first (image_of p) (held_in p)
+      (held_of h) run.shape front.behind is run.is front.cached adds_block in (
         subst (λ (xs : List ℕ). IsShape p.capacity (λ word. get_or xs word 0) (held_of h) (with_cache run.shape class next front.behind))
             (sym loaded.volatile)
             (subst (λ x. IsShape p.capacity (image_of p) (held_of h) (with_cache run.shape class x front.behind)) (sym loaded.seen) both.0),
@@ -347,7 +361,8 @@ module _ (p : Parts) (class : ℕ) (is : IsClass class) (run : IsRunning p) (cac
         next = ap (λ (x : Cache). x.first) now ∙ loaded.seen;
         count = omega arith;
         caches = λ c is_c other. other_cache p.caches class popped_cache c other;
-        drains = pop_block_drains p.capacity class cache.first (image_of p) (held_in p) (held_of h) run.shape front.behind is run.is front.cached adds_block;
+        drains = pop_block_drains p.capacity class cache.first (image_of p) (held_in p)
+            (held_of h) run.shape front.behind is run.is front.cached adds_block;
         volatile = loaded.volatile;
         drawn = let more = loaded.runs_within.drew in let few = loaded.runs_within.few in omega arith;
         taken = refl;

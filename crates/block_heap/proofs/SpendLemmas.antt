@@ -60,7 +60,8 @@ pub spends_by : (count class : ℕ) (p q : Parts) (run : IsRunning p) (cs fs : L
     → count + length cs + length fs + image_of p used_word ≤ length (run.shape.listed class) + length (run.shape.listed 0) + image_of q used_word
     → Spends count class p q
 spends_by count class p q run cs fs is now capacity leads_class leads_free fewer n most =
-    let before = most (run.shape.listed class) (run.shape.listed 0) (run.is.follows class (let last = is.last in omega arith)) (run.is.follows 0 (omega arith)) in
+    let before = most (run.shape.listed class) (run.shape.listed 0) (run.is.follows class (let last = is.last in omega arith))
+    (run.is.follows 0 (omega arith)) in
     let used = now.is.used in (
       n - count,
       omega arith,
@@ -75,5 +76,9 @@ pub costs_of : (class : ℕ) (some : Bool) (p q r : Parts) → some ≡ true →
     → r.capacity ≡ q.capacity → r.words.volatile ≡ q.words.volatile → r.words.drawn ≤ q.words.drawn + 1 → Costs class p r
 costs_of class some p q r is stocks few capacity same one = elim stocks as (λ _. Costs class p r) [
   | inl cached ↦ inl (spends_then 0 0 0 class p q r (omega arith) cached.0 (spends_none class q r capacity same), omega (arith, cached.1))
-  | inr filled ↦ inr (spends_then 1 1 0 class p q r (omega arith) (subst (λ b. Spends (one_if b) class p q) is filled) (spends_none class q r capacity same), omega arith)
+  | inr filled ↦ inr (
+    spends_then 1 1 0 class p q r (omega arith) (subst (λ b. Spends (one_if b) class p q) is filled)
+        (spends_none class q r capacity same),
+    omega arith,
+  )
 ]

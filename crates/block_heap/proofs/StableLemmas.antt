@@ -1,4 +1,5 @@
--- What an allocator stores to leaves held blocks, roots, their kinds and words without a meaning alone, so that every image left names the held blocks.
+-- What an allocator stores to leaves held blocks, roots, their kinds and words without a meaning alone, so that every
+-- image left names the held blocks.
 use Rattle.std.proofs.Common.{◌≡◌, ℕ, ◌<◌, ◌≤◌, ◌⊎◌, inl, inr, List, Contains, refl, sym, subst, ◌∙◌, arith}
 use Rattle.heap_model.specs.declared.block.Block.{Block}
 use Rattle.heap_model.specs.Geometry.{roots, largest_capacity, root_word, info_word, used_word, capacity_word, start_word, kind_word, IsReserved, in_header, in_descriptor, IsKindWord}
@@ -26,7 +27,8 @@ module _ (capacity : ℕ) (held : List Block) where
     fits = λ fits. fits;
   }
 
-  pub as_allocator_then : (v u w : View) → StoresAsAllocator capacity held v u → StoresAsAllocator capacity held u w → StoresAsAllocator capacity held v w
+  pub as_allocator_then : (v u w : View) → StoresAsAllocator capacity held v u → StoresAsAllocator capacity held u w
+      → StoresAsAllocator capacity held v w
   as_allocator_then v u w a b = record {
     stores = stores_then (IsAllocatorWord capacity held) v u w a.stores b.stores;
     used = let p = a.used in let q = b.used in omega arith;
@@ -43,16 +45,19 @@ module _ (capacity : ℕ) (held : List Block) where
   fewer_word fewer word are (is_link d below e) = is_link d below e
   fewer_word fewer word are (is_inside from until none) = is_inside from until (λ b p in_b. none b (are b p) in_b)
 
-  pub as_allocator_fewer : (fewer : List Block) (v w : View) → ((b : Block) → Contains fewer b → Contains held b) → StoresAsAllocator capacity held v w → StoresAsAllocator capacity fewer v w
+  pub as_allocator_fewer : (fewer : List Block) (v w : View) → ((b : Block) → Contains fewer b → Contains held b)
+      → StoresAsAllocator capacity held v w → StoresAsAllocator capacity fewer v w
   as_allocator_fewer fewer v w are as_allocator = record {
-    stores = stores_more (IsAllocatorWord capacity held) (IsAllocatorWord capacity fewer) v w (λ word may. fewer_word fewer word are may) as_allocator.stores;
+    stores = stores_more (IsAllocatorWord capacity held) (IsAllocatorWord capacity fewer) v w
+        (λ word may. fewer_word fewer word are may) as_allocator.stores;
     used = as_allocator.used;
     used_durable = as_allocator.used_durable;
     fits = as_allocator.fits;
   }
 
   -- steps that store to such words, but not to `used`, which is durable as loads see it
-  pub as_allocator_of : (to : ℕ → Type 0) (v w : View) → ((word : ℕ) → to word → IsAllocatorWord capacity held word) → (to used_word → ⊥) → StoresOnly to v w → durable_at v used_word ≡ volatile_at v used_word
+  pub as_allocator_of : (to : ℕ → Type 0) (v w : View) → ((word : ℕ) → to word → IsAllocatorWord capacity held word) → (to used_word → ⊥)
+      → StoresOnly to v w → durable_at v used_word ≡ volatile_at v used_word
       → StoresAsAllocator capacity held v w × (durable_at w used_word ≡ volatile_at w used_word) × (volatile_at w used_word ≡ volatile_at v used_word)
   as_allocator_of to v w are not_used stores settled =
       let same : volatile_at w used_word ≡ volatile_at v used_word = stores.volatile used_word not_used in
@@ -69,7 +74,8 @@ module _ (capacity : ℕ) (held : List Block) where
       )
 
   -- steps that raise `used`
-  pub as_allocator_raised : (value : ℕ) (v w : View) → StoresOnly (λ word. word ≡ used_word) v w → MayLeaveStore used_word value v w → durable_at v used_word ≡ volatile_at v used_word → volatile_at v used_word ≤ value
+  pub as_allocator_raised : (value : ℕ) (v w : View) → StoresOnly (λ word. word ≡ used_word) v w → MayLeaveStore used_word value v w
+      → durable_at v used_word ≡ volatile_at v used_word → volatile_at v used_word ≤ value
       → (UsedFits capacity v → UsedFits capacity w) → StoresAsAllocator capacity held v w
   as_allocator_raised value v w stores may settled more fits = record {
     stores = stores_more (λ word. word ≡ used_word) (IsAllocatorWord capacity held) v w (λ word e. is_used e) stores;
@@ -93,7 +99,8 @@ module _ (capacity : ℕ) (held : List Block) where
       }
 
   -- an allocator stores to no own word of the seat
-  pub not_own : (v : View) (word : ℕ) → capacity ≤ largest_capacity → IsStable capacity v held → IsAllocatorWord capacity held word → IsOwn held (words_from (λ n. n) 0 roots) word → ⊥
+  pub not_own : (v : View) (word : ℕ) → capacity ≤ largest_capacity → IsStable capacity v held → IsAllocatorWord capacity held word
+      → IsOwn held (words_from (λ n. n) 0 roots) word → ⊥
   not_own v word small stable may own = by_word may own where
     fixed_apart : (((root_word 0 ≤ word) × (word < info_word 0)) ⊎ (start_word capacity 0 ≤ word))
         → (word < root_word 0) ⊎ ((info_word 0 ≤ word) × (word < start_word capacity 0)) → ⊥
@@ -211,7 +218,8 @@ module _ (capacity : ℕ) (held : List Block) where
   }
 
   -- an allocator stores to no info of a superblock that a held block has a part in
-  not_info : (b : Block) (d word : ℕ) → Contains held b → HasPartIn capacity b d → d < capacity → word ≡ info_word d → IsAllocatorWord capacity held word → ⊥
+  not_info : (b : Block) (d word : ℕ) → Contains held b → HasPartIn capacity b d → d < capacity → word ≡ info_word d
+      → IsAllocatorWord capacity held word → ⊥
   not_info b d word holds part below at (is_used e) = omega arith
   not_info b d word holds part below at (is_head list few e) = omega arith
   not_info b d word holds part below at (is_info c less none e) =
@@ -224,8 +232,10 @@ module _ (capacity : ℕ) (held : List Block) where
   pub stable_kept : (v w : View) → IsStable capacity v held → StoresAsAllocator capacity held v w → IsStable capacity w held
   stable_kept v w stable as_allocator =
       let fits = stable.fits in
-      stable_by (IsAllocatorWord capacity held) v w stable as_allocator.stores (λ may. not_first capacity_word may (omega arith)) (λ word kind may. not_kind word kind may)
-      (let p = stable.used in let q = as_allocator.used in omega arith) (let p = stable.used_durable in let q = as_allocator.used_durable in omega arith)
+      stable_by (IsAllocatorWord capacity held) v w stable as_allocator.stores (λ may. not_first capacity_word may (omega arith))
+      (λ word kind may. not_kind word kind may)
+      (let p = stable.used in let q = as_allocator.used in omega arith) (let p = stable.used_durable in let q = as_allocator.used_durable in
+      omega arith)
       (λ b d holds part may.
       let taken = part_taken (low_layout capacity held v stable.low) b d (stable.named b holds) part in
       not_info b d (info_word d) holds part (omega arith) refl may)
@@ -243,15 +253,18 @@ module _ (capacity : ℕ) (held : List Block) where
       (elim (stores.durable used_word not_used) as (λ _. stable.low ≤ durable_at w used_word) [ inl e ↦ omega arith | inr e ↦ omega arith ])
       (λ b d holds part t.
       let taken = part_taken (low_layout capacity held v stable.low) b d (stable.named b holds) part in
-      elim (own_where capacity held v (info_word d) stable (own (info_word d) t)) as (λ _. ⊥) [ inl at_root ↦ omega (arith, at_root.1) | inr inside ↦ omega arith ])
+      elim (own_where capacity held v (info_word d) stable (own (info_word d) t)) as
+      (λ _. ⊥) [ inl at_root ↦ omega (arith, at_root.1) | inr inside ↦ omega arith ])
     where
       header_apart : (word : ℕ) → to word → word < 16 → ⊥
-      header_apart word t few = elim (own_where capacity held v word stable (own word t)) as (λ _. ⊥) [ inl at_root ↦ omega (arith, at_root.0) | inr inside ↦ omega arith ]
+      header_apart word t few = elim (own_where capacity held v word stable (own word t)) as
+          (λ _. ⊥) [ inl at_root ↦ omega (arith, at_root.0) | inr inside ↦ omega arith ]
 
       not_used : to used_word → ⊥
       not_used t = header_apart used_word t (omega arith)
 
-  pub stable_fewer : (fewer : List Block) (v : View) → ((b : Block) → Contains fewer b → Contains held b) → IsStable capacity v held → IsStable capacity v fewer
+  pub stable_fewer : (fewer : List Block) (v : View) → ((b : Block) → Contains fewer b → Contains held b) → IsStable capacity v held
+      → IsStable capacity v fewer
   stable_fewer fewer v are stable = record {
     capacity_is = stable.capacity_is;
     capacity_durable = stable.capacity_durable;

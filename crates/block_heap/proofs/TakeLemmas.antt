@@ -34,7 +34,8 @@ use Rattle.block_heap.proofs.SpendLemmas.{spends_by}
 use Rattle.block_heap.proofs.LookLemmas.{IsNextLook, looked_at_head}
 use Rattle.block_heap.proofs.RefillLemmas.{IsMoved, a_head, an_anchor, a_link, moved_info, moved_used, moved_inside, leaves_held_moved, IsMade, made, caches_filled, caches_other, sizes_kept, none_cached, pop_moved, popped_head, popped_of, popped_pops, popped_list, popped_place}
 
-module _ (p : Parts) (class d : ℕ) (popped : Popped) (w : View) (look : Look) (run : IsRunning p) (is : IsClass class) (pop : IsPopped class popped p.words w)
+module _ (p : Parts) (class d : ℕ) (popped : Popped) (w : View) (look : Look) (run : IsRunning p) (is : IsClass class)
+    (pop : IsPopped class popped p.words w)
     (pop_stores : StoresOnly (λ word. word ≡ head_word class) p.words w) (some : popped.first ≡ Some d) where
   below : class < lists
   below = let last = is.last in omega arith
@@ -53,7 +54,8 @@ module _ (p : Parts) (class d : ℕ) (popped : Popped) (w : View) (look : Look) 
 
   -- the free list is that of the shape
   free_one : (fs : List ℕ) → LeadsAlong p 0 fs → run.shape.listed 0 ≡ fs
-  free_one fs leads = one_following (λ e. image_of p (link_word e)) p.capacity (head_first (head_at p 0)) (run.shape.listed 0) fs (run.is.follows 0 (omega arith)) leads
+  free_one fs leads = one_following (λ e. image_of p (link_word e)) p.capacity (head_first (head_at p 0)) (run.shape.listed 0) fs
+      (run.is.follows 0 (omega arith)) leads
 
   place : run.shape.place d ≡ in_list class
   place = (popped_place p class popped w run below pop pop_stores d some).0
@@ -76,7 +78,8 @@ module _ (p : Parts) (class d : ℕ) (popped : Popped) (w : View) (look : Look) 
   first_some none = let head = popped_head p class popped w run below pop pop_stores d some in omega arith
 
   most_free : length (run.shape.chain d) ≤ blocks_of class
-  most_free = elim stands.state as (λ _. length (run.shape.chain d) ≤ blocks_of class) [ inl all ↦ omega (arith, all.1) | inr part ↦ omega (arith, part.1) ]
+  most_free = elim stands.state as (λ _. length (run.shape.chain d) ≤ blocks_of class)
+      [ inl all ↦ omega (arith, all.1) | inr part ↦ omega (arith, part.1) ]
 
   -- its blocks are taken
   module _ (u : View) (take_stores : StoresOnly (λ word. word ≡ anchor_word d) w u) where
@@ -108,10 +111,12 @@ module _ (p : Parts) (class d : ℕ) (popped : Popped) (w : View) (look : Look) 
       cache_count : cache.count ≡ length (run.shape.chain d)
       cache_count = is_taken.words.2 ∙ ap anchor_count anchor_kept ∙ stands.of_class.count
 
-      stood : (e : ℕ) → e < p.capacity → IsClass (image_of p (info_word e)) → (shape.place e ≡ in_list (image_of p (info_word e))) ⊎ (shape.place e ≡ is_full)
+      stood : (e : ℕ) → e < p.capacity → IsClass (image_of p (info_word e))
+          → (shape.place e ≡ in_list (image_of p (info_word e))) ⊎ (shape.place e ≡ is_full)
           → (run.shape.place e ≡ in_list (image_of p (info_word e))) ⊎ (run.shape.place e ≡ is_full)
       stood e within is_e at = elim (cases_eq e d) as (λ _. (run.shape.place e ≡ in_list (image_of p (info_word e))) ⊎ (run.shape.place e ≡ is_full)) [
-        | inl same ↦ inl (subst (λ k. run.shape.place k ≡ in_list (image_of p (info_word k))) (sym same) (place ∙ ap in_list (sym stands.of_class.info)))
+        | inl same ↦ inl (subst (λ k. run.shape.place k ≡ in_list (image_of p (info_word k))) (sym same) (place
+            ∙ ap in_list (sym stands.of_class.info)))
         | inr other ↦ let kept = with_at_other run.shape.place d is_full e other in
             elim at as (λ _. (run.shape.place e ≡ in_list (image_of p (info_word e))) ⊎ (run.shape.place e ≡ is_full))
             [ inl l ↦ inl (sym kept ∙ l) | inr f ↦ inr (sym kept ∙ f) ]
@@ -130,7 +135,8 @@ module _ (p : Parts) (class d : ℕ) (popped : Popped) (w : View) (look : Look) 
         is = take p.capacity class d (image_of p) (λ word. volatile_at w word) (image_of taken_parts) (held_in p) run.shape rest is run.is listed
             (none_cached p class run is empty)
             (popped_of p class popped w run below pop pop_stores d some) anchor_set;
-        caches = caches_filled run.shape shape p.caches class first (run.shape.chain d) cache run.caches_long is run.caches refl refl cache_first cache_count
+        caches = caches_filled run.shape shape p.caches class first (run.shape.chain d)
+            cache run.caches_long is run.caches refl refl cache_first cache_count
             (let count = cache_count in let most = most_free in omega arith);
         sizes = sizes_kept p.capacity run.shape shape (λ e. image_of p (info_word e)) (λ e. volatile_at u (info_word e)) p.blocks run.sizes
             (λ e within. take_moved.volatile (info_word e) (λ m. moved_info p.capacity e (info_word e) m refl)) stood;
@@ -157,12 +163,14 @@ module _ (p : Parts) (class d : ℕ) (popped : Popped) (w : View) (look : Look) 
         heads = λ c is_c other.
             take_stores.volatile (head_word c) (λ e. let last = is_c.last in omega arith)
             ∙ pop_stores.volatile (head_word c) (λ e. other (omega arith));
-        drains = take_drains p.capacity class d (image_of p) (λ word. volatile_at w word) (image_of taken_parts) (held_in p) run.shape rest is run.is listed
+        drains = take_drains p.capacity class d (image_of p) (λ word. volatile_at w word) (image_of taken_parts)
+            (held_in p) run.shape rest is run.is listed
             (popped_of p class popped w run below pop pop_stores d some) anchor_set;
       }
 
       pub taken_leaves_held : IsNextLook p look → LeavesHeld (held_in p) p taken_parts
-      taken_leaves_held next = leaves_held_moved p taken_parts run take_moved refl refl refl (first_looked taken_parts next take_stores.drawn (omega arith) refl refl)
+      taken_leaves_held next = leaves_held_moved p taken_parts run take_moved refl refl refl
+          (first_looked taken_parts next take_stores.drawn (omega arith) refl refl)
 
       pub taken_some : (1 ≤ (cache_at (set p.caches class cache) class).count) × (IsEmptyList p class → ⊥)
       taken_some =
@@ -177,7 +185,8 @@ module _ (p : Parts) (class d : ℕ) (popped : Popped) (w : View) (look : Look) 
       taken_list list ds less is_ds = subst (λ (es : List ℕ). LeadsAlong taken_parts list es) is_ds (made_taken.is.follows list less)
 
       free_stays : LeadsAlong taken_parts 0 (run.shape.listed 0)
-      free_stays = taken_list 0 (run.shape.listed 0) (omega arith) (with_at_other run.shape.listed class rest 0 (λ e. let from = is.some in omega arith))
+      free_stays = taken_list 0 (run.shape.listed 0) (omega arith) (with_at_other run.shape.listed class rest 0 (λ e. let from = is.some in
+          omega arith))
 
       pub taken_all : TakesAll class d p taken_parts
       taken_all = record {
@@ -189,7 +198,8 @@ module _ (p : Parts) (class d : ℕ) (popped : Popped) (w : View) (look : Look) 
         rest = taken_list class rest below (with_at_same run.shape.listed class rest);
         partial = ap anchor_state (sym anchor_kept) ∙ is_taken.words.0;
         cache = get_or-set_same p.caches class cache (record { first = 0; count = 0 }) (let long = run.caches_long in let less = below in omega arith)
-            ∙ same_cache cache (record { first = first; count = anchor_count (image_of p (anchor_word d)) }) cache_first (is_taken.words.2 ∙ ap anchor_count anchor_kept);
+            ∙ same_cache cache (record { first = first; count = anchor_count (image_of p (anchor_word d)) }) cache_first (is_taken.words.2
+            ∙ ap anchor_count anchor_kept);
         now = anchor_set.at;
         info = take_moved.volatile (info_word d) (λ m. moved_info p.capacity d (info_word d) m refl);
         words = λ word inside. take_moved.volatile word (λ m. moved_inside p.capacity d word m inside);
@@ -258,12 +268,14 @@ module _ (p : Parts) (class d : ℕ) (popped : Popped) (w : View) (look : Look) 
         stood_then : (e : ℕ) → e < p.capacity → IsClass (image_of p (info_word e))
             → (shape_then.place e ≡ in_list (image_of p (info_word e))) ⊎ (shape_then.place e ≡ is_full)
             → (run.shape.place e ≡ in_list (image_of p (info_word e))) ⊎ (run.shape.place e ≡ is_full)
-        stood_then e within is_e at = elim (cases_eq e d) as (λ _. (run.shape.place e ≡ in_list (image_of p (info_word e))) ⊎ (run.shape.place e ≡ is_full)) [
-          | inl same ↦ inl (subst (λ k. run.shape.place k ≡ in_list (image_of p (info_word k))) (sym same) (place ∙ ap in_list (sym stands.of_class.info)))
-          | inr other ↦ let kept = with_at_other run.shape.place d (in_list 0) e other in
-              elim at as (λ _. (run.shape.place e ≡ in_list (image_of p (info_word e))) ⊎ (run.shape.place e ≡ is_full))
-              [ inl l ↦ inl (sym kept ∙ l) | inr f ↦ inr (sym kept ∙ f) ]
-        ]
+        stood_then e within is_e at = elim (cases_eq e d) as (λ _. (run.shape.place e ≡ in_list (image_of p (info_word e))) ⊎
+            (run.shape.place e ≡ is_full)) [
+              | inl same ↦ inl (subst (λ k. run.shape.place k ≡ in_list (image_of p (info_word k))) (sym same) (place
+                  ∙ ap in_list (sym stands.of_class.info)))
+              | inr other ↦ let kept = with_at_other run.shape.place d (in_list 0) e other in
+                  elim at as (λ _. (run.shape.place e ≡ in_list (image_of p (info_word e))) ⊎ (run.shape.place e ≡ is_full))
+                  [ inl l ↦ inl (sym kept ∙ l) | inr f ↦ inr (sym kept ∙ f) ]
+            ]
 
         -- the heads: only that of the class was popped
         count_then : (list : ℕ) → list < lists → head_pops (volatile_at v (head_word list)) ≤ head_pops (head_at p list) + 1
@@ -298,7 +310,8 @@ module _ (p : Parts) (class d : ℕ) (popped : Popped) (w : View) (look : Look) 
           below = pushed.runs_within.below;
           caches_long = run.caches_long;
           looks_long = length-set p.head_looks class look ∙ run.looks_long;
-          is = recycle p.capacity class d (image_of p) (λ word. volatile_at w word) (image_of recycled) (held_in p) run.shape rest is run.is listed state
+          is = recycle p.capacity class d (image_of p) (λ word. volatile_at w word) (image_of recycled)
+              (held_in p) run.shape rest is run.is listed state
               (popped_of p class popped w run below pop pop_stores d some) pushed_on;
           caches = λ c is_c. record { first = (run.caches c is_c).first; count = (run.caches c is_c).count; most = (run.caches c is_c).most };
           sizes = sizes_kept p.capacity run.shape shape_then (λ e. image_of p (info_word e)) (λ e. volatile_at v (info_word e)) p.blocks run.sizes
@@ -330,7 +343,8 @@ module _ (p : Parts) (class d : ℕ) (popped : Popped) (w : View) (look : Look) 
               ])
               ∙ take_stores.volatile (head_word c) (λ e. let last = is_c.last in omega arith)
               ∙ pop_stores.volatile (head_word c) (λ e. other (omega arith));
-          drains = recycle_drains p.capacity class d (image_of p) (λ word. volatile_at w word) (image_of recycled) (held_in p) run.shape rest is run.is listed
+          drains = recycle_drains p.capacity class d (image_of p) (λ word. volatile_at w word) (image_of recycled)
+              (held_in p) run.shape rest is run.is listed
               (popped_of p class popped w run below pop pop_stores d some) pushed_on;
         }
 
@@ -346,7 +360,8 @@ module _ (p : Parts) (class d : ℕ) (popped : Popped) (w : View) (look : Look) 
         recycled_first = record {
           some = first_some;
           now = λ none.
-              let follows = subst (λ (ds : List ℕ). Follows (λ e. image_of recycled (link_word e)) p.capacity (head_first (head_at recycled 0)) ds) now_free
+              let follows = subst (λ (ds : List ℕ). Follows (λ e. image_of recycled (link_word e)) p.capacity
+              (head_first (head_at recycled 0)) ds) now_free
               (made_recycled.is.follows 0 (omega arith)) in
               let from = follows.0 in
               omega arith;
@@ -354,7 +369,8 @@ module _ (p : Parts) (class d : ℕ) (popped : Popped) (w : View) (look : Look) 
           shorter = λ ds leads.
               let follows = subst (λ (es : List ℕ). Follows (λ e. image_of recycled (link_word e)) p.capacity (head_first (head_at recycled class)) es)
               now_rest (made_recycled.is.follows class below) in
-              let same : rest ≡ ds = one_following (λ e. image_of recycled (link_word e)) p.capacity (head_first (head_at recycled class)) rest ds follows
+              let same : rest ≡ ds = one_following (λ e. image_of recycled (link_word e)) p.capacity
+              (head_first (head_at recycled class)) rest ds follows
               leads in (
                 d,
                 subst (λ (es : List ℕ). LeadsAlong p class (d ∷ es)) same
@@ -378,7 +394,8 @@ module _ (p : Parts) (class d : ℕ) (popped : Popped) (w : View) (look : Look) 
             ∙ pop_stores.volatile (anchor_word e) (λ at. let last = is.last in omega arith)
 
         all_free : anchor_state (image_of p (anchor_word d)) ≡ empty_state
-        all_free = elim stands.state as (λ _. anchor_state (image_of p (anchor_word d)) ≡ empty_state) [ inl all ↦ all.0 | inr part ↦ absurd (state part.0) ]
+        all_free = elim stands.state as (λ _. anchor_state (image_of p (anchor_word d)) ≡ empty_state)
+            [ inl all ↦ all.0 | inr part ↦ absurd (state part.0) ]
 
         pub recycled_moves : MovesEmpty class p recycled
         recycled_moves = record {
@@ -392,16 +409,18 @@ module _ (p : Parts) (class d : ℕ) (popped : Popped) (w : View) (look : Look) 
           moved = d ∷ [];
           were = λ ds leads.
               subst (λ es. LeadsAlong p class (d ∷ es))
-              (one_following (λ e. image_of recycled (link_word e)) p.capacity (head_first (head_at recycled class)) rest ds rest_leads leads) list_leads;
+              (one_following (λ e. image_of recycled (link_word e)) p.capacity (head_first (head_at recycled class)) rest ds rest_leads leads)
+              list_leads;
           passed = λ e has. elim (head_or_rest d e [] has) as (λ _. anchor_state (image_of p (anchor_word e)) ≡ empty_state) [
             | inl same ↦ subst (λ k. anchor_state (image_of p (anchor_word k)) ≡ empty_state) same all_free
             | inr none ↦ absurd (in_none e none)
           ];
           frees = λ fs leads. subst (λ xs. LeadsAlong recycled 0 (d ∷ xs)) (free_one fs leads) free_leads;
-          nothing = λ none e there. elim (head_or_rest d e rest (in_list_has p class e (d ∷ rest) there list_leads)) as (λ _. anchor_state (image_of p (anchor_word e)) ≡ empty_state) [
-            | inl same ↦ subst (λ k. anchor_state (image_of p (anchor_word k)) ≡ empty_state) same all_free
-            | inr later ↦ ap anchor_state (sym (anchors_stay e)) ∙ none e (in_list_along recycled class e rest rest_leads later)
-          ];
+          nothing = λ none e there. elim (head_or_rest d e rest (in_list_has p class e (d ∷ rest) there list_leads)) as
+              (λ _. anchor_state (image_of p (anchor_word e)) ≡ empty_state) [
+                | inl same ↦ subst (λ k. anchor_state (image_of p (anchor_word k)) ≡ empty_state) same all_free
+                | inr later ↦ ap anchor_state (sym (anchors_stay e)) ∙ none e (in_list_along recycled class e rest rest_leads later)
+              ];
           free = list_kept p recycled 0 0 (run.shape.listed 0) (d ∷ run.shape.listed 0) (run.is.follows 0 (omega arith)) free_leads
               (λ e. in_rest d e (run.shape.listed 0));
         }

@@ -13,14 +13,16 @@ pub record UsedFits (capacity : ℕ) (v : View) : Type 0 where
   pub volatile : volatile_at v used_word ≤ capacity
   pub durable : durable_at v used_word ≤ capacity
 
--- a word that an allocator may store to while these blocks are held: `used`, heads and descriptors, but no info of a superblock that a held block has a part in; and words of superblocks that no held block has
+-- a word that an allocator may store to while these blocks are held: `used`, heads and descriptors, but no info of a
+-- superblock that a held block has a part in; and words of superblocks that no held block has
 pub data IsAllocatorWord (capacity : ℕ) (held : List Block) (word : ℕ) : Type 0 where
   is_used : word ≡ used_word → IsAllocatorWord capacity held word
   is_head : (list : ℕ) → list < lists → word ≡ head_word list → IsAllocatorWord capacity held word
   is_info : (d : ℕ) → d < capacity → HasNoHeld capacity held d → word ≡ info_word d → IsAllocatorWord capacity held word
   is_anchor : (d : ℕ) → d < capacity → word ≡ anchor_word d → IsAllocatorWord capacity held word
   is_link : (d : ℕ) → d < capacity → word ≡ link_word d → IsAllocatorWord capacity held word
-  is_inside : start_word capacity 0 ≤ word → word < superblocks_end capacity → ((b : Block) → Contains held b → IsIn b word → ⊥) → IsAllocatorWord capacity held word
+  is_inside : start_word capacity 0 ≤ word → word < superblocks_end capacity → ((b : Block) → Contains held b → IsIn b word → ⊥)
+      → IsAllocatorWord capacity held word
 
 -- it stores to no other word, and `used` rises, of what loads see and of what is durable, and not past the capacity
 pub record StoresAsAllocator (capacity : ℕ) (held : List Block) (v w : View) : Type 0 where
@@ -29,7 +31,8 @@ pub record StoresAsAllocator (capacity : ℕ) (held : List Block) (v w : View) :
   pub used_durable : durable_at v used_word ≤ durable_at w used_word
   pub fits : UsedFits capacity v → UsedFits capacity w
 
--- each held block is named whichever of its two values each word has: its infos are durable, and it ends below both values of `used`; and the kinds of the roots are durable as loads see them
+-- each held block is named whichever of its two values each word has: its infos are durable, and it ends below both
+-- values of `used`; and the kinds of the roots are durable as loads see them
 pub record IsStable (capacity : ℕ) (v : View) (held : List Block) : Type 0 where
   pub capacity_is : volatile_at v capacity_word ≡ capacity
   pub capacity_durable : durable_at v capacity_word ≡ capacity

@@ -59,14 +59,16 @@ pub record IsListedFirst (capacity list d : ℕ) (image new : Image) : Type 0 wh
 abbrev pub IsFullAt : Image → ℕ → Type 0
 IsFullAt image d = anchor_state (image (anchor_word d)) ≡ full_state
 
--- a word that giving the run back changes: the anchor; and the last block, which leads to those that were free, or where none was the link and the head of the list
+-- a word that giving the run back changes: the anchor; and the last block, which leads to those that were free, or
+-- where none was the link and the head of the list
 pub data IsRunWord (class : ℕ) (run : BlockRun) (image : Image) (word : ℕ) : Type 0 where
   at_anchor : word ≡ anchor_word run.superblock → IsRunWord class run image word
   at_last : (before : List ℕ) → run.blocks ≡ before ++ word ∷ [] → (IsFullAt image run.superblock → ⊥) → IsRunWord class run image word
   at_link : IsFullAt image run.superblock → word ≡ link_word run.superblock → IsRunWord class run image word
   at_head : IsFullAt image run.superblock → word ≡ head_word (list_with class (length run.blocks)) → IsRunWord class run image word
 
--- the run was given back: its blocks, chained as they were, are in front of the free ones of their superblock; one that was full is the first of a list now, and another stays where it was; no other word changes
+-- the run was given back: its blocks, chained as they were, are in front of the free ones of their superblock; one that
+-- was full is the first of a list now, and another stays where it was; no other word changes
 pub record GivesRun (capacity class : ℕ) (run : BlockRun) (image new : Image) : Type 0 where
   pub free : List ℕ
   pub were : HasFree capacity class image run.superblock free

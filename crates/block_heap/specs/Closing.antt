@@ -18,7 +18,8 @@ pub record IsOpened (words : List ℕ) (held : List Block) (budget : ℕ) (s : S
 abbrev pub most_large_draws : ℕ
 most_large_draws = 2 ^ 17
 
--- capacity and length stay, and so do the first four words of the header, those that have no meaning and the kinds of the roots, as loads see them; where such a word was durable as loads see it, it still is
+-- capacity and length stay, and so do the first four words of the header, those that have no meaning and the kinds of
+-- the roots, as loads see them; where such a word was durable as loads see it, it still is
 pub record KeepsFixed (s t : SeqState) : Type 0 where
   pub capacity : t.parts.capacity ≡ s.parts.capacity
   pub long : word_count t.parts.words ≡ word_count s.parts.words

@@ -25,7 +25,8 @@ three_and_five = refl
 abbrev small_block : Block
 small_block = record { first_word = 1078; words = 6 }
 
--- while the block is held an allocator may store to `used`, to the anchor of its superblock and to the words beside it, but not to a root, the info or a word of the block
+-- while the block is held an allocator may store to `used`, to the anchor of its superblock and to the words beside it,
+-- but not to a root, the info or a word of the block
 abbrev one_held : List Block
 one_held = small_block ∷ []
 

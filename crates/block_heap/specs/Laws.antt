@@ -81,7 +81,8 @@ mixed_law s image left = record {
 -- each image that may be left has the capacity and the kinds of the roots
 left_capacity : (s : SeqState) (image : Image) → MayLeave s image → capacity_of image ≡ s.parts.capacity
 left_capacity s image left = decided (cases_eq (capacity_of image) s.parts.capacity)
-    (λ (lasts : Lasts s). elim (left.others capacity_word (λ e. omega (arith, e)) (header_lasts s.parts.capacity capacity_word (omega arith))) as (λ _. capacity_of image ≡ s.parts.capacity) [
+    (λ (lasts : Lasts s). elim (left.others capacity_word (λ e. omega (arith, e)) (header_lasts s.parts.capacity capacity_word (omega arith)))
+    as (λ _. capacity_of image ≡ s.parts.capacity) [
       | inl e ↦ e ∙ lasts.stable.capacity_durable
       | inr e ↦ e ∙ lasts.stable.capacity_is
     ]) s.lasts
@@ -91,7 +92,8 @@ left_kind : (s : SeqState) (image : Image) → MayLeave s image → (root : ℕ)
 left_kind s image left root below =
     let word = kind_word s.parts.capacity root in
     decided (cases_eq (image word) (volatile_at s.parts.words word))
-    (λ (lasts : Lasts s). elim (left.others word (λ e. omega (arith, e)) (kinds_last s.parts.capacity root)) as (λ _. image word ≡ volatile_at s.parts.words word) [
+    (λ (lasts : Lasts s). elim (left.others word (λ e. omega (arith, e)) (kinds_last s.parts.capacity root)) as
+    (λ _. image word ≡ volatile_at s.parts.words word) [
       | inl e ↦ e ∙ lasts.stable.kinds_durable root below
       | inr e ↦ e
     ]) s.lasts

@@ -27,7 +27,8 @@ pub record KeepsSuperblock (e : ℕ) (p q : Parts) : Type 0 where
 abbrev pub Frees : List ℕ → Parts → Parts → Type 0
 Frees ds p q = (fs : List ℕ) → LeadsAlong p 0 fs → LeadsAlong q 0 (reverse ds ++ fs)
 
--- superblock d is the first in the list of the class that has blocks in use: all that it had free are in the cache, chained as they were, and the list begins behind it; each other superblock stays
+-- superblock d is the first in the list of the class that has blocks in use: all that it had free are in the cache,
+-- chained as they were, and the list begins behind it; each other superblock stays
 pub record TakesAll (class d : ℕ) (p q : Parts) : Type 0 where
   pub within : d < p.capacity
   pub before : List ℕ
@@ -48,7 +49,8 @@ pub record TakesAll (class d : ℕ) (p q : Parts) : Type 0 where
   pub free : KeepsFree p q
   pub taken : q.taken ≡ p.taken
 
--- superblock d is cut for the class, and all its blocks are in the cache, chained in ascending order; each other superblock stays, and none leaves the free list
+-- superblock d is cut for the class, and all its blocks are in the cache, chained in ascending order; each other
+-- superblock stays, and none leaves the free list
 pub record CutsAll (class d : ℕ) (p q : Parts) : Type 0 where
   pub info : image_of q (info_word d) ≡ class
   pub cache : cache_at q.caches class ≡ record { first = start_word p.capacity d; count = blocks_of class }
@@ -67,7 +69,8 @@ pub record TakesFree (class d : ℕ) (p q : Parts) : Type 0 where
   pub empty : IsEmptyList q class
   pub rest : LeadsAlong q 0 behind
 
--- where the empty cache of a class is filled from: its list; if that has nothing to give a free superblock, which may have been in it; if there is none a superblock that was never taken
+-- where the empty cache of a class is filled from: its list; if that has nothing to give a free superblock, which may
+-- have been in it; if there is none a superblock that was never taken
 pub data RefillsFrom (class : ℕ) (p q : Parts) : Type 0 where
   from_class_list : (d : ℕ) → TakesAll class d p q → RefillsFrom class p q
   from_free_list : (d : ℕ) → HasNothing class p → TakesFree class d p q → CutsAll class d p q → q.taken ≡ p.taken

@@ -42,7 +42,8 @@ pub record GivesInRuns (class : ℕ) (p q : Parts) : Type 0 where
   pub cut : AreRunsOf p.capacity class words runs
   pub gives : GivesRuns p.capacity class runs (image_of p) (image_of q)
 
--- the cache was given back, so that a superblock of each of its blocks is in the list of the class or in the free list: it came to the free list exactly where the cache had exactly its blocks, and no list loses one
+-- the cache was given back, so that a superblock of each of its blocks is in the list of the class or in the free list:
+-- it came to the free list exactly where the cache had exactly its blocks, and no list loses one
 pub record Flushes (class : ℕ) (p q : Parts) : Type 0 where
   pub capacity : q.capacity ≡ p.capacity
   pub in_runs : GivesInRuns class p q

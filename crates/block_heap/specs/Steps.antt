@@ -39,7 +39,8 @@ pub record IsLook (from : ℕ) (q : Parts) (look : Look) (seen : ℕ) : Type 0 w
   pub until : ticket < q.words.drawn
   pub taken_is : look.taken ≡ q.taken
 
--- on the way to fill the cache of the class: the parts are right again, and held blocks, what is to be drained and the caches and lists of the other classes are as before
+-- on the way to fill the cache of the class: the parts are right again, and held blocks, what is to be drained and the
+-- caches and lists of the other classes are as before
 pub record IsRefilling (class : ℕ) (p q : Parts) : Type 0 where
   pub running : IsRunning q
   pub held : held_in q ≡ held_in p

@@ -41,20 +41,26 @@ module _ {M : Type 1} {𝓤 : Ura M} (𝓛 : Logic 𝓤) where
   Told s m = (s ≢ 0 → IsSome m) × (s ≡ 1 → IfSome m IsReady)
 
   pub tells : (s : ℕ) (p : Ptr) (m : Option Store) → ent 𝓤 (sem 𝓛 (owns_by s p m)) (guard 𝓤 (Told s m) (sem 𝓛 (owns_by s p m)))
-  tells s p (Some x) = qed 𝓛 (‵ (owns_by s p (Some x)) ∷ []) ∵ fsplit ! $ fpick ! (λ good. check ! ((λ _. refl), good) $ fpack ! (s ≡ 1 → IsReady x) (λ _. ftrue) good $ fjoin ! $ done !)
-  tells s p None = qed 𝓛 (‵ (owns_by s p None) ∷ []) ∵ feq_l ! (λ e. check ! ((λ some. absurd (some e)), (λ one. absurd (no_both s e one))) $ feq_i ! ℕ s 0 e $ done !)
+  tells s p (Some x) = qed 𝓛 (‵ (owns_by s p (Some x)) ∷ []) ∵ fsplit ! $ fpick !
+      (λ good. check ! ((λ _. refl), good) $ fpack ! (s ≡ 1 → IsReady x) (λ _. ftrue) good $ fjoin ! $ done !)
+  tells s p None = qed 𝓛 (‵ (owns_by s p None) ∷ []) ∵ feq_l ! (λ e. check !
+      ((λ some. absurd (some e)), (λ one. absurd (no_both s e one))) $ feq_i ! ℕ s 0 e $ done !)
 
 module _ {M : Type 1} {𝓤 : Ura M} {𝓛 : Logic 𝓤} {K : Type 0} {Γ : List (Item 𝓤)} {G : Goal 𝓤 𝓛.H} where
   pub handle_in : K → (b o n : ℕ) (x : R.Denot) → n < 2 ^ 64 → (n ≡ 1 → IsReady x)
-      → Step K 𝓛 (‵ (handle.the_row.own_val (record { at = block_ptr b o; state = n; value = Some x }) (two n (vptr b o) ∷ [])) ∷ Γ) G (‵ (box_owns (g.dealloc_token global) R (block_ptr b o) x) ∷ Γ) G
+      → Step K 𝓛 (‵ (handle.the_row.own_val (record { at = block_ptr b o; state = n; value = Some x }) (two n (vptr b o) ∷ [])) ∷ Γ) G
+      (‵ (box_owns (g.dealloc_token global) R (block_ptr b o) x) ∷ Γ) G
   handle_in t b o n x fits good = step (λ s. let v : Val = two n (vptr b o) in
-      nothing t $ fpack t (n ≡ 1 → IsReady x) (λ _. ftrue) good $ fjoin t $ nothing t $ owned t u64 (Is u64) (uint_Makes 𝓛 w64) n (vint w64 n ∷ []) (refl, fits) $ fjoin t $
+      nothing t $ fpack t (n ≡ 1 → IsReady x) (λ _. ftrue) good $ fjoin t $ nothing t $ owned t u64 (Is u64) (uint_Makes 𝓛 w64) n
+      (vint w64 n ∷ []) (refl, fits) $ fjoin t $
       feq_i t (List Val) (vptr b o ∷ []) (vptr b o ∷ []) refl $ fjoin t $ feq_i t (List Val) (v ∷ []) (v ∷ []) refl $ fjoin t $
-      fpack t (Valss (RawPtr ∷ u64 ∷ [])) (within (shape handle.the_type) (block_ptr b o, (n, tt)) (v ∷ [])) (vptr b o ∷ [], (vint w64 n ∷ [], tt)) $ fjoin t $ s)
+      fpack t (Valss (RawPtr ∷ u64 ∷ [])) (within (shape handle.the_type) (block_ptr b o, (n, tt)) (v ∷ []))
+      (vptr b o ∷ [], (vint w64 n ∷ [], tt)) $ fjoin t $ s)
 
   pub none_in : K → (b o : ℕ)
       → Step K 𝓛 (‵ (handle.the_row.own_val (record { at = block_ptr b o; state = 0; value = None }) (two 0 (vptr b o) ∷ [])) ∷ Γ) G Γ G
   none_in t b o = step (λ s. let v : Val = two 0 (vptr b o) in
       feq_i t ℕ 0 0 refl $ nothing t $ owned t u64 (Is u64) (uint_Makes 𝓛 w64) 0 (vint w64 0 ∷ []) (refl, lit< tt) $ fjoin t $
       feq_i t (List Val) (vptr b o ∷ []) (vptr b o ∷ []) refl $ fjoin t $ feq_i t (List Val) (v ∷ []) (v ∷ []) refl $ fjoin t $
-      fpack t (Valss (RawPtr ∷ u64 ∷ [])) (within (shape handle.the_type) (block_ptr b o, (0, tt)) (v ∷ [])) (vptr b o ∷ [], (vint w64 0 ∷ [], tt)) $ fjoin t $ s)
+      fpack t (Valss (RawPtr ∷ u64 ∷ [])) (within (shape handle.the_type) (block_ptr b o, (0, tt)) (v ∷ []))
+      (vptr b o ∷ [], (vint w64 0 ∷ [], tt)) $ fjoin t $ s)

@@ -49,7 +49,8 @@ module _ (old new : BTreeSet ℕ) (key : ℕ) (map : Map) (lists : Lists old map
   lists_still same = record { each = λ q. ap (list_any (is_at (nat_cmp q))) same ∙ lists.each q }
 
 -- a key that was added and is taken out again
-pub taken_again : (keys : BTreeSet ℕ) (map : Map) (key : ℕ) (value : List ℕ) → is_some (map key) ≡ false → Lists keys (without_key (with_key map key value) key) → Lists keys map
+pub taken_again : (keys : BTreeSet ℕ) (map : Map) (key : ℕ) (value : List ℕ) → is_some (map key) ≡ false
+    → Lists keys (without_key (with_key map key value) key) → Lists keys map
 taken_again keys map key value none lists = record { each = λ q. lists.each q ∙ same q } where
   at : (b : Bool) (q : ℕ) → nat_eq key q ≡ b → is_some (cond b missing (cond b (Some value) (map q))) ≡ is_some (map q)
   at false q is = refl
@@ -87,17 +88,26 @@ none_first maps keys empty = record {
   complete = λ key has. absurd (let low = has.below in omega arith);
 }
 
-module _ (maps : List (BTreeMap ℕ (List ℕ))) (i : ℕ) (map : BTreeMap ℕ (List ℕ)) (is : slice_get maps i ≡ Some map) (old new : BTreeSet ℕ) (more : HasMore old map new) (first : ListsFirst maps i old) where
+module _ (maps : List (BTreeMap ℕ (List ℕ))) (i : ℕ) (map : BTreeMap ℕ (List ℕ)) (is : slice_get maps i ≡ Some map) (old new : BTreeSet ℕ)
+    (more : HasMore old map new) (first : ListsFirst maps i old) where
   from_true : (key : ℕ) → (contains nat_cmp old key ≡ true) ⊎ (is_some (get nat_cmp map key) ≡ true) → HasKey maps (i + 1) key
-  from_true key (inl was) = let k = first.sound key was in record { i = k.i; below = (let low = k.below in omega arith); map = k.map; is = k.is; has = k.has }
+  from_true key (inl was) = let k = first.sound key was in record {
+    i = k.i;
+    below = (let low = k.below in omega arith);
+    map = k.map;
+    is = k.is;
+    has = k.has;
+  }
   from_true key (inr has) = record { i = i; below = omega arith; map = map; is = is; has = has }
 
   now_true : (key : ℕ) → (k : HasKey maps (i + 1) key) → (k.i ≡ i) ⊎ (k.i ≢ i) → (contains nat_cmp old key || is_some (get nat_cmp map key)) ≡ true
   now_true key k (inl same) =
       let same_map : k.map ≡ map = some_same k.map map (sym k.is ∙ ap (slice_get maps) same ∙ is) in
-      right_true (contains nat_cmp old key) (is_some (get nat_cmp map key)) (ap (λ (m : BTreeMap ℕ (List ℕ)). is_some (get nat_cmp m key)) (sym same_map) ∙ k.has)
+      right_true (contains nat_cmp old key) (is_some (get nat_cmp map key))
+      (ap (λ (m : BTreeMap ℕ (List ℕ)). is_some (get nat_cmp m key)) (sym same_map) ∙ k.has)
   now_true key k (inr differs) =
-      left_true (contains nat_cmp old key) (is_some (get nat_cmp map key)) (first.complete key (record { i = k.i; below = (let low = k.below in omega arith); map = k.map; is = k.is; has = k.has }))
+      left_true (contains nat_cmp old key) (is_some (get nat_cmp map key))
+      (first.complete key (record { i = k.i; below = (let low = k.below in omega arith); map = k.map; is = k.is; has = k.has }))
 
   pub one_more : ListsFirst maps (i + 1) new
   one_more = record {

@@ -29,10 +29,11 @@ use Rattle.c_dictionary.proofs.TurnLemmas.{low}
 -- a key of a shard's map belongs to the shard
 own_key : (leads : Leading) (image : Image) (shard : ℕ) (map : Map) → IsMap leads image shard map → (key : ℕ) → map key ≢ None → shard_of key ≡ shard
 own_key leads image shard map (is_empty null none) key some = absurd (some (none key))
-own_key leads image shard map (has_table table nodes there chains means) key some = elim (cases_eq (shard_of key) shard) as (λ _. shard_of key ≡ shard) [
-  | inl same ↦ same
-  | inr other ↦ absurd (some (means key ∙ cond-false (nat_eq (shard_of key) shard) _ None (ne_eqb (shard_of key) shard other)))
-]
+own_key leads image shard map (has_table table nodes there chains means) key some =
+    elim (cases_eq (shard_of key) shard) as (λ _. shard_of key ≡ shard) [
+      | inl same ↦ same
+      | inr other ↦ absurd (some (means key ∙ cond-false (nat_eq (shard_of key) shard) _ None (ne_eqb (shard_of key) shard other)))
+    ]
 
 none_or : (o : Option (List ℕ)) → is_some o ≡ true → o ≢ None
 none_or None some = λ e. absurd (cc)
@@ -86,7 +87,8 @@ module _ (image : Image) (s : SeqState) (maps : GivesMapsOf image (seat_of s)) w
         })
 
 -- what was recovered, opened
-module _ (words : List ℕ) (found : RecoveredDictionary) (is : IsDictionaryOf (current_image words) found) (s : Store) (budget : ℕ) (opened : IsOpened found.heap.words found.heap.held budget s.heap)
+module _ (words : List ℕ) (found : RecoveredDictionary) (is : IsDictionaryOf (current_image words) found) (s : Store) (budget : ℕ)
+    (opened : IsOpened found.heap.words found.heap.held budget s.heap)
     (all : ListsAll found.maps.items s.keys) where
   maps : GivesMapsOf (current_image words) (seat_of s.heap)
   maps = opened_maps found.heap.words found.heap.held budget s.heap opened is.dictionary (current_image words) is.recovers
@@ -98,7 +100,16 @@ module _ (words : List ℕ) (found : RecoveredDictionary) (is : IsDictionaryOf (
   }
 
   pub opened_words : IsMapOf words s
-  opened_words = record { maps = maps; map = whole (current_image words) s.heap maps; whole = whole_is (current_image words) s.heap maps; holds = holds }
+  opened_words = record {
+    maps = maps;
+    map = whole (current_image words) s.heap maps;
+    whole = whole_is (current_image words) s.heap maps;
+    holds = holds;
+  }
 
   pub opened_ready : IsReady s
-  opened_ready = record { shards = opened_shards found.heap.words found.heap.held budget s.heap opened is.dictionary; map = whole (current_image words) s.heap maps; holds = holds }
+  opened_ready = record {
+    shards = opened_shards found.heap.words found.heap.held budget s.heap opened is.dictionary;
+    map = whole (current_image words) s.heap maps;
+    holds = holds;
+  }

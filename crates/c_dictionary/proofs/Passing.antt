@@ -7,7 +7,8 @@ use Rattle.c_dictionary.specs.Dictionary.{Holds, Turns}
 use Rattle.c_dictionary.specs.declared.store.Store.{Store}
 use Rattle.c_dictionary.specs.Passing.{Passes, Becomes, Tells}
 
-module _ (args told left : Option Store) (taken boxed lent after last : Store) (same : told ≡ args) (held : told ≡ Some taken) (box : boxed ≡ taken) (lend : lent ≡ boxed) (set : left ≡ Some last) (of : last ≡ after) where
+module _ (args told left : Option Store) (taken boxed lent after last : Store) (same : told ≡ args) (held : told ≡ Some taken)
+    (box : boxed ≡ taken) (lend : lent ≡ boxed) (set : left ≡ Some last) (of : last ≡ after) where
   had : args ≡ Some lent
   had = sym same ∙ held ∙ ap Some (sym box ∙ sym lend)
 

@@ -17,7 +17,8 @@ use Rattle.c_dictionary.proofs.KeyLemmas.{taken_again}
 use Rattle.c_dictionary.proofs.TurnLemmas.{IsLocal, low, turned}
 
 -- a request of the shard of a key, and the keys that are listed then
-module _ (s t : Store) (ready : IsReady s) (key : ℕ) (may made : Map → Map) (changes : MayChange (shard_of key) may (seat_of s.heap) (seat_of t.heap)) (local : IsLocal key made)
+module _ (s t : Store) (ready : IsReady s) (key : ℕ) (may made : Map → Map)
+    (changes : MayChange (shard_of key) may (seat_of s.heap) (seat_of t.heap)) (local : IsLocal key made)
     (done : Changes (shard_of key) made (seat_of s.heap) (seat_of t.heap)) (lists : (map : Map) → Holds map s → Lists t.keys (made map)) where
   pub turns_after : Turns made s t
   turns_after map holds = record { gives = turned s.heap t.heap key may ready.shards changes made local done map holds.gives; listed = lists map holds }
@@ -30,7 +31,10 @@ module _ (s t : Store) (ready : IsReady s) (key : ℕ) (may made : Map → Map) 
   }
 
 -- keys that are as they were, once a key was added for nothing and taken out again
-pub lists_undone : (old added_keys new : BTreeSet ℕ) (key : ℕ) (added : Bool) (map : Map) → Lists old map → (added ≡ true → is_some (map key) ≡ false) → Lists added_keys (with_key map key [])
-    → (added ≡ false → Lists added_keys map) → (added ≡ true → Lists added_keys (with_key map key []) → Lists new (without_key (with_key map key []) key)) → (added ≡ false → new ≡ added_keys) → Lists new map
+pub lists_undone : (old added_keys new : BTreeSet ℕ) (key : ℕ) (added : Bool) (map : Map) → Lists old map
+    → (added ≡ true → is_some (map key) ≡ false) → Lists added_keys (with_key map key [])
+    → (added ≡ false → Lists added_keys map) → (added ≡ true → Lists added_keys (with_key map key [])
+    → Lists new (without_key (with_key map key []) key)) → (added ≡ false → new ≡ added_keys) → Lists new map
 lists_undone old added_keys new key true map lists was with_it still taken same = taken_again new map key [] (was refl) (taken refl with_it)
-lists_undone old added_keys new key false map lists was with_it still taken same = subst (λ (ks : BTreeSet ℕ). Lists ks map) (sym (same refl)) (still refl)
+lists_undone old added_keys new key false map lists was with_it still taken same =
+    subst (λ (ks : BTreeSet ℕ). Lists ks map) (sym (same refl)) (still refl)

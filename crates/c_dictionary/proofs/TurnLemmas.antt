@@ -38,14 +38,21 @@ same_local key = record { alike = λ a b k same. same; others = λ a k other. re
 pub low : (key : ℕ) → shard_of key < shards
 low key = mod-lt key (omega arith)
 
-module _ (s t : SeqState) (key : ℕ) (may : Map → Map) (has : HasShards (seat_of s)) (change : MayChange (shard_of key) may (seat_of s) (seat_of t)) where
+module _ (s t : SeqState) (key : ℕ) (may : Map → Map) (has : HasShards (seat_of s))
+    (change : MayChange (shard_of key) may (seat_of s) (seat_of t)) where
   other_part : (whole : Map) → GivesWhole (seat_of s) whole → (shard : ℕ) → shard < shards → shard ≢ shard_of key → GivesPart (seat_of t) whole shard
   other_part whole gives shard small differs =
       let p = gives.each shard small in
-      record { part = p.part; gives = others_give (seat_of s) (seat_of t) (shard_of key) may (seat_law s) (low key) change shard p.part differs (has.each shard small) p.gives; same = p.same }
+      record {
+        part = p.part;
+        gives = others_give (seat_of s) (seat_of t) (shard_of key) may (seat_law s) (low key) change shard p.part differs
+            (has.each shard small) p.gives;
+        same = p.same;
+      }
 
   -- where it was done, the dictionary is what is made of the map
-  pub turned : (made : Map → Map) → IsLocal key made → Changes (shard_of key) made (seat_of s) (seat_of t) → (whole : Map) → GivesWhole (seat_of s) whole → GivesWhole (seat_of t) (made whole)
+  pub turned : (made : Map → Map) → IsLocal key made → Changes (shard_of key) made (seat_of s) (seat_of t) → (whole : Map)
+      → GivesWhole (seat_of s) whole → GivesWhole (seat_of t) (made whole)
   turned made local done whole gives = record {
     each = λ shard small. elim (cases_eq shard (shard_of key)) as (λ _. GivesPart (seat_of t) (made whole) shard) [
       | inl same ↦

@@ -19,7 +19,14 @@ the_only_one = record { going = refl; size = refl; cache = []; first = λ some. 
 -- one of those that an empty cache was filled with
 pub one_of_three : HasAllocated 20 (block_of 20 1080) before (with_held (1080 ∷ []) (with_cached (4664 ∷ 2872 ∷ []) before))
 unfolding blocks_of class_sizes
-one_of_three = record { going = refl; size = refl; cache = 4664 ∷ 2872 ∷ []; first = λ some. absurd (omega (arith, some)); short = omega arith; parts_are = refl }
+one_of_three = record {
+  going = refl;
+  size = refl;
+  cache = 4664 ∷ 2872 ∷ [];
+  first = λ some. absurd (omega (arith, some));
+  short = omega arith;
+  parts_are = refl;
+}
 
 -- another than the only one, or than the first of two
 one_is_some : 1 ≤ length (of_class (with_cached (1080 ∷ []) before).caches 20)
@@ -28,7 +35,8 @@ one_is_some = omega arith
 pub not_the_only_one : HasAllocated 20 (block_of 20 2872) (with_cached (1080 ∷ []) before) (with_held (2872 ∷ []) before) → ⊥
 not_the_only_one held = let e : 1080 ≡ 2872 = ap first_of (held.first one_is_some) in omega (arith, e)
 
-pub not_the_first : HasAllocated 20 (block_of 20 2872) (with_cached (1080 ∷ 2872 ∷ []) before) (with_held (2872 ∷ []) (with_cached (1080 ∷ []) before)) → ⊥
+pub not_the_first : HasAllocated 20 (block_of 20 2872) (with_cached (1080 ∷ 2872 ∷ []) before)
+    (with_held (2872 ∷ []) (with_cached (1080 ∷ []) before)) → ⊥
 not_the_first held = let e : 1080 ≡ 2872 = ap first_of (held.first (omega arith)) in omega (arith, e)
 
 -- a cache with as many blocks as a superblock is left

@@ -36,7 +36,15 @@ keeps draws wins gives losses moves cuts smalls larges few few_light few_wins fe
   setup = refl;
   roots = refl;
   floor = omega arith;
-  none_falls = record { draws = omega arith; wins = omega arith; losses = omega arith; gives = omega arith; moves = omega arith; cuts = omega arith; taken = omega arith };
+  none_falls = record {
+    draws = omega arith;
+    wins = omega arith;
+    losses = omega arith;
+    gives = omega arith;
+    moves = omega arith;
+    cuts = omega arith;
+    taken = omega arith;
+  };
   small_rise = omega arith;
   large_rise = omega arith;
   draws = omega arith;
@@ -132,7 +140,8 @@ just_made seat s parts none refused = record {
 }
 
 pub not_just_made : (seat : SeatView) (s : CacheState) → 1 ≤ s.small_calls + s.large_calls + s.refusals + s.refused_bytes → IsNew seat s → ⊥
-not_just_made seat s some new = let small = new.small in let large = new.large in let refusals = new.refusals in let bytes = new.refused_bytes in omega (arith, some, small, large, refusals, bytes)
+not_just_made seat s some new = let small = new.small in let large = new.large in let refusals = new.refusals in
+    let bytes = new.refused_bytes in omega (arith, some, small, large, refusals, bytes)
 
 pub has_stored : (seat : SeatView) (s : CacheState) → seat.stores ≡ [] → s.stores ≡ 1080 ∷ [] → IsNew seat s → ⊥
 has_stored seat s none one new = let e : 1 ≡ 0 = ap length (sym one ∙ new.stores ∙ none) in omega (arith, e)
@@ -153,13 +162,16 @@ one_offered s t was is k =
     omega (arith, none, one, same)
 
 -- and costs what its views and counts say
-pub costs_of_the_views : (s t : CacheState) → s.view ≡ before → t.view ≡ later 65 2 0 before → t.small_calls ≡ s.small_calls → t.large_calls ≡ s.large_calls + 1 → KeepsHeap s t → ⊥
+pub costs_of_the_views : (s t : CacheState) → s.view ≡ before → t.view ≡ later 65 2 0 before → t.small_calls ≡ s.small_calls
+    → t.large_calls ≡ s.large_calls + 1 → KeepsHeap s t → ⊥
 costs_of_the_views s t was is small large k =
     let light = k.1.light in
     let draws : s.view.draws ≡ 4 = ap (λ (v : View). v.draws) was in
     let drawn : t.view.draws ≡ 69 = ap (λ (v : View). v.draws) is in
-    let none : traces s.view + length s.view.large + s.view.losses + s.view.moves ≡ 0 = ap (λ (v : View). traces v + length v.large + v.losses + v.moves) was in
-    let none_too : traces t.view + length t.view.large + t.view.losses + t.view.moves ≡ 0 = ap (λ (v : View). traces v + length v.large + v.losses + v.moves) is in
+    let none : traces s.view + length s.view.large + s.view.losses + s.view.moves ≡ 0 =
+    ap (λ (v : View). traces v + length v.large + v.losses + v.moves) was in
+    let none_too : traces t.view + length t.view.large + t.view.losses + t.view.moves ≡ 0 =
+    ap (λ (v : View). traces v + length v.large + v.losses + v.moves) is in
     omega (arith, light, draws, drawn, none, none_too, small, large)
 
 -- a seat asks its chance once for a ticket; this one counts the numbers that it has given

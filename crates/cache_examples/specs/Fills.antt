@@ -8,8 +8,28 @@ use Rattle.cache_examples.specs.Seats.{before, look_at, with_cached, with_looks}
 -- both lists were found empty, that of the class by ticket 5 and that of the free ones by ticket 6
 pub seen_none : HasSeenNone 20 before (with_looks (look_at 0 5) (look_at 0 6) (look_at 0 7))
 seen_none = record {
-  of_class = record { made = record { ticket = 5; by = refl; since = omega arith; below = omega arith; taken_least = omega arith; taken_most = omega arith }; empty = refl };
-  free = record { made = record { ticket = 6; by = refl; since = omega arith; below = omega arith; taken_least = omega arith; taken_most = omega arith }; empty = refl };
+  of_class = record {
+    made = record {
+      ticket = 5;
+      by = refl;
+      since = omega arith;
+      below = omega arith;
+      taken_least = omega arith;
+      taken_most = omega arith;
+    };
+    empty = refl;
+  };
+  free = record {
+    made = record {
+      ticket = 6;
+      by = refl;
+      since = omega arith;
+      below = omega arith;
+      taken_least = omega arith;
+      taken_most = omega arith;
+    };
+    empty = refl;
+  };
   order = omega arith;
 }
 
@@ -55,7 +75,17 @@ cut_behind class_look free_look = record (with_looks class_look free_look (look_
 -- one of the free ones, which the list of the free ones had
 pub from_the_free : IsFilledInOrder 20 before (cut_behind (look_at 0 5) (look_at 2 6))
 from_the_free = record {
-  cut = λ cut. record { made = record { ticket = 5; by = refl; since = omega arith; below = omega arith; taken_least = omega arith; taken_most = omega arith }; empty = refl };
+  cut = λ cut. record {
+    made = record {
+      ticket = 5;
+      by = refl;
+      since = omega arith;
+      below = omega arith;
+      taken_least = omega arith;
+      taken_most = omega arith;
+    };
+    empty = refl;
+  };
   claimed = λ cut. refl;
   uncut = λ e. omega (arith, e);
   fresh = λ taken. absurd (omega (arith, taken));
@@ -67,12 +97,42 @@ fresh_behind class_look free_look = record (cut_behind class_look free_look) { t
 
 pub from_the_mark : IsFilledInOrder 20 before (fresh_behind (look_at 0 5) (look_at 0 6))
 from_the_mark = record {
-  cut = λ cut. record { made = record { ticket = 5; by = refl; since = omega arith; below = omega arith; taken_least = omega arith; taken_most = omega arith }; empty = refl };
+  cut = λ cut. record {
+    made = record {
+      ticket = 5;
+      by = refl;
+      since = omega arith;
+      below = omega arith;
+      taken_least = omega arith;
+      taken_most = omega arith;
+    };
+    empty = refl;
+  };
   claimed = λ cut. refl;
   uncut = λ e. omega (arith, e);
   fresh = λ taken. record {
-    of_class = record { made = record { ticket = 5; by = refl; since = omega arith; below = omega arith; taken_least = omega arith; taken_most = omega arith }; empty = refl };
-    free = record { made = record { ticket = 6; by = refl; since = omega arith; below = omega arith; taken_least = omega arith; taken_most = omega arith }; empty = refl };
+    of_class = record {
+      made = record {
+        ticket = 5;
+        by = refl;
+        since = omega arith;
+        below = omega arith;
+        taken_least = omega arith;
+        taken_most = omega arith;
+      };
+      empty = refl;
+    };
+    free = record {
+      made = record {
+        ticket = 6;
+        by = refl;
+        since = omega arith;
+        below = omega arith;
+        taken_least = omega arith;
+        taken_most = omega arith;
+      };
+      empty = refl;
+    };
     order = omega arith;
   };
 }

@@ -72,10 +72,12 @@ one_claim_stays flushed = let e = ap (λ (p : Parts). p.raw) flushed.parts_are i
 
 -- not run by run: a seat without a ticket left gives none
 pub without_a_run : HasFlushedAll (record one_cached { setup = without_tickets.setup }) (record one_listed { setup = without_tickets.setup }) → ⊥
-without_a_run flushed = let e : 1 ≡ 0 = ap (λ (u : View). u.gives) (no_cache (record one_cached { setup = without_tickets.setup }) (record one_listed { setup = without_tickets.setup }) refl flushed.by) in omega (arith, e) where
-  no_cache : (v w : View) → w.setup.budget ≡ 0 → GivesCaches v w → w ≡ v
-  no_cache v _ none (gave_no_cache w same) = same
-  no_cache v _ none (gave_cache class t w caches runs) =
-      let same = no_run class t w none runs in
-      let budget : w.setup.budget ≡ t.setup.budget = ap (λ (u : View). u.setup.budget) same in
-      same ∙ no_cache v t (omega (arith, none, budget)) caches
+without_a_run flushed = let e : 1 ≡ 0 = ap (λ (u : View). u.gives)
+    (no_cache (record one_cached { setup = without_tickets.setup }) (record one_listed { setup = without_tickets.setup }) refl flushed.by) in
+    omega (arith, e) where
+      no_cache : (v w : View) → w.setup.budget ≡ 0 → GivesCaches v w → w ≡ v
+      no_cache v _ none (gave_no_cache w same) = same
+      no_cache v _ none (gave_cache class t w caches runs) =
+          let same = no_run class t w none runs in
+          let budget : w.setup.budget ≡ t.setup.budget = ap (λ (u : View). u.setup.budget) same in
+          same ∙ no_cache v t (omega (arith, none, budget)) caches

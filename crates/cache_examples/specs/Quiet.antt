@@ -11,7 +11,11 @@ use Rattle.thread_cache.specs.Quiet.{HasEmptyCaches, IsQuietCall, as_large, does
 use Rattle.cache_examples.specs.Seats.{before, later, with_cached, with_held}
 
 -- what it holds, owns, has looked at, counted and drawn keeps nothing back
-pub holds_much : KeepsNothing (record (with_held (1080 ∷ []) (later 9 4 2 before)) { large = record { first = 1; count = 1 } ∷ []; roots = 5 ∷ []; seen_used = Some 2 })
+pub holds_much : KeepsNothing (record (with_held (1080 ∷ []) (later 9 4 2 before)) {
+  large = record { first = 1; count = 1 } ∷ [];
+  roots = 5 ∷ [];
+  seen_used = Some 2;
+})
 holds_much = record { idle = record { batch = refl; raw = refl; split = refl; cutting = refl; classed = refl }; empty = none_cached } where
   none_cached : (class : ℕ) → IsClass class → of_class (replicate 21 []) class ≡ []
   none_cached class is = get_or-replicate 21 class [] [] (omega (arith, is.last))
@@ -40,7 +44,10 @@ keeps_one_of_a_class nothing = let e = nothing.idle.classed in absurd (cc)
 
 -- a seat whose caches are empty, and one that has a block
 pub has_none : (s : CacheState) → s.view ≡ before → HasEmptyCaches s
-has_none s same = record { each = λ class is. ap (λ (v : View). of_class v.caches class) same ∙ get_or-replicate 21 class [] [] (omega (arith, is.last)) }
+has_none s same = record {
+  each = λ class is. ap (λ (v : View). of_class v.caches class) same
+      ∙ get_or-replicate 21 class [] [] (omega (arith, is.last));
+}
 
 pub has_one : (s : CacheState) → s.view ≡ with_cached (1080 ∷ []) before → HasEmptyCaches s → ⊥
 has_one s same empty =
@@ -58,7 +65,8 @@ stays s t same (as_large some call refusals) = let none : cached s.view ≡ 0 = 
 
 pub draws_with_empty_caches : (s t : CacheState) → s.view ≡ before → t.view ≡ later 1 0 0 before → IsQuietCall s t → ⊥
 draws_with_empty_caches s t same drew quiet =
-    let draws : (later 1 0 0 before).draws ≡ before.draws = ap (λ (v : View). v.draws) (sym drew ∙ ap (λ (u : CacheState). u.view) (stays s t same quiet) ∙ same) in
+    let draws : (later 1 0 0 before).draws ≡ before.draws = ap (λ (v : View). v.draws) (sym drew
+    ∙ ap (λ (u : CacheState). u.view) (stays s t same quiet) ∙ same) in
     let e : 5 ≡ 4 = draws in omega (arith, e)
 
 pub counts_with_empty_caches : (s t : CacheState) → s.view ≡ before → t.large_calls ≡ s.large_calls + 1 → IsQuietCall s t → ⊥

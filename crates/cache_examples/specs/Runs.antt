@@ -52,7 +52,8 @@ in_second (suc zero) d less = refl
 in_second (suc (suc k)) d less = absurd (omega (arith, less))
 
 -- n blocks by two tickets each
-lifts : (n : ℕ) (v w : View) → 1 ≤ n → counts_of w ≡ counts_of (later (2 * n) 0 0 v) → w.small ≡ v.small → w.large ≡ v.large → w.volatile ≡ v.volatile → w.durable ≡ v.durable → ViewRow (lift_costs n) v w
+lifts : (n : ℕ) (v w : View) → 1 ≤ n → counts_of w ≡ counts_of (later (2 * n) 0 0 v) → w.small ≡ v.small → w.large ≡ v.large
+    → w.volatile ≡ v.volatile → w.durable ≡ v.durable → ViewRow (lift_costs n) v w
 lifts n v w some counts small large volatile durable = record {
   passes = passed (lift_costs n) (2 * n) 0 0 v w counts (omega arith) (omega arith) (omega arith) (omega arith);
   small = small;
@@ -126,12 +127,15 @@ pub gives_both : GivesRuns 20 full_cache all_given
 gives_both = gave_more first_given all_given (gave_more full_cache first_given (gave_none full_cache refl) gives_first) gives_second
 
 -- the cache of the class behind a run that was given
-cache_left : (d last : ℕ) (full : Bool) (v lifted given w : View) (lifts : HasLiftedPrefix 20 d last v lifted) → HasGiven d 20 full lifted given → ListsBehind full d given w
+cache_left : (d last : ℕ) (full : Bool) (v lifted given w : View) (lifts : HasLiftedPrefix 20 d last v lifted) → HasGiven d 20 full lifted given
+    → ListsBehind full d given w
     → of_class w.caches 20 ≡ of_class (set v.caches 20 lifts.lifting.rest) 20
 cache_left d last true v lifted given w lifts gives lists =
-    ap (λ (p : Parts). of_class p.caches 20) lists.parts_are ∙ ap (λ (p : Parts). of_class p.caches 20) gives.parts_are ∙ ap (λ (p : Parts). of_class p.caches 20) lifts.lifting.parts_are
+    ap (λ (p : Parts). of_class p.caches 20) lists.parts_are ∙ ap (λ (p : Parts). of_class p.caches 20) gives.parts_are
+    ∙ ap (λ (p : Parts). of_class p.caches 20) lifts.lifting.parts_are
 cache_left d last false v lifted given w lifts gives lists =
-    ap (λ (u : View). of_class u.caches 20) lists ∙ ap (λ (p : Parts). of_class p.caches 20) gives.parts_are ∙ ap (λ (p : Parts). of_class p.caches 20) lifts.lifting.parts_are
+    ap (λ (u : View). of_class u.caches 20) lists ∙ ap (λ (p : Parts). of_class p.caches 20) gives.parts_are
+    ∙ ap (λ (p : Parts). of_class p.caches 20) lifts.lifting.parts_are
 
 run_leaves : (v w : View) (run : GivesRun 20 v w) → of_class w.caches 20 ≡ of_class (set v.caches 20 run.lifts.lifting.rest) 20
 run_leaves v w run = cache_left run.d run.last run.full v run.lifted run.given w run.lifts run.gives run.lists
@@ -153,8 +157,10 @@ a_block_behind run =
     let rest : 2872 ∷ 9272 ∷ 11064 ∷ [] ≡ run.lifts.lifting.rest = run_leaves full_cache (with_cached (2872 ∷ 9272 ∷ 11064 ∷ []) before) run in
     first_alone run.lifts.lifting.lifted run.lifts.lifting.some run.lifts.lifting.together
     (run.lifts.lifting.both ∙ ap (λ blocks. run.lifts.lifting.lifted ++ blocks) (sym rest))
-    (subst (λ blocks. superblock_at 2 (first_of blocks) ≢ run.d) (sym rest) (run.lifts.longest (subst (λ blocks. 1 ≤ length blocks) rest (omega arith)))) where
-      first_alone : (lifted : List ℕ) → 1 ≤ length lifted → All (λ block. superblock_at 2 block ≡ run.d) lifted → two_runs ≡ lifted ++ (2872 ∷ 9272 ∷ 11064 ∷ []) → 0 ≢ run.d → ⊥
+    (subst (λ blocks. superblock_at 2 (first_of blocks) ≢ run.d) (sym rest)
+    (run.lifts.longest (subst (λ blocks. 1 ≤ length blocks) rest (omega arith)))) where
+      first_alone : (lifted : List ℕ) → 1 ≤ length lifted → All (λ block. superblock_at 2 block ≡ run.d) lifted
+          → two_runs ≡ lifted ++ (2872 ∷ 9272 ∷ 11064 ∷ []) → 0 ≢ run.d → ⊥
       first_alone [] some together both apart = omega (arith, some)
       first_alone (x ∷ []) some together both apart =
           let first : 1080 ≡ x = ap first_of both in
@@ -168,7 +174,8 @@ a_block_behind run =
 abbrev pub without_tickets : View
 without_tickets = record before { setup = record before.setup { budget = 0 } }
 
-setup_left : (d class : ℕ) (full : Bool) (lifted given w : View) → HasGiven d class full lifted given → ListsBehind full d given w → w.setup ≡ lifted.setup
+setup_left : (d class : ℕ) (full : Bool) (lifted given w : View) → HasGiven d class full lifted given → ListsBehind full d given w
+    → w.setup ≡ lifted.setup
 setup_left d class false lifted given w gives lists = ap (λ (u : View). u.setup) lists ∙ ap (λ (p : Parts). p.setup) gives.parts_are
 setup_left d zero true lifted given w gives lists = ap (λ (p : Parts). p.setup) lists.parts_are ∙ ap (λ (p : Parts). p.setup) gives.parts_are
 setup_left d (suc class) true lifted given w gives lists = ap (λ (p : Parts). p.setup) lists.parts_are ∙ ap (λ (p : Parts). p.setup) gives.parts_are
@@ -183,7 +190,8 @@ no_run class v _ none (gave_more t w runs run) =
 
 -- by no run all stays as it is
 pub nothing_given : GivesRuns 20 without_tickets (record without_tickets { gives = 1 }) → ⊥
-nothing_given runs = let e : 1 ≡ 0 = ap (λ (u : View). u.gives) (no_run 20 without_tickets (record without_tickets { gives = 1 }) refl runs) in omega (arith, e)
+nothing_given runs = let e : 1 ≡ 0 = ap (λ (u : View). u.gives) (no_run 20 without_tickets (record without_tickets { gives = 1 }) refl runs) in
+    omega (arith, e)
 
 -- the block of a superblock that had none free: by a look behind the give its anchor has one free block, and it is claimed no more
 abbrev pub one_cached : View
@@ -253,7 +261,8 @@ gives_the_one = gave_more one_cached one_listed (gave_none one_cached refl) give
 pub stays_claimed : GivesRun 20 one_cached (record one_listed { classed = claim ∷ [] }) → ⊥
 stays_claimed run = elim (claims run.d run.full run.lifted run.given run.lifts run.gives run.lists) [
   | inl none ↦ let e : 1 ≡ 0 = ap length none in omega (arith, e)
-  | inr listed ↦ let e : 1 ≡ 0 = ap length (listed ∙ cond-true (nat_eq run.d run.d) [] (record { descriptor = run.d; class = 20 } ∷ []) (eq-eqb run.d run.d refl)) in omega (arith, e)
+  | inr listed ↦ let e : 1 ≡ 0 = ap length (listed ∙ cond-true (nat_eq run.d run.d) [] (record { descriptor = run.d; class = 20 } ∷ [])
+      (eq-eqb run.d run.d refl)) in omega (arith, e)
 ] where
   claims : (d : ℕ) (full : Bool) (lifted given : View) → HasLiftedPrefix 20 d run.last one_cached lifted → HasGiven d 20 full lifted given
       → ListsBehind full d given (record one_listed { classed = claim ∷ [] })
@@ -261,7 +270,8 @@ stays_claimed run = elim (claims run.d run.full run.lifted run.given run.lifts r
   claims d false lifted given lifts gives lists =
       inl (ap (λ (u : View). u.classed) lists ∙ ap (λ (p : Parts). p.classed) gives.parts_are ∙ ap (λ (p : Parts). p.classed) lifts.lifting.parts_are)
   claims d true lifted given lifts gives lists = inr (ap (λ (p : Parts). p.classed) lists.parts_are
-      ∙ ap (λ claims. without_claim d claims) (ap (λ (p : Parts). p.classed) gives.parts_are ∙ ap (λ (p : Parts). record { descriptor = d; class = 20 } ∷ p.classed) lifts.lifting.parts_are))
+      ∙ ap (λ claims. without_claim d claims) (ap (λ (p : Parts). p.classed) gives.parts_are
+      ∙ ap (λ (p : Parts). record { descriptor = d; class = 20 } ∷ p.classed) lifts.lifting.parts_are))
 
 -- one whose blocks are all free goes to the list of the free ones, which counts as a move, and one with some free blocks does not
 pub moved : HasListedBy 0 (anchor_of empty_state 0 4) one_looked (record one_listed { moves = 1 })

@@ -31,7 +31,12 @@ heads class_look free_look = set (set before.head_looks 20 class_look) 0 free_lo
 
 -- behind a call that drew tickets 4 to 7, with these last looks at the two lists and at the mark
 abbrev pub with_looks : LastLook → LastLook → LastLook → View
-with_looks class_look free_look used_look = record before { last_ticket = Some 7; draws = 8; head_looks = heads class_look free_look; used_look = used_look }
+with_looks class_look free_look used_look = record before {
+  last_ticket = Some 7;
+  draws = 8;
+  head_looks = heads class_look free_look;
+  used_look = used_look;
+}
 
 -- so many cached blocks of class 20
 abbrev pub with_cached : List ℕ → View → View
@@ -88,7 +93,15 @@ passed costs draws wins gives v w same some few_draws few_wins few_gives =
       floor = omega arith;
       next = omega arith;
       tickets = omega arith;
-      more = record { draws = omega arith; wins = omega arith; losses = omega arith; gives = omega arith; moves = omega arith; cuts = omega arith; taken = omega arith };
+      more = record {
+        draws = omega arith;
+        wins = omega arith;
+        losses = omega arith;
+        gives = omega arith;
+        moves = omega arith;
+        cuts = omega arith;
+        taken = omega arith;
+      };
       most = record { draws = omega arith; wins = omega arith; gives = omega arith; cuts = omega arith; taken = omega arith; moves = omega arith };
       looks = record {
         used = inl (ap (λ (u : View). u.used_look) same);

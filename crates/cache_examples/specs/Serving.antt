@@ -29,7 +29,16 @@ most_of_a_light_free = refl
 pub most_of_a_request : request_costs 100000 3 ≡ record { draws = 4108; credit = 0; wins = 2; refund = 0; gives = 0; cuts = 1; taken = 2; moves = 3 }
 most_of_a_request = refl
 
-pub most_of_a_light_request : light_request 100000 3 ≡ record { draws = 10; credit = 0; wins = 2; refund = 0; gives = 0; cuts = 0; taken = 2; moves = 3 }
+pub most_of_a_light_request : light_request 100000 3 ≡ record {
+  draws = 10;
+  credit = 0;
+  wins = 2;
+  refund = 0;
+  gives = 0;
+  cuts = 0;
+  taken = 2;
+  moves = 3;
+}
 most_of_a_light_request = refl
 
 -- 64 tickets are light, and 65 aren't
@@ -74,7 +83,8 @@ least_for_these = record {
 -- and no other class is
 pub is_last : (class : ℕ) → IsLeastClassFor 14000 class → class ≡ 20
 is_last class least =
-    let low = least.least 20 least_for_these.is_class least_for_these.holds in let high = least_for_these.least class least.is_class least.holds in omega arith
+    let low = least.least 20 least_for_these.is_class least_for_these.holds in
+    let high = least_for_these.least class least.is_class least.holds in omega arith
 
 -- the first of two cached blocks is given by one ticket
 abbrev two_cached : View
@@ -88,9 +98,21 @@ unfolding blocks_of class_sizes
 served = record {
   light = λ cuts gives taken large. omega arith;
   block = block_of 20 1080;
-  granted = by_class 20 least_for_these (record { going = refl; size = refl; cache = 2872 ∷ []; first = λ some. refl; short = omega arith; parts_are = refl });
+  granted = by_class 20 least_for_these (record {
+    going = refl;
+    size = refl;
+    cache = 2872 ∷ [];
+    first = λ some. refl;
+    short = omega arith;
+    parts_are = refl;
+  });
   gives = refl;
-  order = λ class least. record { cut = λ cut. absurd (omega (arith, cut)); claimed = λ cut. omega (arith, cut); uncut = λ e. refl; fresh = λ taken. absurd (omega (arith, taken)) };
+  order = λ class least. record {
+    cut = λ cut. absurd (omega (arith, cut));
+    claimed = λ cut. omega (arith, cut);
+    uncut = λ e. refl;
+    fresh = λ taken. absurd (omega (arith, taken));
+  };
   cached = λ class least some. passed one_draw 1 0 0 two_cached gave_first refl (omega arith) (omega arith) (omega arith) (omega arith);
   costs = passed (request_costs 14000 0) 1 0 0 two_cached gave_first refl (omega arith) (omega arith) (omega arith) (omega arith);
   uncut = λ uncut. passed (light_request 14000 0) 1 0 0 two_cached gave_first refl (omega arith) (omega arith) (omega arith) (omega arith);
@@ -113,9 +135,21 @@ unfolding blocks_of class_sizes
 filled_by_ten = record {
   light = λ cuts gives taken large. omega arith;
   block = block_of 20 1080;
-  granted = by_class 20 least_for_these (record { going = refl; size = refl; cache = 4664 ∷ 2872 ∷ []; first = λ some. absurd (omega (arith, some)); short = omega arith; parts_are = refl });
+  granted = by_class 20 least_for_these (record {
+    going = refl;
+    size = refl;
+    cache = 4664 ∷ 2872 ∷ [];
+    first = λ some. absurd (omega (arith, some));
+    short = omega arith;
+    parts_are = refl;
+  });
   gives = refl;
-  order = λ class least. record { cut = λ cut. absurd (omega (arith, cut)); claimed = λ cut. omega (arith, cut); uncut = λ e. refl; fresh = λ taken. absurd (omega (arith, taken)) };
+  order = λ class least. record {
+    cut = λ cut. absurd (omega (arith, cut));
+    claimed = λ cut. omega (arith, cut);
+    uncut = λ e. refl;
+    fresh = λ taken. absurd (omega (arith, taken));
+  };
   cached = λ class least some. absurd (none_cached class least some);
   costs = passed (request_costs 14000 0) 10 2 0 before (filled_by 10) refl (omega arith) (omega arith) (omega arith) (omega arith);
   uncut = λ uncut. passed (light_request 14000 0) 10 2 0 before (filled_by 10) refl (omega arith) (omega arith) (omega arith) (omega arith);
@@ -123,7 +157,8 @@ filled_by_ten = record {
 } where
   none_cached : (class : ℕ) → IsLeastClassFor 14000 class → 1 ≤ length (of_class before.caches class) → ⊥
   none_cached class least some =
-      let long : 1 ≤ length (of_class before.caches 20) = subst (λ c. 1 ≤ length (of_class before.caches c)) (is_last class least) some in omega (arith, long)
+      let long : 1 ≤ length (of_class before.caches 20) = subst (λ c. 1 ≤ length (of_class before.caches c)) (is_last class least) some in
+      omega (arith, long)
 
 pub filled_by_eleven : IsServed 14000 before (filled_by 11) → ⊥
 filled_by_eleven is = let most : 15 ≤ 14 = (is.uncut refl).most.draws in omega (arith, most)
@@ -156,7 +191,17 @@ abbrev saw_mark : ℕ → ℕ → View
 saw_mark mark ticket = record (later 3 0 0 before) { used_look = look_at mark ticket }
 
 pub room_for_two : HasSeenRoom 65537 before (saw_mark 0 5)
-room_for_two = record { made = record { ticket = 5; by = refl; since = omega arith; below = omega arith; taken_least = omega arith; taken_most = omega arith }; room = omega arith }
+room_for_two = record {
+  made = record {
+    ticket = 5;
+    by = refl;
+    since = omega arith;
+    below = omega arith;
+    taken_least = omega arith;
+    taken_most = omega arith;
+  };
+  room = omega arith;
+}
 
 pub room_for_one : HasSeenRoom 65537 before (saw_mark 1 5) → ⊥
 room_for_one seen = let room : 3 ≤ 2 = seen.room in omega (arith, room)
@@ -197,7 +242,15 @@ passes_refused bytes = record {
   floor = omega arith;
   next = omega arith;
   tickets = omega arith;
-  more = record { draws = omega arith; wins = omega arith; losses = omega arith; gives = omega arith; moves = omega arith; cuts = omega arith; taken = omega arith };
+  more = record {
+    draws = omega arith;
+    wins = omega arith;
+    losses = omega arith;
+    gives = omega arith;
+    moves = omega arith;
+    cuts = omega arith;
+    taken = omega arith;
+  };
   most = record { draws = omega arith; wins = omega arith; gives = omega arith; cuts = omega arith; taken = omega arith; moves = omega arith };
   looks = record {
     used = inr (record { ticket = 7; by = refl; since = omega arith; below = omega arith; taken_least = omega arith; taken_most = omega arith });
@@ -213,7 +266,8 @@ turned_away = record {
   cuts = refl;
   gives = refl;
   costs = passes_refused 14000;
-  for_class = λ class least. subst (λ c. IsFull c all_taken before refused × (of_class before.caches c ≡ [])) (sym (is_last class least)) (is_full, refl);
+  for_class = λ class least. subst (λ c. IsFull c all_taken before refused × (of_class before.caches c ≡ [])) (sym (is_last class least))
+      (is_full, refl);
   for_span = λ big. absurd (omega (arith, big));
 }
 

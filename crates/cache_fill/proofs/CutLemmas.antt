@@ -49,7 +49,8 @@ same_looks_then v t w first next = record { used = next.used ∙ first.used; hea
 -- of another word than the one that is stored to, what was known is known
 other_kept : (v u w : View) (word value found k : ℕ) → HasDrawn v u → IsEvent (Store word value) u found w → k ≢ word → Owns v k → KeepsWord v w k
 other_kept v u w word value found k drawn event other own = word_then v u w k (drawn.words k own)
-    (word_same u w k (ap (λ l. get_or l k None) (store_volatile word value u w found event) ∙ get_or-set_other u.volatile word k (Some value) None other)
+    (word_same u w k (ap (λ l. get_or l k None) (store_volatile word value u w found event)
+    ∙ get_or-set_other u.volatile word k (Some value) None other)
     (ap (λ l. get_or l k None) (store_durable word value u w found event)))
 
 -- what is known of an info that is not stored to
@@ -66,9 +67,11 @@ pub raw_claimed : (v : View) (d : ℕ) → 0 < times d v.raw → 0 < times_raw d
 raw_claimed v d claimed = omega (arith, claimed)
 
 -- a word of a claimed superblock leads to another
-module _ (v : View) (has : HasSoundState v) (word : ℕ) (from : start_word v.setup.capacity 0 ≤ word) (until : word < superblocks_end v.setup.capacity) (raw : 0 < times_raw (superblock_at v.setup.capacity word) v) where
+module _ (v : View) (has : HasSoundState v) (word : ℕ) (from : start_word v.setup.capacity 0 ≤ word)
+    (until : word < superblocks_end v.setup.capacity) (raw : 0 < times_raw (superblock_at v.setup.capacity word) v) where
   word_is : cell_at v.setup.capacity word ≡ data_cell word
-  word_is = cell_at_index v.setup.capacity (data_cell word) (and_is (nat_le (start_word v.setup.capacity 0) word) (nat_lt word (superblocks_end v.setup.capacity))
+  word_is = cell_at_index v.setup.capacity (data_cell word) (and_is (nat_le (start_word v.setup.capacity 0) word)
+      (nat_lt word (superblocks_end v.setup.capacity))
       (le-leb (start_word v.setup.capacity 0) word from) (lt-ltb word (superblocks_end v.setup.capacity) until))
 
   drawn_can : (ticket value : ℕ) (u : View) → v.stopped ≡ None → Can (drawn_as v ticket u) (Store word value)
@@ -85,12 +88,14 @@ module _ (v : View) (has : HasSoundState v) (word : ℕ) (from : start_word v.se
   -- the word is not the last one of the batch
   not_last : word ≢ last_of v.batch.blocks
   not_last same = elim (cases_lt 0 (length v.batch.blocks)) [
-    | inl some ↦ absurd (let none = no_block v has word raw in let there = subst (λ n. 0 < times n v.batch.blocks) (sym same) (last_there v.batch.blocks (omega arith)) in omega arith)
+    | inl some ↦ absurd (let none = no_block v has word raw in let there =
+        subst (λ n. 0 < times n v.batch.blocks) (sym same) (last_there v.batch.blocks (omega arith)) in omega arith)
     | inr none ↦ let zero_last = of_none v.batch.blocks (omega arith) in omega (arith, same, zero_last, from)
   ]
 
   batch_is : record v.batch { linked = cond (nat_eq word (last_of v.batch.blocks)) false v.batch.linked } ≡ v.batch
-  batch_is = ap (λ l. record v.batch { linked = l }) (skip (nat_eq word (last_of v.batch.blocks)) false v.batch.linked (not-eq word (last_of v.batch.blocks) not_last))
+  batch_is = ap (λ l. record v.batch { linked = l }) (skip (nat_eq word (last_of v.batch.blocks)) false v.batch.linked
+      (not-eq word (last_of v.batch.blocks) not_last))
 
   module _ (u w : View) (value found : ℕ) (drawn : HasDrawn v u) (event : IsEvent (Store word value) u found w) where
     word_here : cell_at u.setup.capacity word ≡ data_cell word
@@ -102,10 +107,16 @@ module _ (v : View) (has : HasSoundState v) (word : ℕ) (from : start_word v.se
         let same = ap (λ (x : View). times_held x (data_cell word)) drawn.left in
         let e = ap (times_held u) word_here in omega (arith, raw)
 
-    word_stored : w ≡ record (used_up (drawn_as v drawn.ticket u)) { volatile = learn u.volatile word value; batch = record v.batch { linked = cond (nat_eq word (last_of v.batch.blocks)) false v.batch.linked } }
+    word_stored : w ≡ record (used_up (drawn_as v drawn.ticket u)) {
+      volatile = learn u.volatile word value;
+      batch = record v.batch { linked = cond (nat_eq word (last_of v.batch.blocks)) false v.batch.linked };
+    }
     word_stored = event.after
         ∙ ap (λ (cell : Cell). stored (record (used_up u) { volatile = learn u.volatile word value }) cell value) word_here
-        ∙ ap (λ (x : View). record (used_up x) { volatile = learn u.volatile word value; batch = record x.batch { linked = cond (nat_eq word (last_of x.batch.blocks)) false x.batch.linked } }) drawn.left
+        ∙ ap (λ (x : View). record (used_up x) {
+          volatile = learn u.volatile word value;
+          batch = record x.batch { linked = cond (nat_eq word (last_of x.batch.blocks)) false x.batch.linked };
+        }) drawn.left
 
     pub word_linked : HasLink word value v w
     word_linked = record {
@@ -120,13 +131,15 @@ module _ (v : View) (has : HasSoundState v) (word : ℕ) (from : start_word v.se
 leads_kept : (v w : View) (from apart n : ℕ) → ((j : ℕ) → j < n → KeepsWord v w (from + j * apart)) → Leads v from apart n → Leads w from apart n
 leads_kept v w from apart n keeps leads j less = (keeps j less).volatile (from + (j + 1) * apart) (leads j less)
 
-leads_more : (v w : View) (from apart n : ℕ) → Leads v from apart n → ((j : ℕ) → j < n → KeepsWord v w (from + j * apart)) → Shows w (data_cell (from + n * apart)) (from + (n + 1) * apart) → Leads w from apart (n + 1)
+leads_more : (v w : View) (from apart n : ℕ) → Leads v from apart n → ((j : ℕ) → j < n → KeepsWord v w (from + j * apart))
+    → Shows w (data_cell (from + n * apart)) (from + (n + 1) * apart) → Leads w from apart (n + 1)
 leads_more v w from apart n before keeps shows j less = elim (cases_lt j n) [
   | inl low ↦ leads_kept v w from apart n keeps before j low
   | inr high ↦ let last : n ≡ j = omega arith in subst (λ i. Shows w (data_cell (from + i * apart)) (from + (i + 1) * apart)) last shows
 ]
 
-links_of : (v : View) (from apart n : ℕ) → ((j : ℕ) → j + 1 < n → Shows v (data_cell (from + j * apart)) (from + (j + 1) * apart)) → ShowsLinks v (steps from apart n)
+links_of : (v : View) (from apart n : ℕ) → ((j : ℕ) → j + 1 < n → Shows v (data_cell (from + j * apart)) (from + (j + 1) * apart))
+    → ShowsLinks v (steps from apart n)
 links_of v from apart zero leads = tt
 links_of v from apart (suc zero) leads = tt
 links_of v from apart (suc (suc n)) leads = (first, links_of v (from + apart) apart (suc n) rest) where
@@ -135,8 +148,10 @@ links_of v from apart (suc (suc n)) leads = (first, links_of v (from + apart) ap
       (subst (λ b. Shows v (data_cell b) (from + (0 + 1) * apart)) (let e : from + 0 * apart ≡ from = omega arith in e) (leads 0 (omega arith)))
 
   rest : (j : ℕ) → j + 1 < suc n → Shows v (data_cell (from + apart + j * apart)) (from + apart + (j + 1) * apart)
-  rest j less = subst (λ b. Shows v (data_cell (from + apart + j * apart)) b) (let e : from + (suc j + 1) * apart ≡ from + apart + (j + 1) * apart = (let s = suc-mul (j + 1) apart in omega arith) in e)
-      (subst (λ b. Shows v (data_cell b) (from + (suc j + 1) * apart)) (let e : from + suc j * apart ≡ from + apart + j * apart = (let s = suc-mul j apart in omega arith) in e) (leads (suc j) (omega arith)))
+  rest j less = subst (λ b. Shows v (data_cell (from + apart + j * apart)) b)
+      (let e : from + (suc j + 1) * apart ≡ from + apart + (j + 1) * apart = (let s = suc-mul (j + 1) apart in omega arith) in e)
+      (subst (λ b. Shows v (data_cell b) (from + (suc j + 1) * apart))
+      (let e : from + suc j * apart ≡ from + apart + j * apart = (let s = suc-mul j apart in omega arith) in e) (leads (suc j) (omega arith)))
 
 -- where block j of a superblock lies
 module _ (capacity class d j : ℕ) (is : IsClass class) (below : j < blocks_of class) where
@@ -158,11 +173,14 @@ module _ (capacity class d j : ℕ) (is : IsClass class) (below : j < blocks_of 
   pub block_end : place + words_of_class class ≤ start_word capacity (d + 1)
   block_end = (inside_of capacity class d place is at).1
 
-block_owned : (v : View) (class d j : ℕ) → IsClass class → d < v.setup.capacity → 0 < times_raw d v → j < blocks_of class → Owns v (start_word v.setup.capacity d + j * words_of_class class)
+block_owned : (v : View) (class d j : ℕ) → IsClass class → d < v.setup.capacity → 0 < times_raw d v → j < blocks_of class
+    → Owns v (start_word v.setup.capacity d + j * words_of_class class)
 block_owned v class d j is inside raw below =
     let b = start_word v.setup.capacity d + j * words_of_class class in
-    subst (IsOwn v) (sym (cell_at_index v.setup.capacity (data_cell b) (and_is (nat_le (start_word v.setup.capacity 0) b) (nat_lt b (superblocks_end v.setup.capacity))
-    (le-leb (start_word v.setup.capacity 0) b (block_from v.setup.capacity class d j is below inside)) (lt-ltb b (superblocks_end v.setup.capacity) (block_until v.setup.capacity class d j is below inside)))))
+    subst (IsOwn v) (sym (cell_at_index v.setup.capacity (data_cell b)
+    (and_is (nat_le (start_word v.setup.capacity 0) b) (nat_lt b (superblocks_end v.setup.capacity))
+    (le-leb (start_word v.setup.capacity 0) b (block_from v.setup.capacity class d j is below inside))
+    (lt-ltb b (superblocks_end v.setup.capacity) (block_until v.setup.capacity class d j is below inside)))))
     (let here = subst (λ e. 0 < times_raw e v) (sym (block_in v.setup.capacity class d j is below)) raw in omega (arith, here))
 
 -- how many blocks lead to the next
@@ -176,7 +194,15 @@ pub record Linking (d class n : ℕ) (v t : View) : Type 0 where
   pub looks : SameLooks v t
 
 pub linking_begins : (v : View) (d class : ℕ) → v.stopped ≡ None → HasDurableInfo d class v → Linking d class 0 v v
-linking_begins v d class going info = record { ran = going; going = going; parts_are = refl; info_is = info; links = λ j less. absurd (omega (arith, less)); row = view_row_none v; looks = record { used = refl; heads = refl } }
+linking_begins v d class going info = record {
+  ran = going;
+  going = going;
+  parts_are = refl;
+  info_is = info;
+  links = λ j less. absurd (omega (arith, less));
+  row = view_row_none v;
+  looks = record { used = refl; heads = refl };
+}
 
 module _ (v t : View) (has : HasSoundState v) (d class n : ℕ) (is : IsClass class) (raw : 0 < times_raw d v) (linking : Linking d class n v t) where
   same_capacity : t.setup.capacity ≡ v.setup.capacity
@@ -186,7 +212,15 @@ module _ (v t : View) (has : HasSoundState v) (d class n : ℕ) (is : IsClass cl
   raw_still = subst (λ (p : Parts). 0 < times d p.raw + times d p.split + times d p.cutting) (sym linking.parts_are) raw
 
   pub linking_row : (w : View) → ViewRow one_draw t w → n + 1 ≤ blocks_of class - 1 → ViewRow (record no_costs { draws = blocks_of class - 1 }) v w
-  linking_row w row few = view_row_within (record no_costs { draws = blocks_of class - 1 }) v w (record { draws = omega (arith, few); wins = omega arith; gives = omega arith; cuts = omega arith; taken = omega arith; moves = omega arith }) (view_row_then v t w linking.row row)
+  linking_row w row few = view_row_within (record no_costs { draws = blocks_of class - 1 }) v w
+      (record {
+        draws = omega (arith, few);
+        wins = omega arith;
+        gives = omega arith;
+        cuts = omega arith;
+        taken = omega arith;
+        moves = omega arith;
+      }) (view_row_then v t w linking.row row)
 
   pub linking_stops : (w : View) (step : ℕ) → Stops step t w → Stops step v w
   linking_stops w step stop = stops_later v t w step linking.ran linking.going linking.row stop
@@ -199,7 +233,8 @@ module _ (v t : View) (has : HasSoundState v) (d class n : ℕ) (is : IsClass cl
     link_until = let f = block_until v.setup.capacity class d n is below (raw_inside v has d raw) in let c = same_capacity in omega (arith, at_block)
 
     pub link_raw : 0 < times_raw (superblock_at t.setup.capacity block) t
-    link_raw = subst (λ e. 0 < times_raw e t) (sym (block_in v.setup.capacity class d n is below) ∙ ap (superblock_at v.setup.capacity) (sym at_block) ∙ ap (λ c. superblock_at c block) (sym same_capacity)) raw_still
+    link_raw = subst (λ e. 0 < times_raw e t) (sym (block_in v.setup.capacity class d n is below)
+        ∙ ap (superblock_at v.setup.capacity) (sym at_block) ∙ ap (λ c. superblock_at c block) (sym same_capacity)) raw_still
 
     pub link_end : block + words_of_class class ≤ start_word v.setup.capacity (d + 1)
     link_end = let e = block_end v.setup.capacity class d n is below in omega (arith, at_block)
@@ -212,14 +247,16 @@ module _ (v t : View) (has : HasSoundState v) (d class n : ℕ) (is : IsClass cl
       ran = linking.ran;
       going = linked.going;
       parts_are = linked.parts_are ∙ linking.parts_are;
-      info_is = info_kept t w d class (linked.words (info_word d) (λ same. let low = block_from v.setup.capacity class d n is below (raw_inside v has d raw) in let i = raw_inside v has d raw in omega (arith, same, at_block))
+      info_is = info_kept t w d class (linked.words (info_word d) (λ same. let low =
+          block_from v.setup.capacity class d n is below (raw_inside v has d raw) in let i = raw_inside v has d raw in omega (arith, same, at_block))
           (info_owned t d (subst (λ c. d < c) (sym same_capacity) (raw_inside v has d raw)) raw_still)) linking.info_is;
       links = leads_more t w (start_word v.setup.capacity d) (words_of_class class) n linking.links
           (λ j less. linked.words (start_word v.setup.capacity d + j * words_of_class class)
           (λ same. let step = block_step j n (words_of_class class) less in let two = two_words class is in omega (arith, same, step, at_block))
           (subst (λ c. Owns t (start_word c d + j * words_of_class class)) same_capacity
           (block_owned t class d j is (subst (λ c. d < c) (sym same_capacity) (raw_inside v has d raw)) raw_still (omega (arith, less, below)))))
-          (subst (λ b. Shows w (data_cell (start_word v.setup.capacity d + n * words_of_class class)) b) link_next (subst (λ a. Shows w (data_cell a) (block + words_of_class class)) at_block linked.link));
+          (subst (λ b. Shows w (data_cell (start_word v.setup.capacity d + n * words_of_class class)) b) link_next
+          (subst (λ a. Shows w (data_cell a) (block + words_of_class class)) at_block linked.link));
       row = view_row_then v t w linking.row row;
       looks = same_looks_then v t w linking.looks linked.looks;
     }
@@ -247,10 +284,16 @@ module _ (v : View) (has : HasSoundState v) (d : ℕ) (raw : 0 < times d v.raw) 
     pub anchor_not_held : IsHeldWord u (anchor_word d) → ⊥
     anchor_not_held held = let e = ap (times_held u) anchor_here in omega arith
 
-    anchor_stored : w ≡ record (used_up (drawn_as v drawn.ticket u)) { volatile = learn u.volatile (anchor_word d) full_anchor; raw = without d v.raw; split = without d v.split; cutting = d ∷ without d v.cutting }
+    anchor_stored : w ≡ record (used_up (drawn_as v drawn.ticket u)) {
+      volatile = learn u.volatile (anchor_word d) full_anchor;
+      raw = without d v.raw;
+      split = without d v.split;
+      cutting = d ∷ without d v.cutting;
+    }
     anchor_stored = event.after
         ∙ ap (λ (cell : Cell). stored (record (used_up u) { volatile = learn u.volatile (anchor_word d) full_anchor }) cell full_anchor) anchor_here
-        ∙ ap (λ (x : View). stored (record (used_up x) { volatile = learn u.volatile (anchor_word d) full_anchor }) (anchor_cell d) full_anchor) drawn.left
+        ∙ ap (λ (x : View). stored (record (used_up x) { volatile = learn u.volatile (anchor_word d) full_anchor }) (anchor_cell d) full_anchor)
+        drawn.left
 
     pub anchor_filled : HasFilledAnchor d v w
     anchor_filled = record {
@@ -268,7 +311,8 @@ record IsReady (d class : ℕ) (v z : View) : Type 0 where
   links : Leads z (start_word v.setup.capacity d) (words_of_class class) (blocks_of class - 1)
   floor : d < z.floor
 
-module _ (v : View) (has : HasSoundState v) (d class : ℕ) (is : IsClass class) (claimed : 0 < times d v.raw) (uncached : of_class v.caches class ≡ []) where
+module _ (v : View) (has : HasSoundState v) (d class : ℕ) (is : IsClass class) (claimed : 0 < times d v.raw)
+    (uncached : of_class v.caches class ≡ []) where
   pub raw : 0 < times_raw d v
   raw = omega (arith, claimed)
 
@@ -289,13 +333,16 @@ module _ (v : View) (has : HasSoundState v) (d class : ℕ) (is : IsClass class)
   }
 
   -- own words that are kept keep it so
-  ready_kept : (z y : View) → IsReady d class v z → y.stopped ≡ None → parts y ≡ parts z → z.floor ≤ y.floor → ((k : ℕ) → Owns z k → KeepsWord z y k) → IsReady d class v y
+  ready_kept : (z y : View) → IsReady d class v z → y.stopped ≡ None → parts y ≡ parts z → z.floor ≤ y.floor
+      → ((k : ℕ) → Owns z k → KeepsWord z y k) → IsReady d class v y
   ready_kept z y ready going same floor words = record {
     going = going;
     parts_are = same ∙ ready.parts_are;
     info_is = info_kept z y d class (words (info_word d) (info_owned z d below cutting)) ready.info_is;
     links = leads_kept z y (start_word v.setup.capacity d) (words_of_class class) (blocks_of class - 1)
-        (λ j less. words (start_word v.setup.capacity d + j * words_of_class class) (subst (λ c. Owns z (start_word c d + j * words_of_class class)) capacity (block_owned z class d j is below cutting (omega (arith, less))))) ready.links;
+        (λ j less. words (start_word v.setup.capacity d + j * words_of_class class)
+        (subst (λ c. Owns z (start_word c d + j * words_of_class class)) capacity
+        (block_owned z class d j is below cutting (omega (arith, less))))) ready.links;
     floor = let f = ready.floor in omega (arith, floor);
   } where
     capacity : z.setup.capacity ≡ v.setup.capacity
@@ -307,7 +354,8 @@ module _ (v : View) (has : HasSoundState v) (d class : ℕ) (is : IsClass class)
     cutting : 0 < times_raw d z
     cutting = let m = making z ready in omega (arith, m)
 
-  module _ (t x y : View) (durable : d < v.floor) (set_is : HasInfo d class v t) (linked : HasLinks d class t x) (filled : HasFilledAnchor d x y) (floor : v.floor ≤ y.floor) where
+  module _ (t x y : View) (durable : d < v.floor) (set_is : HasInfo d class v t) (linked : HasLinks d class t x)
+      (filled : HasFilledAnchor d x y) (floor : v.floor ≤ y.floor) where
     x_parts : parts x ≡ parts v
     x_parts = linked.parts_are ∙ set_is.parts_are
 
@@ -327,7 +375,8 @@ module _ (v : View) (has : HasSoundState v) (d class : ℕ) (is : IsClass class)
       info_is = info_kept x y d class (filled.words (info_word d) (λ same. omega (arith, same)) (info_owned x d x_below x_raw)) linked.info_is;
       links = leads_kept x y (start_word v.setup.capacity d) (words_of_class class) (blocks_of class - 1)
           (λ j less. filled.words (start_word v.setup.capacity d + j * words_of_class class)
-          (λ same. let low = block_from v.setup.capacity class d j is (omega (arith, less)) (raw_inside v has d raw) in let i = raw_inside v has d raw in omega (arith, same, low, i))
+          (λ same. let low = block_from v.setup.capacity class d j is (omega (arith, less)) (raw_inside v has d raw) in
+          let i = raw_inside v has d raw in omega (arith, same, low, i))
           (subst (λ c. Owns x (start_word c d + j * words_of_class class)) x_capacity (block_owned x class d j is x_below x_raw (omega (arith, less)))))
           (subst (λ (p : Parts). Leads x (start_word p.setup.capacity d) (words_of_class class) (blocks_of class - 1)) set_is.parts_are linked.links);
       floor = omega (arith, durable, floor);
@@ -358,20 +407,27 @@ module _ (v : View) (has : HasSoundState v) (d class : ℕ) (is : IsClass class)
           heads = ap (λ (z : View). z.head_looks) (cut_is going) ∙ ap (λ (z : View). z.head_looks) (early_rest y early settles);
         });
         parts_are = ap parts (cut_is going)
-            ∙ ap (λ (p : Parts). record p { caches = set p.caches class (class_blocks p.setup.capacity class d); cutting = without d p.cutting }) (early_parts ∙ y_ready.parts_are)
-            ∙ ap (λ l. record (with_cut d class (parts v)) { cutting = l }) (pick (nat_eq d d) (without d v.cutting) (d ∷ without d (without d v.cutting)) (eq-eqb d d refl));
+            ∙ ap (λ (p : Parts). record p {
+              caches = set p.caches class (class_blocks p.setup.capacity class d);
+              cutting = without d p.cutting;
+            }) (early_parts ∙ y_ready.parts_are)
+            ∙ ap (λ l. record (with_cut d class (parts v)) { cutting = l })
+            (pick (nat_eq d d) (without d v.cutting) (d ∷ without d (without d v.cutting)) (eq-eqb d d refl));
       }
 
       pub cut_told : (result : Result ⊤ Stopped) → TellsDraw w result → OnOk result (HasCut d class v w)
       cut_told (Ok z) going = cut_done going
       cut_told (Err e) told = tt
 
-      pub cut_stopped : {n : ℕ} → ViewRow (record no_costs { draws = n }) v y → (result : Result ⊤ Stopped) → TellsDraw w result → IfErr result (λ e. Stops e.step v w)
+      pub cut_stopped : {n : ℕ} → ViewRow (record no_costs { draws = n }) v y → (result : Result ⊤ Stopped) → TellsDraw w result
+          → IfErr result (λ e. Stops e.step v w)
       cut_stopped row (Ok z) going = tt
-      cut_stopped row (Err e) told = stops_later v y w e.step set_is.ran filled.going row (stops y early settles (Some (Cut d)) w found event e.step filled.going told)
+      cut_stopped row (Err e) told = stops_later v y w e.step set_is.ran filled.going row
+          (stops y early settles (Some (Cut d)) w found event e.step filled.going told)
 
 -- a cut counts as one
-pub cut_counted : {a : Costs} (v y early w : View) (d found : ℕ) → ViewRow a v y → Settles y early → IsEvent (Tick (Some (Cut d))) early found w → (result : Result ⊤ Stopped) → TellsDraw w result → OnOk result (v.cuts < w.cuts)
+pub cut_counted : {a : Costs} (v y early w : View) (d found : ℕ) → ViewRow a v y → Settles y early → IsEvent (Tick (Some (Cut d))) early found w
+    → (result : Result ⊤ Stopped) → TellsDraw w result → OnOk result (v.cuts < w.cuts)
 cut_counted v y early w d found row settles event (Ok z) going =
     let one = ap (λ (x : View). x.cuts) (draw_done (Some (Cut d)) early w found event going) in
     let same = ap (λ (x : View). x.cuts) (early_rest y early settles) in let more = row.passes.more.cuts in omega arith

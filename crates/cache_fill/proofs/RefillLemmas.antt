@@ -43,7 +43,14 @@ nothing_won v w wins taken p = record {
     next = p.passes.next;
     tickets = p.passes.tickets;
     more = p.passes.more;
-    most = let m = p.passes.most in record { draws = m.draws; wins = (let more = p.passes.more.moves in omega arith); gives = m.gives; cuts = m.cuts; taken = omega arith; moves = m.moves };
+    most = let m = p.passes.most in record {
+      draws = m.draws;
+      wins = (let more = p.passes.more.moves in omega arith);
+      gives = m.gives;
+      cuts = m.cuts;
+      taken = omega arith;
+      moves = m.moves;
+    };
     looks = p.passes.looks;
   };
   small = p.small;
@@ -52,27 +59,53 @@ nothing_won v w wins taken p = record {
 }
 
 -- a row behind superblocks that were moved
-pub fill_then : {draws wins : ℕ} (v t w : View) → ViewRow (fill_costs 0 0 v t) v t → ViewRow (fill_costs draws wins t w) t w → ViewRow (fill_costs draws wins v w) v w
+pub fill_then : {draws wins : ℕ} (v t w : View) → ViewRow (fill_costs 0 0 v t) v t → ViewRow (fill_costs draws wins t w) t w
+    → ViewRow (fill_costs draws wins v w) v w
 fill_then {draws} {wins} v t w p q = view_row_within (fill_costs draws wins v w) v w
-    (record { draws = omega arith; wins = omega arith; gives = omega arith; cuts = omega arith; taken = omega arith; moves = let a = p.passes.more.moves in let b = q.passes.more.moves in omega arith })
+    (record {
+      draws = omega arith;
+      wins = omega arith;
+      gives = omega arith;
+      cuts = omega arith;
+      taken = omega arith;
+      moves = let a = p.passes.more.moves in let b = q.passes.more.moves in omega arith;
+    })
     (view_row_then v t w p q)
 
 -- a row that costs no more than a refill may, but for what it moves
-pub refill_row : {a : Costs} (class : ℕ) (v w : SeatView) → IsWithin (record a { moves = 0 }) (record no_costs { draws = blocks_of class + 11; wins = 2; cuts = 1; taken = 1 }) → Row a v w
+pub refill_row : {a : Costs} (class : ℕ) (v w : SeatView) → IsWithin (record a { moves = 0 })
+    (record no_costs { draws = blocks_of class + 11; wins = 2; cuts = 1; taken = 1 }) → Row a v w
     → Row (record no_costs { draws = blocks_of class + 11; wins = 2; cuts = 1; taken = 1; moves = w.view.moves - v.view.moves }) v w
-refill_row class v w less p = row_within (record no_costs { draws = blocks_of class + 11; wins = 2; cuts = 1; taken = 1; moves = w.view.moves - v.view.moves }) v w
+refill_row class v w less p = row_within (record no_costs {
+  draws = blocks_of class + 11;
+  wins = 2;
+  cuts = 1;
+  taken = 1;
+  moves = w.view.moves - v.view.moves;
+}) v w
     (record { draws = less.draws; wins = less.wins; gives = less.gives; cuts = less.cuts; taken = less.taken; moves = omega arith }) (row_moves v w p)
 
 -- the look by the last ticket
-pub looked_is : (w : View) (look : LastLook) (word n : ℕ) → look ≡ looked word w → n < next_of w → (is : IsLook look word w) × (n ≤ is.ticket) × (next_of w ≡ is.ticket + 1)
+pub looked_is : (w : View) (look : LastLook) (word n : ℕ) → look ≡ looked word w → n < next_of w → (is : IsLook look word w) × (n ≤ is.ticket)
+    × (next_of w ≡ is.ticket + 1)
 looked_is w look word n same later = by_last w.last_ticket refl where
   by_last : (last : Option ℕ) → w.last_ticket ≡ last → (is : IsLook look word w) × (n ≤ is.ticket) × (next_of w ≡ is.ticket + 1)
   by_last None none = absurd (let z = ap after_ticket none in omega arith)
-  by_last (Some ticket) some = let z = ap after_ticket some in
-      (record { ticket = ticket; by = ap (λ (l : LastLook). l.ticket) same ∙ some; word_is = ap (λ (l : LastLook). l.word) same; wins = ap (λ (l : LastLook). l.wins) same; taken = ap (λ (l : LastLook). l.taken) same }, omega arith, z)
+  by_last (Some ticket) some = let z = ap after_ticket some in (
+    record {
+      ticket = ticket;
+      by = ap (λ (l : LastLook). l.ticket) same ∙ some;
+      word_is = ap (λ (l : LastLook). l.word) same;
+      wins = ap (λ (l : LastLook). l.wins) same;
+      taken = ap (λ (l : LastLook). l.taken) same;
+    },
+    omega arith,
+    z,
+  )
 
 -- of a view with as many wins and superblocks taken
-abbrev pub look_later : (before now : LastLook) (word : ℕ) (v w : View) → now ≡ before → w.wins ≡ v.wins → w.taken ≡ v.taken → IsLook before word v → IsLook now word w
+abbrev pub look_later : (before now : LastLook) (word : ℕ) (v w : View) → now ≡ before → w.wins ≡ v.wins → w.taken ≡ v.taken
+    → IsLook before word v → IsLook now word w
 look_later before now word v w same wins taken p = record {
   ticket = p.ticket;
   by = ap (λ (l : LastLook). l.ticket) same ∙ p.by;
@@ -85,8 +118,14 @@ pub looks_long : (w : View) → HasSoundState w → length w.head_looks ≡ list
 looks_long w has = (has.sound.good.set_up has.seat w has.below has.at).looks
 
 -- the claims without the one that was added
-added_off : (v : View) (d class : ℕ) (caches : List (List ℕ)) → record (parts v) { caches = caches; classed = without_claim d (record { descriptor = d; class = class } ∷ v.classed) } ≡ record (parts v) { caches = caches }
-added_off v d class caches = ap (λ test. record (parts v) { caches = caches; classed = cond test v.classed (record { descriptor = d; class = class } ∷ without_claim d v.classed) }) (eq-eqb d d refl)
+added_off : (v : View) (d class : ℕ) (caches : List (List ℕ)) → record (parts v) {
+  caches = caches;
+  classed = without_claim d (record { descriptor = d; class = class } ∷ v.classed);
+} ≡ record (parts v) { caches = caches }
+added_off v d class caches = ap (λ test. record (parts v) {
+  caches = caches;
+  classed = cond test v.classed (record { descriptor = d; class = class } ∷ without_claim d v.classed);
+}) (eq-eqb d d refl)
 
 -- a superblock of the class was popped
 module _ (v t : View) (class d : ℕ) (is : IsClass class) (popped : HasPopped class d v t) where
@@ -146,17 +185,27 @@ none_of_class v w class head row empty =
     }
 
 -- what the look at an empty list cost
-pub empty_list_row : (list head : ℕ) (v w : SeatView) (pop : Pop) → pop ≡ EmptyList head → Pops list pop v.view w.view → Row (record one_win { draws = 3 }) v w → Row (record no_costs { draws = 3 }) v w
+pub empty_list_row : (list head : ℕ) (v w : SeatView) (pop : Pop) → pop ≡ EmptyList head → Pops list pop v.view w.view
+    → Row (record one_win { draws = 3 }) v w → Row (record no_costs { draws = 3 }) v w
 empty_list_row list head v w pop is done row = let empty : IsEmptyList list head v.view w.view = subst (λ p. Pops list p v.view w.view) is done in
     record { view = nothing_won v.view w.view empty.wins empty.taken row.view; marks = row.marks }
 
-pub empty_class_row : {a : Costs} (class head : ℕ) (v w : SeatView) (from : FromClass) → from ≡ Empty head → FillsFrom class from v.view w.view → Row a v w → Row (fill_costs 3 0 v.view w.view) v w
-empty_class_row class head v w from is done row = let none : IsNoneOfClass class head v.view w.view = subst (λ f. FillsFrom class f v.view w.view) is done in
+pub empty_class_row : {a : Costs} (class head : ℕ) (v w : SeatView) (from : FromClass) → from ≡ Empty head → FillsFrom class from v.view w.view
+    → Row a v w → Row (fill_costs 3 0 v.view w.view) v w
+empty_class_row class head v w from is done row = let none : IsNoneOfClass class head v.view w.view =
+    subst (λ f. FillsFrom class f v.view w.view) is done in
     record { view = none.row; marks = row.marks }
 
 -- how far the tries have come
 pub filling_begins : (v : View) → Taking (fill_costs 0 0 v v) v v
-filling_begins v = record { row = view_row_within (fill_costs 0 0 v v) v v (record { draws = omega arith; wins = omega arith; gives = omega arith; cuts = omega arith; taken = omega arith; moves = omega arith }) (view_row_none v); parts_are = refl; both = λ ran. ran; fresh = inl refl }
+filling_begins v = record {
+  row = view_row_within (fill_costs 0 0 v v) v v
+      (record { draws = omega arith; wins = omega arith; gives = omega arith; cuts = omega arith; taken = omega arith; moves = omega arith })
+      (view_row_none v);
+  parts_are = refl;
+  both = λ ran. ran;
+  fresh = inl refl;
+}
 
 pub filling_on : (v t w : View) → Taking (fill_costs 0 0 v t) v t → HasMoved t w → Taking (fill_costs 0 0 v w) v w
 filling_on v t w filling moved = record {
@@ -170,10 +219,19 @@ pub filling_less : (t w : View) → HasMoved t w → w.setup.budget - w.draws < 
 filling_less t w moved = let same = ap (λ (k : Setup). k.budget) moved.row.passes.setup in let room = moved.room in let more = moved.more in omega arith
 
 filled_later : (v t w : View) (class : ℕ) → parts t ≡ parts v → HasFilled class t w → HasFilled class v w
-filled_later v t w class same filled = record { going = filled.going; blocks = filled.blocks; some = filled.some; most = filled.most; parts_are = filled.parts_are ∙ ap (λ (p : Parts). record p { caches = set p.caches class filled.blocks }) same }
+filled_later v t w class same filled = record {
+  going = filled.going;
+  blocks = filled.blocks;
+  some = filled.some;
+  most = filled.most;
+  parts_are = filled.parts_are ∙ ap (λ (p : Parts). record p { caches = set p.caches class filled.blocks }) same;
+}
 
 pub filling_done : (v t w : View) (class : ℕ) (from : FromClass) → Taking (fill_costs 0 0 v t) v t → FillsFrom class from t w → FillsFrom class from v w
-filling_done v t w class FilledFromClass filling has = record { filled = filled_later v t w class filling.parts_are has.filled; row = fill_then v t w filling.row has.row }
+filling_done v t w class FilledFromClass filling has = record {
+  filled = filled_later v t w class filling.parts_are has.filled;
+  row = fill_then v t w filling.row has.row;
+}
 filling_done v t w class (Empty head) filling none = record {
   ran = filling.both none.ran;
   going = none.going;
@@ -186,7 +244,8 @@ filling_done v t w class (Empty head) filling none = record {
 }
 
 -- a look at an empty list
-abbrev seen_empty : (list word : ℕ) (v t w : View) (look : LastLook) → head_look w list ≡ look → (is : IsLook look word t) → head_first word ≡ 0 → t.taken ≡ v.taken → next_of v ≤ is.ticket → is.ticket < next_of w → HasSeenEmpty list v w
+abbrev seen_empty : (list word : ℕ) (v t w : View) (look : LastLook) → head_look w list ≡ look → (is : IsLook look word t) → head_first word ≡ 0
+    → t.taken ≡ v.taken → next_of v ≤ is.ticket → is.ticket < next_of w → HasSeenEmpty list v w
 seen_empty list word v t w look same is none taken since below = record {
   made = record {
     ticket = is.ticket;
@@ -204,20 +263,24 @@ module _ (v t w : View) (head d : ℕ) (has : HasSoundState w) (empty : IsEmptyL
   pub fresh_behind : next_of t ≤ next_of w → HasSeenEmpty 0 v w
   fresh_behind next =
       let long = looks_long w has in
-      let free : head_look w 0 ≡ looked head t = get_or_default w.head_looks 0 w.used_look t.used_look (omega arith) ∙ ap (λ looks. get_or looks 0 t.used_look) got.heads ∙ empty.look in
+      let free : head_look w 0 ≡ looked head t = get_or_default w.head_looks 0 w.used_look t.used_look (omega arith)
+      ∙ ap (λ looks. get_or looks 0 t.used_look) got.heads ∙ empty.look in
       let first = looked_is t (looked head t) head (next_of v) refl empty.later in
       seen_empty 0 head v t w (looked head t) free first.0 empty.none empty.taken first.1 (let l = first.2 in omega (arith, next, l))
 
   pub fresh_others : KeepsClassLooks v w
   fresh_others list less apart = let long = looks_long w has in
-      get_or_default w.head_looks list w.used_look t.used_look (omega arith) ∙ ap (λ looks. get_or looks list t.used_look) got.heads ∙ empty.others.heads list apart
+      get_or_default w.head_looks list w.used_look t.used_look (omega arith) ∙ ap (λ looks. get_or looks list t.used_look) got.heads
+      ∙ empty.others.heads list apart
 
 pub past_others : (v t w : View) (head used : ℕ) → HasSoundState w → IsEmptyList 0 head v t → IsPast 1 used t w → KeepsClassLooks v w
 past_others v t w head used has empty past list less apart = let long = looks_long w has in
-    get_or_default w.head_looks list w.used_look t.used_look (omega arith) ∙ ap (λ looks. get_or looks list t.used_look) past.heads ∙ empty.others.heads list apart
+    get_or_default w.head_looks list w.used_look t.used_look (omega arith) ∙ ap (λ looks. get_or looks list t.used_look) past.heads
+    ∙ empty.others.heads list apart
 
 -- neither list nor mark gave a superblock
-pub nothing_free : (v t w : View) (head used : ℕ) → HasSoundState w → ViewRow (record no_costs { draws = 6 }) v w → IsEmptyList 0 head v t → IsPast 1 used t w → IsNothingFree head used v w
+pub nothing_free : (v t w : View) (head used : ℕ) → HasSoundState w → ViewRow (record no_costs { draws = 6 }) v w → IsEmptyList 0 head v t
+    → IsPast 1 used t w → IsNothingFree head used v w
 nothing_free v t w head used has row empty past =
     let kept : (list : ℕ) → list < lists → head_look w list ≡ head_look t list = λ list less. let long = looks_long w has in
     get_or_default w.head_looks list w.used_look t.used_look (omega arith) ∙ ap (λ looks. get_or looks list t.used_look) past.heads in
@@ -256,7 +319,8 @@ module _ (v t x : View) (class head d : ℕ) (idle : IsIdle v) (none : IsNoneOfC
     some = let four = four_blocks class is in let all = count in omega arith;
     most = let all = count in omega arith;
     parts_are = done.parts_are ∙ ap (with_cut d class) found_parts
-        ∙ ap (λ test. record cached { raw = cond test v.raw (d ∷ without d v.raw); split = without d v.split; cutting = without d v.cutting }) (eq-eqb d d refl)
+        ∙ ap (λ test. record cached { raw = cond test v.raw (d ∷ without d v.raw); split = without d v.split; cutting = without d v.cutting })
+        (eq-eqb d d refl)
         ∙ ap (λ l. record cached { split = without d l; cutting = without d v.cutting }) idle.split
         ∙ ap (λ l. record cached { split = l; cutting = without d v.cutting }) (sym idle.split)
         ∙ ap (λ l. record cached { cutting = without d l }) idle.cutting
@@ -268,14 +332,17 @@ module _ (v t x : View) (class head d : ℕ) (idle : IsIdle v) (none : IsNoneOfC
     count : length (class_blocks v.setup.capacity class d) ≡ blocks_of class
     count = length_steps _ _ (blocks_of class)
 
-pub nothing_left : (v t w : View) (class class_head free_head used : ℕ) → IsClass class → IsNoneOfClass class class_head v t → IsNothingFree free_head used t w
+pub nothing_left : (v t w : View) (class class_head free_head used : ℕ) → IsClass class → IsNoneOfClass class class_head v t
+    → IsNothingFree free_head used t w
     → IsFull class (record { class_head = class_head; free_head = free_head; used = used }) v w
 nothing_left v t w class class_head free_head used is none nothing = record {
   going = nothing.going;
   parts_are = nothing.parts_are ∙ none.parts_are;
-  cuts = let a = none.row.passes.more.cuts in let b = none.row.passes.most.cuts in let c = nothing.row.passes.more.cuts in let d = nothing.row.passes.most.cuts in omega arith;
+  cuts = let a = none.row.passes.more.cuts in let b = none.row.passes.most.cuts in let c = nothing.row.passes.more.cuts in
+      let d = nothing.row.passes.most.cuts in omega arith;
   taken = let a = none.row.passes.more.taken in let b = none.row.passes.most.taken in let c = nothing.taken in omega arith;
-  class_look = look_later (head_look t class) (head_look w class) class_head t w (nothing.others class (let last = is.last in omega arith) (λ zero_class. let some = is.some in omega arith)) nothing.wins nothing.taken none.look;
+  class_look = look_later (head_look t class) (head_look w class) class_head t w
+      (nothing.others class (let last = is.last in omega arith) (λ zero_class. let some = is.some in omega arith)) nothing.wins nothing.taken none.look;
   free_look = nothing.free_look;
   used_look = nothing.used_look;
   since = none.since;
@@ -289,12 +356,13 @@ nothing_left v t w class class_head free_head used is none nothing = record {
 
 -- a filling that cuts nothing takes nothing
 pub order_uncut : {a : Costs} (class : ℕ) (v w : View) → a.cuts ≡ 0 → a.taken ≡ 0 → ViewRow a v w → IsFilledInOrder class v w
-order_uncut class v w none_cut none_taken row = let taken = row.passes.most.taken in let more = row.passes.more.taken in let cuts = row.passes.most.cuts in record {
-  cut = λ rose. absurd (omega (arith, cuts, rose, none_cut));
-  claimed = λ rose. absurd (omega (arith, cuts, rose, none_cut));
-  uncut = λ same. omega (arith, taken, more, none_taken);
-  fresh = λ rose. absurd (omega (arith, taken, rose, none_taken));
-}
+order_uncut class v w none_cut none_taken row = let taken = row.passes.most.taken in let more = row.passes.more.taken in
+    let cuts = row.passes.most.cuts in record {
+      cut = λ rose. absurd (omega (arith, cuts, rose, none_cut));
+      claimed = λ rose. absurd (omega (arith, cuts, rose, none_cut));
+      uncut = λ same. omega (arith, taken, more, none_taken);
+      fresh = λ rose. absurd (omega (arith, taken, rose, none_taken));
+    }
 
 pub order_full : (class : ℕ) (looks : Looks) (v w : View) → IsFull class looks v w → IsFilledInOrder class v w
 order_full class looks v w full = let taken = full.taken in let cuts = full.cuts in record {
@@ -305,7 +373,8 @@ order_full class looks v w full = let taken = full.taken in let cuts = full.cuts
 }
 
 -- a superblock is cut behind looks at the lists
-module _ {a : Costs} {n : ℕ} (class head : ℕ) (v t x w : View) (none : IsNoneOfClass class head v t) (same : SameLooks x w) (row : ViewRow (record no_costs { draws = n; cuts = 1 }) x w) (found : ViewRow a t x) where
+module _ {a : Costs} {n : ℕ} (class head : ℕ) (v t x w : View) (none : IsNoneOfClass class head v t) (same : SameLooks x w)
+    (row : ViewRow (record no_costs { draws = n; cuts = 1 }) x w) (found : ViewRow a t x) where
   t_taken : t.taken ≡ v.taken
   t_taken = let least = none.row.passes.more.taken in let most = none.row.passes.most.taken in omega (arith, least, most)
 
@@ -313,7 +382,8 @@ module _ {a : Costs} {n : ℕ} (class head : ℕ) (v t x w : View) (none : IsNon
   kept list = ap (λ l. get_or l list w.used_look) same.heads ∙ ap (λ u. get_or x.head_looks list u) same.used
 
   class_kept : IsClass class → KeepsClassLooks t x → head_look w class ≡ head_look t class
-  class_kept is others = kept class ∙ others class (let last = is.last in omega (arith, last)) (λ zero_class. let some = is.some in omega (arith, some, zero_class))
+  class_kept is others = kept class ∙ others class (let last = is.last in omega (arith, last)) (λ zero_class. let some = is.some in
+      omega (arith, some, zero_class))
 
   abbrev class_empty : IsClass class → KeepsClassLooks t x → HasSeenEmpty class v w
   class_empty is others = seen_empty class head v t w (head_look t class) (class_kept is others) none.look none.none t_taken none.since
@@ -332,10 +402,12 @@ module _ {a : Costs} {n : ℕ} (class head : ℕ) (v t x w : View) (none : IsNon
     empty = ap head_first (ap (λ (l : LastLook). l.word) (kept 0)) ∙ free.empty;
   }
 
-  pub order_cut : IsClass class → x.wins ≡ t.wins + 1 → (t.taken < x.taken → HasSeenEmpty 0 t x) → KeepsClassLooks t x → v.cuts < w.cuts → IsFilledInOrder class v w
+  pub order_cut : IsClass class → x.wins ≡ t.wins + 1 → (t.taken < x.taken → HasSeenEmpty 0 t x) → KeepsClassLooks t x → v.cuts < w.cuts
+      → IsFilledInOrder class v w
   order_cut is won seen others more = record {
     cut = λ _. class_empty is others;
-    claimed = λ _. let e = ap (λ (l : LastLook). l.wins) (class_kept is others) in let k = none.look.wins in let least = row.passes.more.wins in let most = row.passes.most.wins in let moved = row.passes.most.moves in omega (arith, won, e, k, least, most, moved);
+    claimed = λ _. let e = ap (λ (l : LastLook). l.wins) (class_kept is others) in let k = none.look.wins in let least = row.passes.more.wins in
+        let most = row.passes.most.wins in let moved = row.passes.most.moves in omega (arith, won, e, k, least, most, moved);
     uncut = λ uncut. absurd (omega (arith, uncut, more));
     fresh = λ rose. let free = seen (let most = row.passes.most.taken in let b = t_taken in omega (arith, most, b, rose)) in record {
       of_class = class_empty is others;

@@ -50,28 +50,32 @@ module _ (v w : View) (d found : ℕ) (event : IsEvent (TakeAll d) v found w) (s
   word_is = sym event.found_is ∙ same
 
   cut_there : 0 < times_cut event.before.sound.good.shape (tally_of event.before.views) d
-  cut_there = let c = event.may.ready.claimed in let t = total_at (λ (x : View). times_classed d x.classed) event.before.views event.before.seat v event.before.below event.before.at in omega arith
+  cut_there = let c = event.may.ready.claimed in let t = total_at
+      (λ (x : View). times_classed d x.classed) event.before.views event.before.seat v event.before.below event.before.at in omega arith
 
   info_is : info m d ≡ cut_class
   info_is = ((event.before.sound.good.claims event.before.seat v event.before.below event.before.at).is_classed d event.may.ready.claimed).1
 
   anchored : IsAnchoredBy (next m) v.setup.capacity cut_class d (seen_word v.seen_anchor) (event.before.sound.good.shape.chains d)
   anchored = subst (λ a. IsAnchoredBy (next m) v.setup.capacity cut_class d a (event.before.sound.good.shape.chains d)) word_is
-      (subst (λ n. IsAnchoredBy (next m) v.setup.capacity n d (anchor m d) (event.before.sound.good.shape.chains d)) info_is (event.before.sound.good.shaped.chained.anchored d cut_there))
+      (subst (λ n. IsAnchoredBy (next m) v.setup.capacity n d (anchor m d) (event.before.sound.good.shape.chains d)) info_is
+      (event.before.sound.good.shaped.chained.anchored d cut_there))
 
   count_is : length blocks ≡ length (event.before.sound.good.shape.chains d)
   count_is = chain_length (next m) _ (anchor_count (seen_word v.seen_anchor)) ∙ anchored.count
 
   pub some_taken : 1 ≤ length blocks
   some_taken = elim (cases_eq (length blocks) 0) [
-    | inl none ↦ absurd (let full = ap anchor_state (anchored.full.1 (sym count_is ∙ none)) in let partial = event.may.ready.partial in omega (arith, full, partial))
+    | inl none ↦ absurd (let full = ap anchor_state (anchored.full.1 (sym count_is ∙ none)) in let partial = event.may.ready.partial in
+        omega (arith, full, partial))
     | inr some ↦ omega (arith, some)
   ]
 
   pub few_taken : length blocks < blocks_of cut_class
   few_taken = elim (cases_eq (length blocks) (blocks_of cut_class)) [
     | inl all ↦ absurd (let empty = anchored.empty.1 (sym count_is ∙ all) in let partial = event.may.ready.partial in omega (arith, empty, partial))
-    | inr apart ↦ let most = subst (λ l. length l ≤ blocks_of cut_class) (cache_taken v w d found event same) (taken_short v w d found event same cut_class refl) in omega (arith, apart)
+    | inr apart ↦ let most = subst (λ l. length l ≤ blocks_of cut_class) (cache_taken v w d found event same)
+        (taken_short v w d found event same cut_class refl) in omega (arith, apart)
   ]
 
 module _ (v u w : View) (d class found : ℕ) (drawn : HasDrawn v u) (claim : IsClaimOf class d v) (event : IsEvent (TakeAll d) u found w) where
@@ -101,7 +105,8 @@ module _ (v u w : View) (d class found : ℕ) (drawn : HasDrawn v u) (claim : Is
     left : w ≡ record (lost (drawn_as v drawn.ticket u) found) { seen_anchor = None }
     left = take_all_lost d u w found event other ∙ ap (λ (x : View). record (lost x found) { seen_anchor = None }) drawn.left
 
-  pub exchanged : ViewRow one_draw v u → (won : Bool) (result : Result ⊤ ℕ) → Tells (seen_word u.seen_anchor) found result → won ≡ is_ok result → TakesSeen d class won v w
+  pub exchanged : ViewRow one_draw v u → (won : Bool) (result : Result ⊤ ℕ) → Tells (seen_word u.seen_anchor) found result → won ≡ is_ok result
+      → TakesSeen d class won v w
   exchanged row won (Ok x) told is = subst (λ b. TakesSeen d class b v w) (sym is) (take_wins told)
   exchanged row won (Err x) told is = subst (λ b. TakesSeen d class b v w) (sym is) (take_loses row told.1)
 
@@ -110,7 +115,13 @@ pub uncached_still : (v t : View) (class : ℕ) → parts t ≡ parts v → of_c
 uncached_still v t class same none = ap (λ (p : Parts). of_class p.caches class) same ∙ none
 
 pub taken_later : (v t w : View) (d class : ℕ) → parts t ≡ parts v → HasTakenFree d class t w → HasTakenFree d class v w
-taken_later v t w d class same taken = record { going = taken.going; blocks = taken.blocks; some = taken.some; few = taken.few; parts_are = taken.parts_are ∙ ap (with_taken d class taken.blocks) same }
+taken_later v t w d class same taken = record {
+  going = taken.going;
+  blocks = taken.blocks;
+  some = taken.some;
+  few = taken.few;
+  parts_are = taken.parts_are ∙ ap (with_taken d class taken.blocks) same;
+}
 
 pub not_taken_later : (v t w : View) (d found : ℕ) → HasSeenAnchor d found v t → ViewRow one_draw v t → HasNotTaken 1 t w → HasNotTaken 2 v w
 not_taken_later v t w d found seen row missed = record {
@@ -134,14 +145,22 @@ taking_begins v = record { row = view_row_none v; parts_are = refl; both = λ ra
 
 pub taking_on : (v t w : View) → Taking no_costs v t → HasNotTaken 2 t w → Taking no_costs v w
 taking_on v t w taking missed = record {
-  row = view_row_within no_costs v w (record { draws = omega arith; wins = omega arith; gives = omega arith; cuts = omega arith; taken = omega arith; moves = omega arith }) (view_row_then v t w taking.row missed.row);
+  row = view_row_within no_costs v w (record {
+    draws = omega arith;
+    wins = omega arith;
+    gives = omega arith;
+    cuts = omega arith;
+    taken = omega arith;
+    moves = omega arith;
+  }) (view_row_then v t w taking.row missed.row);
   parts_are = missed.parts_are ∙ taking.parts_are;
   both = λ ran. taking.both missed.ran;
   fresh = inr missed.going;
 }
 
 pub taking_less : (t w : View) → HasNotTaken 2 t w → w.setup.budget - w.draws < t.setup.budget - t.draws
-taking_less t w missed = let same = ap (λ (k : Setup). k.budget) missed.row.passes.setup in let room = missed.room in let more = missed.more in omega arith
+taking_less t w missed = let same = ap (λ (k : Setup). k.budget) missed.row.passes.setup in let room = missed.room in let more = missed.more in
+    omega arith
 
 pub taking_stops : {a : Costs} (v t w : View) (step : ℕ) → Taking a v t → Stops step t w → Stops step v w
 taking_stops v t w step taking stop = elim taking.fresh [
@@ -154,7 +173,12 @@ taking_row v t w taking row = view_row_then v t w taking.row row
 
 pub taking_done : (v t w : View) (d class : ℕ) (taken : Bool) → Taking no_costs v t → TakesFree d class taken t w → TakesFree d class taken v w
 taking_done v t w d class true taking has = taken_later v t w d class taking.parts_are has
-taking_done v t w d class false taking has = record { going = has.going; parts_are = has.parts_are ∙ taking.parts_are; empty = has.empty; row = view_row_then v t w taking.row has.row }
+taking_done v t w d class false taking has = record {
+  going = has.going;
+  parts_are = has.parts_are ∙ taking.parts_are;
+  empty = has.empty;
+  row = view_row_then v t w taking.row has.row;
+}
 
 pub none_row : (v w : View) (d class : ℕ) (taken : Bool) → TakesFree d class taken v w → taken ≡ false → ViewRow one_draw v w
 none_row v w d class taken has none = (subst (λ b. TakesFree d class b v w) none has).row

@@ -83,7 +83,8 @@ pub record HasSeenNone (class : ℕ) (v w : View) : Type 0 where
   pub free : HasSeenEmpty 0 v w
   pub order : of_class.made.ticket < free.made.ticket
 
--- a superblock is cut only where the list of the class had none, and since then one exchange was won, by which it was claimed; one that was never taken is taken to be cut alone, and only where neither list had one
+-- a superblock is cut only where the list of the class had none, and since then one exchange was won, by which it was
+-- claimed; one that was never taken is taken to be cut alone, and only where neither list had one
 pub record IsFilledInOrder (class : ℕ) (v w : View) : Type 0 where
   pub cut : v.cuts < w.cuts → HasSeenEmpty class v w
   pub claimed : v.cuts < w.cuts → w.wins ≡ (head_look w class).wins + 1
@@ -117,7 +118,8 @@ abbrev pub Finds : Found → View → View → Type 0
 Finds (Got d) v w = HasFound d v w
 Finds (Nothing free_head used) v w = IsNothingFree free_head used v w
 
--- the seat has what it had; its last looks, in this order, said that the list of the class is empty, that of the free ones too, and that the mark is past; from the first of these on it won no exchange
+-- the seat has what it had; its last looks, in this order, said that the list of the class is empty, that of the free
+-- ones too, and that the mark is past; from the first of these on it won no exchange
 pub record IsFull (class : ℕ) (looks : Looks) (v w : View) : Type 0 where
   pub going : w.stopped ≡ None
   pub parts_are : parts w ≡ parts v

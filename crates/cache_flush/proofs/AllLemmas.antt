@@ -68,14 +68,23 @@ module _ (v t : View) (has : HasSoundState t) (number : ℕ) (is : IsClass numbe
 
   -- the cache of the class, among all
   without_one : total length (set t.caches number []) + length (of_class t.caches number) ≡ cached t
-  without_one = let sum = total_set length t.caches number (of_class t.caches number) [] below (get_or_default t.caches number (of_class t.caches number) [] below) in omega arith
+  without_one = let sum = total_set length t.caches number (of_class t.caches number) [] below
+      (get_or_default t.caches number (of_class t.caches number) [] below) in omega arith
 
   less_one : total (runs_of t.setup.capacity) (set t.caches number []) + cache_runs t number ≡ cached_runs t
-  less_one = let sum = total_set (runs_of t.setup.capacity) t.caches number (of_class t.caches number) [] below (get_or_default t.caches number (of_class t.caches number) [] below) in omega arith
+  less_one = let sum = total_set (runs_of t.setup.capacity) t.caches number (of_class t.caches number) [] below
+      (get_or_default t.caches number (of_class t.caches number) [] below) in omega arith
 
   pub all_most : (w : View) → ViewRow (cache_costs t number) t w → ViewRow (all_costs v) v w
   all_most w row = let f = so_far.few in let one = without_one in let r = so_far.runs in let less = less_one in
-      view_row_within (all_costs v) v w (record { draws = omega arith; wins = omega arith; gives = omega arith; cuts = omega arith; taken = omega arith; moves = omega arith }) (view_row_then v t w so_far.row row)
+      view_row_within (all_costs v) v w (record {
+        draws = omega arith;
+        wins = omega arith;
+        gives = omega arith;
+        cuts = omega arith;
+        taken = omega arith;
+        moves = omega arith;
+      }) (view_row_then v t w so_far.row row)
 
   pub all_stops : (w : View) (step : ℕ) → Stops step t w → Stops step v w
   all_stops w step stop = stops_later v t w step so_far.ran so_far.going so_far.row stop
@@ -85,10 +94,12 @@ module _ (v t : View) (has : HasSoundState t) (number : ℕ) (is : IsClass numbe
       let caches : w.caches ≡ set t.caches number [] = ap (λ (p : Parts). p.caches) done.parts_are in record {
         ran = so_far.ran;
         going = done.going;
-        parts_are = done.parts_are ∙ ap (λ (p : Parts). record p { caches = set t.caches number [] }) so_far.parts_are ∙ ap (λ l. record (parts v) { caches = l }) (sym caches);
+        parts_are = done.parts_are ∙ ap (λ (p : Parts). record p { caches = set t.caches number [] }) so_far.parts_are
+            ∙ ap (λ l. record (parts v) { caches = l }) (sym caches);
         empty = λ class is_class low. elim (cases_eq class number) as (λ _. of_class w.caches class ≡ []) [
           | inl same ↦ ap (λ n. of_class w.caches n) same ∙ ap (λ l. of_class l number) caches ∙ cache_set t has number is []
-          | inr other ↦ ap (λ l. of_class l class) caches ∙ get_or-set_other t.caches number class [] [] other ∙ so_far.empty class is_class (omega (arith, other))
+          | inr other ↦ ap (λ l. of_class l class) caches ∙ get_or-set_other t.caches number class [] [] other
+              ∙ so_far.empty class is_class (omega (arith, other))
         ];
         flushed = so_far.flushed + length (of_class t.caches number);
         more = λ some. elim (cases_lt 0 so_far.flushed) as (λ _. v.draws < w.draws) [
@@ -101,10 +112,19 @@ module _ (v t : View) (has : HasSoundState t) (number : ℕ) (is : IsClass numbe
         ];
         few = let one = without_one in let f = so_far.few in let e = ap (λ l. total length l) caches in omega arith;
         given = so_far.given + cache_runs t number;
-        runs = let less = less_one in let r = so_far.runs in let e = ap (λ (p : Parts). total (runs_of p.setup.capacity) p.caches) done.parts_are in omega arith;
+        runs = let less = less_one in let r = so_far.runs in let e = ap
+            (λ (p : Parts). total (runs_of p.setup.capacity) p.caches) done.parts_are in omega arith;
         gives = let before = so_far.gives in let now = done.gives in omega arith;
         by = gave_cache number t w so_far.by done.by;
-        row = view_row_within (flush_costs (so_far.flushed + length (of_class t.caches number)) (so_far.given + cache_runs t number)) v w (record { draws = omega arith; wins = omega arith; gives = omega arith; cuts = omega arith; taken = omega arith; moves = omega arith }) (view_row_then v t w so_far.row row);
+        row = view_row_within (flush_costs (so_far.flushed + length (of_class t.caches number)) (so_far.given + cache_runs t number)) v w
+            (record {
+              draws = omega arith;
+              wins = omega arith;
+              gives = omega arith;
+              cuts = omega arith;
+              taken = omega arith;
+              moves = omega arith;
+            }) (view_row_then v t w so_far.row row);
       }
 
 -- there are no more runs than blocks
@@ -139,4 +159,11 @@ all_done v t number has past so_far =
 
 pub all_row : (v t : View) (number : ℕ) → FlushedBelow number v t → ViewRow (all_costs v) v t
 all_row v t number so_far = let f = so_far.few in let r = so_far.runs in
-    view_row_within (all_costs v) v t (record { draws = omega arith; wins = omega arith; gives = omega arith; cuts = omega arith; taken = omega arith; moves = omega arith }) so_far.row
+    view_row_within (all_costs v) v t (record {
+      draws = omega arith;
+      wins = omega arith;
+      gives = omega arith;
+      cuts = omega arith;
+      taken = omega arith;
+      moves = omega arith;
+    }) so_far.row

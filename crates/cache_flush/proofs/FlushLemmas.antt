@@ -36,12 +36,15 @@ module _ (v : View) (has : HasSoundState v) (class d : ℕ) (claim : IsClaimOf c
   ]
 
   moved : {w : View} (list : ℕ) → HasPushed list d 3 v w → w.moves ≡ v.moves + cond (nat_eq list 0) 1 0
-  moved list pushed = pushed.moves ∙ ap (λ (test : Bool). v.moves + cond test 0 (cond (nat_eq list 0) 1 0)) (not-lt 0 (times d v.raw + times d v.split) (let none = raw_none v has class d claim in omega arith))
+  moved list pushed = pushed.moves ∙ ap (λ (test : Bool). v.moves + cond test 0 (cond (nat_eq list 0) 1 0))
+      (not-lt 0 (times d v.raw + times d v.split) (let none = raw_none v has class d claim in omega arith))
 
   won_once : {w : View} (list : ℕ) → HasPushed list d 3 v w → w.wins ≤ v.wins + 1
   won_once {w} list pushed = elim (cases_eq list 0) as (λ _. w.wins ≤ v.wins + 1) [
-    | inl free ↦ let most = (pushed.moved free (let none = raw_none v has class d claim in omega arith)).passes.most in let wins = most.wins in let moves = most.moves in omega arith
-    | inr other ↦ let wins = pushed.row.passes.most.wins in let same = moved list pushed ∙ ap (λ (test : Bool). v.moves + cond test 1 0) (ne_eqb list 0 other) in omega arith
+    | inl free ↦ let most = (pushed.moved free (let none = raw_none v has class d claim in omega arith)).passes.most in let wins = most.wins in
+        let moves = most.moves in omega arith
+    | inr other ↦ let wins = pushed.row.passes.most.wins in let same = moved list pushed
+        ∙ ap (λ (test : Bool). v.moves + cond test 1 0) (ne_eqb list 0 other) in omega arith
   ]
 
   pub listed_by : (w : View) (list found : ℕ) → (anchor_state found ≡ partial_state → list ≡ class) → (anchor_state found ≢ partial_state → list ≡ 0)
@@ -51,11 +54,14 @@ module _ (v : View) (has : HasSoundState v) (class d : ℕ) (claim : IsClaimOf c
     parts_are = claim_pushed v has class d claim v w list refl pushed;
     wins = won_once list pushed;
     empty = λ is. moved list pushed ∙ ap (λ (test : Bool). v.moves + cond test 1 0) (eq-eqb list 0 (other (λ same. omega (arith, is, same))));
-    partial = λ is. moved list pushed ∙ ap (λ (test : Bool). v.moves + cond test 1 0) (ne_eqb list 0 (λ zero_list. let some = claim.is_class.some in let at = partial is in omega (arith, zero_list))) ∙ (let e : v.moves + 0 ≡ v.moves = omega arith in e);
+    partial = λ is. moved list pushed ∙ ap (λ (test : Bool). v.moves + cond test 1 0)
+        (ne_eqb list 0 (λ zero_list. let some = claim.is_class.some in let at = partial is in omega (arith, zero_list)))
+        ∙ (let e : v.moves + 0 ≡ v.moves = omega arith in e);
   }
 
   -- and so after a look
-  pub listed : {a : Costs} (t w : View) (found : ℕ) → HasSeenAnchor d found v t → anchor_state found < 2 → a.moves ≡ 0 → a.wins ≡ 0 → ViewRow a v t → HasListedBy d found t w → HasListed d v w
+  pub listed : {a : Costs} (t w : View) (found : ℕ) → HasSeenAnchor d found v t → anchor_state found < 2 → a.moves ≡ 0 → a.wins ≡ 0
+      → ViewRow a v t → HasListedBy d found t w → HasListed d v w
   listed t w found seen low none unwon row by = record {
     anchor = found;
     at = t;
@@ -75,7 +81,8 @@ module _ (v : View) (has : HasSoundState v) (class d : ℕ) (claim : IsClaimOf c
   ]
 
 -- the batch that was lifted
-pub lifted_batch : (v t : View) (has : HasSoundState v) (class d last : ℕ) (is : IsClass class) → HasLiftedPrefix class d last v t → IsBatchOf d class last t
+pub lifted_batch : (v t : View) (has : HasSoundState v) (class d last : ℕ) (is : IsClass class) → HasLiftedPrefix class d last v t
+    → IsBatchOf d class last t
 lifted_batch v t has class d last is prefix = let b = lifting_batch v has class is t d last prefix.lifting in record {
   descriptor = ap (λ (x : Batch). x.descriptor) b;
   class_is = ap (λ (x : Batch). x.class) b;
@@ -83,20 +90,30 @@ lifted_batch v t has class d last is prefix = let b = lifting_batch v has class 
   last_is = ap (λ (x : Batch). last_of x.blocks) b ∙ prefix.lifting.last_is;
 }
 
-module _ (v t x : View) (has : HasSoundState v) (class d last : ℕ) (is : IsClass class) (none : v.batch ≡ no_batch) (prefix : HasLiftedPrefix class d last v t) where
+module _ (v t x : View) (has : HasSoundState v) (class d last : ℕ) (is : IsClass class) (none : v.batch ≡ no_batch)
+    (prefix : HasLiftedPrefix class d last v t) where
   abbrev lifted : List ℕ
   lifted = prefix.lifting.lifted
 
   abbrev rest : List ℕ
   rest = prefix.lifting.rest
 
-  full_parts : HasGiven d class true t x → parts x ≡ record (parts v) { caches = set v.caches class rest; batch = no_batch; classed = record { descriptor = d; class = class } ∷ v.classed }
-  full_parts given = given.parts_are ∙ ap (given_parts true d class) prefix.lifting.parts_are ∙ claim_added class d (record (parts v) { caches = set v.caches class rest; batch = no_batch }) is
+  full_parts : HasGiven d class true t x → parts x ≡ record (parts v) {
+    caches = set v.caches class rest;
+    batch = no_batch;
+    classed = record { descriptor = d; class = class } ∷ v.classed;
+  }
+  full_parts given = given.parts_are ∙ ap (given_parts true d class) prefix.lifting.parts_are
+      ∙ claim_added class d (record (parts v) { caches = set v.caches class rest; batch = no_batch }) is
 
   pub given_claimed : HasGiven d class true t x → IsClaimOf class d x
   given_claimed given = claim_of_class class d _ x is given.parts_are
 
-  same_batch : (classed : List Claim) → record (parts v) { caches = set v.caches class rest; batch = no_batch; classed = classed } ≡ record (parts v) { caches = set v.caches class rest; classed = classed }
+  same_batch : (classed : List Claim) → record (parts v) {
+    caches = set v.caches class rest;
+    batch = no_batch;
+    classed = classed;
+  } ≡ record (parts v) { caches = set v.caches class rest; classed = classed }
   same_batch classed = ap (λ (b : Batch). record (parts v) { caches = set v.caches class rest; batch = b; classed = classed }) (sym none)
 
   pub given_free : HasGiven d class false t x → parts x ≡ with_cache class rest (parts v)
@@ -105,7 +122,11 @@ module _ (v t x : View) (has : HasSoundState v) (class d last : ℕ) (is : IsCla
   pub given_listed : (w : View) → HasGiven d class true t x → HasListed d x w → parts w ≡ with_cache class rest (parts v)
   given_listed w given listed = listed.parts_are
       ∙ ap (λ (p : Parts). record p { classed = without_claim d p.classed }) (full_parts given)
-      ∙ ap (λ test. record (parts v) { caches = set v.caches class rest; batch = no_batch; classed = cond test v.classed (record { descriptor = d; class = class } ∷ without_claim d v.classed) }) (eq-eqb d d refl)
+      ∙ ap (λ test. record (parts v) {
+        caches = set v.caches class rest;
+        batch = no_batch;
+        classed = cond test v.classed (record { descriptor = d; class = class } ∷ without_claim d v.classed);
+      }) (eq-eqb d d refl)
       ∙ same_batch v.classed
 
   -- what was done with the first run
@@ -119,19 +140,30 @@ module _ (v t x : View) (has : HasSoundState v) (class d last : ℕ) (is : IsCla
   few = let all = ap length prefix.lifting.both in let sum = length-append lifted rest in omega arith
 
   one_run : cache_runs v class ≡ 1 + runs_of v.setup.capacity rest
-  one_run = ap (runs_of v.setup.capacity) prefix.lifting.both ∙ first_run v.setup.capacity d lifted rest prefix.lifting.some prefix.lifting.together prefix.longest
+  one_run = ap (runs_of v.setup.capacity) prefix.lifting.both ∙ first_run v.setup.capacity d lifted rest prefix.lifting.some
+      prefix.lifting.together prefix.longest
 
-  pub prefix_row : {a : Costs} (w : View) → IsWithin a (record no_costs { draws = 7; wins = 2; gives = 1; moves = 1 }) → ViewRow a t w → ViewRow (cache_costs v class) v w
+  pub prefix_row : {a : Costs} (w : View) → IsWithin a (record no_costs { draws = 7; wins = 2; gives = 1; moves = 1 }) → ViewRow a t w
+      → ViewRow (cache_costs v class) v w
   prefix_row w less row = let f = few in let r = one_run in
-      view_row_within (cache_costs v class) v w (record { draws = let l = less.draws in omega arith; wins = let l = less.wins in omega arith; gives = let l = less.gives in omega arith; cuts = let l = less.cuts in omega arith; taken = let l = less.taken in omega arith; moves = let l = less.moves in omega arith }) (view_row_then v t w prefix.lifting.row row)
+      view_row_within (cache_costs v class) v w (record {
+        draws = let l = less.draws in omega arith;
+        wins = let l = less.wins in omega arith;
+        gives = let l = less.gives in omega arith;
+        cuts = let l = less.cuts in omega arith;
+        taken = let l = less.taken in omega arith;
+        moves = let l = less.moves in omega arith;
+      }) (view_row_then v t w prefix.lifting.row row)
 
-  pub prefix_done : {a : Costs} (w : View) → IsWithin a (record no_costs { draws = 7; wins = 2; gives = 1; moves = 1 }) → ViewRow a t w → w.stopped ≡ None → t.gives < w.gives → parts w ≡ with_cache class rest (parts v) → GivesRun class v w → HasFlushedPrefix class v w
+  pub prefix_done : {a : Costs} (w : View) → IsWithin a (record no_costs { draws = 7; wins = 2; gives = 1; moves = 1 }) → ViewRow a t w
+      → w.stopped ≡ None → t.gives < w.gives → parts w ≡ with_cache class rest (parts v) → GivesRun class v w → HasFlushedPrefix class v w
   prefix_done w less row going gave same by = record {
     ran = prefix.lifting.ran;
     going = going;
     room = prefix.lifting.room;
     more = let d = row.passes.more.draws in let m = prefix.lifting.more in omega arith;
-    gives = let least = prefix.lifting.row.passes.more.gives in let none = prefix.lifting.row.passes.most.gives in let l = less.gives in let most = row.passes.most.gives in omega arith;
+    gives = let least = prefix.lifting.row.passes.more.gives in let none = prefix.lifting.row.passes.most.gives in let l = less.gives in
+        let most = row.passes.most.gives in omega arith;
     flushed = lifted;
     rest = rest;
     both = prefix.lifting.both;
@@ -139,7 +171,16 @@ module _ (v t x : View) (has : HasSoundState v) (class d last : ℕ) (is : IsCla
     runs = one_run;
     parts_are = same;
     by = by;
-    row = view_row_within (flush_costs (length lifted) 1) v w (record { draws = let l = less.draws in omega arith; wins = let l = less.wins in omega arith; gives = let l = less.gives in omega arith; cuts = let l = less.cuts in omega arith; taken = let l = less.taken in omega arith; moves = let l = less.moves in omega arith }) (view_row_then v t w prefix.lifting.row row);
+    row = view_row_within (flush_costs (length lifted) 1) v w (record {
+      draws = let l = less.draws in omega arith;
+      wins = let l = less.wins in
+          omega arith;
+      gives = let l = less.gives in omega arith;
+      cuts = let l = less.cuts in omega arith;
+      taken = let l = less.taken in
+          omega arith;
+      moves = let l = less.moves in omega arith;
+    }) (view_row_then v t w prefix.lifting.row row);
   }
 
 -- how far a flush has come
@@ -192,22 +233,35 @@ module _ (v t : View) (has : HasSoundState v) (class : ℕ) (is : IsClass class)
   flushing_batch none = ap (λ (p : Parts). p.batch) flushing.parts_are ∙ none
 
   few_left : length flushing.flushed + length (of_class t.caches class) ≡ length (of_class v.caches class)
-  few_left = let all = ap length flushing.both in let sum = length-append flushing.flushed flushing.rest in let r = ap length flushing_cache in omega arith
+  few_left = let all = ap length flushing.both in let sum = length-append flushing.flushed flushing.rest in let r = ap length flushing_cache in
+      omega arith
 
   runs_left : flushing.given + cache_runs t class ≡ cache_runs v class
-  runs_left = let same = ap (λ (p : Parts). runs_of p.setup.capacity (of_class t.caches class)) flushing.parts_are in let r = ap (runs_of v.setup.capacity) flushing_cache in let all = flushing.runs in omega arith
+  runs_left = let same = ap (λ (p : Parts). runs_of p.setup.capacity (of_class t.caches class)) flushing.parts_are in
+      let r = ap (runs_of v.setup.capacity) flushing_cache in let all = flushing.runs in omega arith
 
   pub flushing_row : ViewRow (cache_costs v class) v t
-  flushing_row = let f = few_left in let r = runs_left in view_row_within (cache_costs v class) v t (record { draws = omega arith; wins = omega arith; gives = omega arith; cuts = omega arith; taken = omega arith; moves = omega arith }) flushing.row
+  flushing_row = let f = few_left in let r = runs_left in view_row_within (cache_costs v class) v t
+      (record { draws = omega arith; wins = omega arith; gives = omega arith; cuts = omega arith; taken = omega arith; moves = omega arith })
+      flushing.row
 
   pub flushing_most : (w : View) → ViewRow (cache_costs t class) t w → ViewRow (cache_costs v class) v w
-  flushing_most w row = let f = few_left in let r = runs_left in view_row_within (cache_costs v class) v w (record { draws = omega arith; wins = omega arith; gives = omega arith; cuts = omega arith; taken = omega arith; moves = omega arith }) (view_row_then v t w flushing.row row)
+  flushing_most w row = let f = few_left in let r = runs_left in view_row_within (cache_costs v class) v w
+      (record { draws = omega arith; wins = omega arith; gives = omega arith; cuts = omega arith; taken = omega arith; moves = omega arith })
+      (view_row_then v t w flushing.row row)
 
   pub flushing_stops : (w : View) (step : ℕ) → Stops step t w → Stops step v w
   flushing_stops w step stop = stops_later v t w step flushing.ran flushing.going flushing.row stop
 
   pub flushing_done : length (of_class t.caches class) ≡ 0 → HasFlushed class v t
-  flushing_done none = record { going = flushing.going; more = λ some. flushing.more (let f = few_left in omega arith); gave = λ some. let g = flushing.some (let f = few_left in omega arith) in let e = flushing.gives in omega arith; gives = let no_runs = ap (runs_of v.setup.capacity) no_rest in let all = flushing.runs in let e = flushing.gives in omega arith; by = flushing.by; parts_are = flushing.parts_are ∙ ap (λ bs. with_cache class bs (parts v)) no_rest } where
+  flushing_done none = record {
+    going = flushing.going;
+    more = λ some. flushing.more (let f = few_left in omega arith);
+    gave = λ some. let g = flushing.some (let f = few_left in omega arith) in let e = flushing.gives in omega arith;
+    gives = let no_runs = ap (runs_of v.setup.capacity) no_rest in let all = flushing.runs in let e = flushing.gives in omega arith;
+    by = flushing.by;
+    parts_are = flushing.parts_are ∙ ap (λ bs. with_cache class bs (parts v)) no_rest;
+  } where
     empty : (bs : List ℕ) → length bs ≡ 0 → bs ≡ []
     empty [] e = refl
     empty (b ∷ bs) e = absurd (omega arith)
@@ -224,17 +278,29 @@ module _ (v t : View) (has : HasSoundState v) (class : ℕ) (is : IsClass class)
     more = λ some. let before = flushing.row.passes.more.draws in let now = prefix.more in omega arith;
     given = flushing.given + 1;
     some = λ some. omega arith;
-    runs = let left = runs_left in let e = prefix.runs in let same = ap (λ (p : Parts). runs_of p.setup.capacity prefix.rest) flushing.parts_are in omega arith;
+    runs = let left = runs_left in let e = prefix.runs in let same =
+        ap (λ (p : Parts). runs_of p.setup.capacity prefix.rest) flushing.parts_are in omega arith;
     gives = let before = flushing.gives in let now = prefix.gives in omega arith;
     by = gave_more t w flushing.by prefix.by;
-    both = flushing.both ∙ ap (λ bs. flushing.flushed ++ bs) (sym flushing_cache ∙ prefix.both) ∙ sym (append_three flushing.flushed prefix.flushed prefix.rest);
-    parts_are = prefix.parts_are ∙ ap (with_cache class prefix.rest) flushing.parts_are ∙ ap (λ l. record (parts v) { caches = l }) (set-set v.caches class flushing.rest prefix.rest);
+    both = flushing.both ∙ ap (λ bs. flushing.flushed ++ bs) (sym flushing_cache ∙ prefix.both)
+        ∙ sym (append_three flushing.flushed prefix.flushed prefix.rest);
+    parts_are = prefix.parts_are ∙ ap (with_cache class prefix.rest) flushing.parts_are
+        ∙ ap (λ l. record (parts v) { caches = l }) (set-set v.caches class flushing.rest prefix.rest);
     row = let many = length-append flushing.flushed prefix.flushed in
-        view_row_within (flush_costs (length (flushing.flushed ++ prefix.flushed)) (flushing.given + 1)) v w (record { draws = omega arith; wins = omega arith; gives = omega arith; cuts = omega arith; taken = omega arith; moves = omega arith }) (view_row_then v t w flushing.row prefix.row);
+        view_row_within (flush_costs (length (flushing.flushed ++ prefix.flushed)) (flushing.given + 1)) v w
+        (record {
+          draws = omega arith;
+          wins = omega arith;
+          gives = omega arith;
+          cuts = omega arith;
+          taken = omega arith;
+          moves = omega arith;
+        }) (view_row_then v t w flushing.row prefix.row);
   }
 
 pub flushing_less : (class : ℕ) (t w : View) → HasFlushedPrefix class t w → w.setup.budget - w.draws < t.setup.budget - t.draws
-flushing_less class t w prefix = let same = ap (λ (k : Setup). k.budget) prefix.row.passes.setup in let room = prefix.room in let more = prefix.more in omega arith
+flushing_less class t w prefix = let same = ap (λ (k : Setup). k.budget) prefix.row.passes.setup in let room = prefix.room in
+    let more = prefix.more in omega arith
 
 pub on_ok_then : {A E P Q : Type 0} (result : Result A E) → (P → Q) → OnOk result P → OnOk result Q
 on_ok_then (Ok x) more is = more is

@@ -84,13 +84,23 @@ module _ (v : View) (has : HasSoundState v) (d class last : ℕ) (batch : IsBatc
     last_here : cell_at u.setup.capacity last ≡ data_cell last
     last_here = ap (λ (x : View). cell_at x.setup.capacity last) drawn.left ∙ last_cell
 
-    last_left : w ≡ record (used_up u) { volatile = learn u.volatile last first; batch = record u.batch { linked = cond (nat_eq last (last_of u.batch.blocks)) false u.batch.linked } }
+    last_left : w ≡ record (used_up u) {
+      volatile = learn u.volatile last first;
+      batch = record u.batch { linked = cond (nat_eq last (last_of u.batch.blocks)) false u.batch.linked };
+    }
     last_left = event.after ∙ ap (λ (cell : Cell). stored (record (used_up u) { volatile = learn u.volatile last first }) cell first) last_here
 
     left_here : w ≡ record (used_up (drawn_as v drawn.ticket u)) { volatile = learn u.volatile last first; batch = record v.batch { linked = false } }
     left_here = last_left
-        ∙ ap (λ (x : View). record (used_up x) { volatile = learn u.volatile last first; batch = record x.batch { linked = cond (nat_eq last (last_of x.batch.blocks)) false x.batch.linked } }) drawn.left
-        ∙ ap (λ l. record (used_up (drawn_as v drawn.ticket u)) { volatile = learn u.volatile last first; batch = record v.batch { linked = l } }) (pick (nat_eq last (last_of v.batch.blocks)) false v.batch.linked (eq-eqb last (last_of v.batch.blocks) (sym batch.last_is)))
+        ∙ ap (λ (x : View). record (used_up x) {
+          volatile = learn u.volatile last first;
+          batch = record x.batch { linked = cond (nat_eq last (last_of x.batch.blocks)) false x.batch.linked };
+        }) drawn.left
+        ∙ ap (λ l. record (used_up (drawn_as v drawn.ticket u)) {
+          volatile = learn u.volatile last first;
+          batch = record v.batch { linked = l };
+        }) (pick (nat_eq last (last_of v.batch.blocks)) false v.batch.linked
+        (eq-eqb last (last_of v.batch.blocks) (sym batch.last_is)))
 
     pub last_linked : HasLinkedLast last first v w
     last_linked = record {
@@ -108,18 +118,33 @@ pub can_give : (v u : View) (has : HasSoundState v) (d : ℕ) → HasDrawn v u �
 can_give v u has d drawn can = subst (λ (x : View). Can x (Give d)) (sym drawn.left) (record {
   going = drawn.went;
   ticket = refl;
-  shown = record { batch = can.batch; some = can.some; is_seen = can.is_seen; of = can.of; linked = λ more. (drawn.words (last_of v.batch.blocks) (owned more)).volatile _ (can.linked more) };
+  shown = record {
+    batch = can.batch;
+    some = can.some;
+    is_seen = can.is_seen;
+    of = can.of;
+    linked = λ more. (drawn.words (last_of v.batch.blocks) (owned more)).volatile _ (can.linked more);
+  };
 }) where
   owned : anchor_count (seen_word v.seen_anchor) ≢ 0 → Owns v (last_of v.batch.blocks)
-  owned more = let b : IsBatchOf d v.batch.class (last_of v.batch.blocks) v = record { descriptor = can.batch; class_is = refl; some = can.some; last_is = refl } in
+  owned more = let b : IsBatchOf d v.batch.class (last_of v.batch.blocks) v = record {
+    descriptor = can.batch;
+    class_is = refl;
+    some = can.some;
+    last_is = refl;
+  } in
       subst (IsOwn v) (sym (last_cell v has d v.batch.class (last_of v.batch.blocks) b)) (last_own v has d v.batch.class (last_of v.batch.blocks) b)
 
 given_from : (test : Bool) (class d ticket : ℕ) (v u w : View) → v.stopped ≡ None
-    → w ≡ trimmed (cond test (claimed (record (won (drawn_as v ticket u)) { batch = no_batch; seen_anchor = None; gives = v.gives + 1 }) d class) (record (won (drawn_as v ticket u)) { batch = no_batch; seen_anchor = None; gives = v.gives + 1 }))
+    → w ≡ trimmed (cond test (claimed (record (won (drawn_as v ticket u)) { batch = no_batch; seen_anchor = None; gives = v.gives + 1 })
+    d class) (record (won (drawn_as v ticket u)) { batch = no_batch; seen_anchor = None; gives = v.gives + 1 }))
     → HasGiven d class test v w
-given_from true zero d ticket v u w going after = subst (HasGiven d zero true v) (sym after) (record { going = going; gave = omega arith; wins = refl; parts_are = refl; durable = λ _. omega arith })
-given_from true (suc class) d ticket v u w going after = subst (HasGiven d (suc class) true v) (sym after) (record { going = going; gave = omega arith; wins = refl; parts_are = refl; durable = λ _. omega arith })
-given_from false class d ticket v u w going after = subst (HasGiven d class false v) (sym after) (record { going = going; gave = omega arith; wins = refl; parts_are = refl; durable = λ no. absurd (cc) })
+given_from true zero d ticket v u w going after = subst (HasGiven d zero true v) (sym after)
+    (record { going = going; gave = omega arith; wins = refl; parts_are = refl; durable = λ _. omega arith })
+given_from true (suc class) d ticket v u w going after = subst (HasGiven d (suc class) true v) (sym after)
+    (record { going = going; gave = omega arith; wins = refl; parts_are = refl; durable = λ _. omega arith })
+given_from false class d ticket v u w going after = subst (HasGiven d class false v) (sym after)
+    (record { going = going; gave = omega arith; wins = refl; parts_are = refl; durable = λ no. absurd (cc) })
 
 module _ (v u w : View) (d found : ℕ) (drawn : HasDrawn v u) (row : ViewRow one_draw v u) (event : IsEvent (Give d) u found w) where
   give_wins : found ≡ seen_word u.seen_anchor → HasGiven d v.batch.class (nat_eq (seen_word v.seen_anchor) full_anchor) v w
@@ -144,7 +169,8 @@ module _ (v u w : View) (d found : ℕ) (drawn : HasDrawn v u) (row : ViewRow on
   exchanged won (Err x) told is = subst (λ b. GivesSeen d b v w) (sym is) (give_loses told.1)
 
 -- the same batch, by its parts
-pub batch_still : (linked : Bool) (v w : View) (d class last : ℕ) → parts w ≡ with_linked linked (parts v) → IsBatchOf d class last v → IsBatchOf d class last w
+pub batch_still : (linked : Bool) (v w : View) (d class last : ℕ) → parts w ≡ with_linked linked (parts v) → IsBatchOf d class last v
+    → IsBatchOf d class last w
 batch_still linked v w d class last same batch = record {
   descriptor = ap (λ (p : Parts). p.batch.descriptor) same ∙ batch.descriptor;
   class_is = ap (λ (p : Parts). p.batch.class) same ∙ batch.class_is;
@@ -153,7 +179,8 @@ batch_still linked v w d class last same batch = record {
 }
 
 -- no block was free
-pub can_give_full : (v : View) (d class last found : ℕ) → IsBatchOf d class last v → v.seen_anchor ≡ anchor_seen d found → found ≡ full_anchor → CanGive v d
+pub can_give_full : (v : View) (d class last found : ℕ) → IsBatchOf d class last v → v.seen_anchor ≡ anchor_seen d found → found ≡ full_anchor
+    → CanGive v d
 can_give_full v d class last found batch sees full = record {
   batch = batch.descriptor;
   some = batch.some;
@@ -163,17 +190,20 @@ can_give_full v d class last found batch sees full = record {
 }
 
 -- some were, and the last one of the batch leads to the first of them
-pub can_give_some : (v x : View) (d class last found first : ℕ) → IsBatchOf d class last v → v.seen_anchor ≡ anchor_seen d found → HasLinkedLast last first v x
+pub can_give_some : (v x : View) (d class last found first : ℕ) → IsBatchOf d class last v → v.seen_anchor ≡ anchor_seen d found
+    → HasLinkedLast last first v x
     → first ≡ start_word v.setup.capacity d + anchor_first found * words_of_class class → CanGive x d
 can_give_some v x d class last found first batch sees linked at = let b = batch_still false v x d class last linked.parts_are batch in record {
   batch = b.descriptor;
   some = b.some;
   is_seen = ap one_if_some (linked.anchor ∙ sees);
   of = ap seen_of (linked.anchor ∙ sees);
-  linked = λ _. subst (λ n. Shows x (data_cell n) (start_word x.setup.capacity d + anchor_first (seen_word x.seen_anchor) * words_of_class x.batch.class)) (sym b.last_is)
+  linked = λ _. subst (λ n. Shows x (data_cell n) (start_word x.setup.capacity d + anchor_first
+      (seen_word x.seen_anchor) * words_of_class x.batch.class)) (sym b.last_is)
       (subst (Shows x (data_cell last)) (at ∙ sym place) linked.link);
 } where
-  place : start_word x.setup.capacity d + anchor_first (seen_word x.seen_anchor) * words_of_class x.batch.class ≡ start_word v.setup.capacity d + anchor_first found * words_of_class class
+  place : start_word x.setup.capacity d + anchor_first (seen_word x.seen_anchor)
+      * words_of_class x.batch.class ≡ start_word v.setup.capacity d + anchor_first found * words_of_class class
   place = ap (λ (p : Parts). start_word p.setup.capacity d + anchor_first (seen_word x.seen_anchor) * words_of_class p.batch.class) linked.parts_are
       ∙ ap (λ (s : Option Snapshot). start_word v.setup.capacity d + anchor_first (seen_word s) * words_of_class v.batch.class) (linked.anchor ∙ sees)
       ∙ ap (λ n. start_word v.setup.capacity d + anchor_first found * words_of_class n) batch.class_is
@@ -183,10 +213,20 @@ given_linked : (linked full : Bool) (d class : ℕ) (p : Parts) → given_parts 
 given_linked linked true d class p = refl
 given_linked linked false d class p = refl
 
-pub given_later : {a : Costs} (linked : Bool) (v t w : View) (d class : ℕ) (full : Bool) → parts t ≡ with_linked linked (parts v) → a.wins ≡ 0 → a.moves ≡ 0 → ViewRow a v t → HasGiven d class full t w → HasGiven d class full v w
-given_later linked v t w d class full same unwon still row has = record { going = has.going; gave = let g = has.gave in let few = row.passes.more.gives in omega arith; wins = let e = has.wins in let least = row.passes.more.wins in let most = row.passes.most.wins in let moves = row.passes.most.moves in omega arith; parts_are = has.parts_are ∙ ap (given_parts full d class) same ∙ given_linked linked full d class (parts v); durable = has.durable }
+pub given_later : {a : Costs} (linked : Bool) (v t w : View) (d class : ℕ) (full : Bool) → parts t ≡ with_linked linked (parts v) → a.wins ≡ 0
+    → a.moves ≡ 0 → ViewRow a v t → HasGiven d class full t w → HasGiven d class full v w
+given_later linked v t w d class full same unwon still row has = record {
+  going = has.going;
+  gave = let g = has.gave in
+      let few = row.passes.more.gives in omega arith;
+  wins = let e = has.wins in let least = row.passes.more.wins in
+      let most = row.passes.most.wins in let moves = row.passes.most.moves in omega arith;
+  parts_are = has.parts_are ∙ ap (given_parts full d class) same ∙ given_linked linked full d class (parts v);
+  durable = has.durable;
+}
 
-pub not_given_later : {n : ℕ} (m : ℕ) (linked : Bool) (v t w : View) → v.stopped ≡ None → v.draws < v.setup.budget → parts t ≡ with_linked linked (parts v) → ViewRow (record no_costs { draws = n }) v t → HasNotGiven m t w → HasNotGiven (n + m) v w
+pub not_given_later : {n : ℕ} (m : ℕ) (linked : Bool) (v t w : View) → v.stopped ≡ None → v.draws < v.setup.budget
+    → parts t ≡ with_linked linked (parts v) → ViewRow (record no_costs { draws = n }) v t → HasNotGiven m t w → HasNotGiven (n + m) v w
 not_given_later m linked v t w ran room same row has = record {
   ran = ran;
   going = has.going;
@@ -197,7 +237,9 @@ not_given_later m linked v t w ran room same row has = record {
   row = view_row_then v t w row has.row;
 }
 
-pub gives_later : {n : ℕ} (m : ℕ) (linked : Bool) (v t w : View) (d class : ℕ) (answer : Option Bool) → v.stopped ≡ None → v.draws < v.setup.budget → parts t ≡ with_linked linked (parts v) → ViewRow (record no_costs { draws = n }) v t → Gives d class m answer t w → Gives d class (n + m) answer v w
+pub gives_later : {n : ℕ} (m : ℕ) (linked : Bool) (v t w : View) (d class : ℕ) (answer : Option Bool) → v.stopped ≡ None
+    → v.draws < v.setup.budget → parts t ≡ with_linked linked (parts v) → ViewRow (record no_costs { draws = n }) v t
+    → Gives d class m answer t w → Gives d class (n + m) answer v w
 gives_later m linked v t w d class None ran room same row has = not_given_later m linked v t w ran room same row has
 gives_later m linked v t w d class (Some full) ran room same row has = given_later linked v t w d class full same refl refl row has
 
@@ -211,11 +253,25 @@ pub record Giving (d class last : ℕ) (v t : View) : Type 0 where
   pub batch : IsBatchOf d class last t
 
 pub giving_begins : (v : View) (d class last : ℕ) → IsBatchOf d class last v → Giving d class last v v
-giving_begins v d class last batch = record { row = view_row_none v; linked = v.batch.linked; parts_are = refl; both = λ ran. ran; fresh = inl refl; batch = batch }
+giving_begins v d class last batch = record {
+  row = view_row_none v;
+  linked = v.batch.linked;
+  parts_are = refl;
+  both = λ ran. ran;
+  fresh = inl refl;
+  batch = batch;
+}
 
 pub giving_on : (v t w : View) (d class last : ℕ) → Giving d class last v t → HasNotGiven 3 t w → Giving d class last v w
 giving_on v t w d class last giving missed = record {
-  row = view_row_within no_costs v w (record { draws = omega arith; wins = omega arith; gives = omega arith; cuts = omega arith; taken = omega arith; moves = omega arith }) (view_row_then v t w giving.row missed.row);
+  row = view_row_within no_costs v w (record {
+    draws = omega arith;
+    wins = omega arith;
+    gives = omega arith;
+    cuts = omega arith;
+    taken = omega arith;
+    moves = omega arith;
+  }) (view_row_then v t w giving.row missed.row);
   linked = missed.linked;
   parts_are = missed.parts_are ∙ ap (with_linked missed.linked) giving.parts_are;
   both = λ ran. giving.both missed.ran;
@@ -224,7 +280,8 @@ giving_on v t w d class last giving missed = record {
 }
 
 pub giving_less : (t w : View) → HasNotGiven 3 t w → w.setup.budget - w.draws < t.setup.budget - t.draws
-giving_less t w missed = let same = ap (λ (k : Setup). k.budget) missed.row.passes.setup in let room = missed.room in let more = missed.more in omega arith
+giving_less t w missed = let same = ap (λ (k : Setup). k.budget) missed.row.passes.setup in let room = missed.room in let more = missed.more in
+    omega arith
 
 pub giving_stops : (v t w : View) (step d class last : ℕ) → Giving d class last v t → Stops step t w → Stops step v w
 giving_stops v t w step d class last giving stop = elim giving.fresh [
@@ -232,14 +289,16 @@ giving_stops v t w step d class last giving stop = elim giving.fresh [
   | inr going ↦ stops_later v t w step (giving.both going) going giving.row stop
 ]
 
-pub giving_row : (v t w : View) (d class last : ℕ) → Giving d class last v t → ViewRow (record one_give { draws = 3 }) t w → ViewRow (record one_give { draws = 3 }) v w
+pub giving_row : (v t w : View) (d class last : ℕ) → Giving d class last v t → ViewRow (record one_give { draws = 3 }) t w
+    → ViewRow (record one_give { draws = 3 }) v w
 giving_row v t w d class last giving row = view_row_then v t w giving.row row
 
 pub giving_done : (v t w : View) (d class last : ℕ) (full : Bool) → Giving d class last v t → HasGiven d class full t w → HasGiven d class full v w
 giving_done v t w d class last full giving has = given_later giving.linked v t w d class full giving.parts_are refl refl giving.row has
 
 -- what the anchor that was seen says
-pub given_seen : (full : Bool) (v w : View) (d class last found : ℕ) → IsBatchOf d class last v → v.seen_anchor ≡ anchor_seen d found → nat_eq found full_anchor ≡ full → HasGiven d v.batch.class (nat_eq (seen_word v.seen_anchor) full_anchor) v w → HasGiven d class full v w
+pub given_seen : (full : Bool) (v w : View) (d class last found : ℕ) → IsBatchOf d class last v → v.seen_anchor ≡ anchor_seen d found
+    → nat_eq found full_anchor ≡ full → HasGiven d v.batch.class (nat_eq (seen_word v.seen_anchor) full_anchor) v w → HasGiven d class full v w
 given_seen full v w d class last found batch sees is has =
     subst (λ test. HasGiven d class test v w) (ap (λ (s : Option Snapshot). nat_eq (seen_word s) full_anchor) sees ∙ is)
     (subst (λ n. HasGiven d n (nat_eq (seen_word v.seen_anchor) full_anchor) v w) batch.class_is has)

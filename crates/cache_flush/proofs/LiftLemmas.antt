@@ -53,9 +53,11 @@ module _ (v : View) (has : HasSoundState v) (class : ℕ) (can : CanLift v class
       (let plus : class ≡ 0 + class = omega arith in let two = two_words (0 + class) (subst IsClass plus can.is_class) in
       let in_cache = in_classes_word b b 0 class v.caches (omega arith) (omega arith) (first_there (of_class v.caches class) can.cached) in omega arith)
 
-  pub first_next : (s : HasSoundState v) → 1 ≤ length (rest_of (of_class v.caches class)) → (memory_of v.setup.capacity s.words).volatile (cell_at v.setup.capacity b) ≡ first_of (rest_of (of_class v.caches class))
+  pub first_next : (s : HasSoundState v) → 1 ≤ length (rest_of (of_class v.caches class))
+      → (memory_of v.setup.capacity s.words).volatile (cell_at v.setup.capacity b) ≡ first_of (rest_of (of_class v.caches class))
   first_next s some = ap (λ (cell : Cell). (memory_of v.setup.capacity s.words).volatile cell) first_cell
-      ∙ sym (rest_first (next (memory_of v.setup.capacity s.words)) (of_class v.caches class) ((s.sound.good.blocks s.seat v s.below s.at).cache_linked class) some)
+      ∙ sym (rest_first (next (memory_of v.setup.capacity s.words)) (of_class v.caches class)
+      ((s.sound.good.blocks s.seat v s.below s.at).cache_linked class) some)
 
   last_shown : 1 ≤ length v.batch.blocks → Owns v (last_of v.batch.blocks)
   last_shown some = let there = last_there v.batch.blocks some in
@@ -68,14 +70,17 @@ module _ (v : View) (has : HasSoundState v) (class : ℕ) (can : CanLift v class
   lift_still w same words = record {
     is_class = can.is_class;
     cached = subst (λ (p : Parts). 1 ≤ length (of_class p.caches class)) (sym same) can.cached;
-    same = subst (λ (p : Parts). 1 ≤ length p.batch.blocks → p.batch.descriptor ≡ superblock_at p.setup.capacity (first_of (of_class p.caches class))) (sym same) can.same;
+    same = subst (λ (p : Parts). 1 ≤ length p.batch.blocks → p.batch.descriptor ≡ superblock_at p.setup.capacity
+        (first_of (of_class p.caches class))) (sym same) can.same;
     unchanged = subst (λ (p : Parts). 1 ≤ length p.batch.blocks → p.batch.linked ≡ true) (sym same) can.unchanged;
-    linked = subst (λ (p : Parts). 1 ≤ length p.batch.blocks → Shows w (data_cell (last_of p.batch.blocks)) (first_of (of_class p.caches class))) (sym same)
+    linked = subst (λ (p : Parts). 1 ≤ length p.batch.blocks → Shows w (data_cell (last_of p.batch.blocks))
+        (first_of (of_class p.caches class))) (sym same)
         (λ some. (words (last_of v.batch.blocks) (last_shown some)).volatile b (can.linked some));
   }
 
 -- the load of the first block's first word
-module _ (v u x : View) (has : HasSoundState v) (class found : ℕ) (can : CanLift v class) (drawn : HasDrawn v u) (row : ViewRow one_draw v u) (event : IsEvent (Load (first_of (of_class v.caches class))) u found x) where
+module _ (v u x : View) (has : HasSoundState v) (class found : ℕ) (can : CanLift v class) (drawn : HasDrawn v u) (row : ViewRow one_draw v u)
+    (event : IsEvent (Load (first_of (of_class v.caches class))) u found x) where
   abbrev at : ℕ
   at = first_of (of_class v.caches class)
 
@@ -95,7 +100,8 @@ module _ (v u x : View) (has : HasSoundState v) (class found : ℕ) (can : CanLi
   x_going = ap (λ (y : View). y.stopped) x_is ∙ drawn.went
 
   x_words : (k : ℕ) → Owns v k → KeepsWord v x k
-  x_words k own = subst (λ y. KeepsWord v y k) (sym event.after) (word_then v u (record (used_up u) { volatile = learn u.volatile at found }) k (drawn.words k own)
+  x_words k own = subst (λ y. KeepsWord v y k) (sym event.after) (word_then v u (record (used_up u) { volatile = learn u.volatile at found }) k
+      (drawn.words k own)
       (let p = learned_word u event.before at found event.may.ready event.found_is k in record { volatile = p.volatile; durable = p.durable }))
 
   pub x_can : CanLift x class
@@ -134,7 +140,8 @@ module _ (v u x : View) (has : HasSoundState v) (class found : ℕ) (can : CanLi
       parts_are = ap parts (w_is going)
           ∙ ap (λ (p : Parts). with_lifted class (first_of (of_class p.caches class)) p) x_parts;
       link = λ some. subst (λ y. Shows y (data_cell at) (first_of (rest_of (of_class v.caches class)))) (sym (w_is going))
-          ((early_words x early settles at (still_owns v x x_parts at (first_own v has class can))).volatile (first_of (rest_of (of_class v.caches class))) (x_link some));
+          ((early_words x early settles at (still_owns v x x_parts at (first_own v has class can))).volatile
+          (first_of (rest_of (of_class v.caches class))) (x_link some));
     }
 
     pub lift_told : (result : Result ⊤ Stopped) → TellsDraw w result → OnOk result (HasLifted class at v w)
@@ -143,14 +150,17 @@ module _ (v u x : View) (has : HasSoundState v) (class found : ℕ) (can : CanLi
 
     pub lift_stopped : (result : Result ⊤ Stopped) → TellsDraw w result → IfErr result (λ e. Stops e.step v w)
     lift_stopped (Ok y) going = tt
-    lift_stopped (Err e) told = stops_later v x w e.step drawn.went x_going x_row (stops x early settles (Some (Lift class)) w ticket shift e.step x_going told)
+    lift_stopped (Err e) told = stops_later v x w e.step drawn.went x_going x_row
+        (stops x early settles (Some (Lift class)) w ticket shift e.step x_going told)
 
 -- what the calls ask
-pub can_load : (v u : View) (has : HasSoundState v) (class first : ℕ) → CanLift v class → HasDrawn v u → first ≡ first_of (of_class v.caches class) → Can u (Load first)
+pub can_load : (v u : View) (has : HasSoundState v) (class first : ℕ) → CanLift v class → HasDrawn v u
+    → first ≡ first_of (of_class v.caches class) → Can u (Load first)
 can_load v u has class first can drawn is = subst (λ y. Can y (Load first)) (sym drawn.left) (record {
   going = drawn.went;
   ticket = refl;
-  shown = subst (λ n. IsOwn (drawn_as v drawn.ticket u) (cell_at v.setup.capacity n)) (sym is) (still_owns v (drawn_as v drawn.ticket u) refl (first_of (of_class v.caches class)) (first_own v has class can));
+  shown = subst (λ n. IsOwn (drawn_as v drawn.ticket u) (cell_at v.setup.capacity n)) (sym is)
+      (still_owns v (drawn_as v drawn.ticket u) refl (first_of (of_class v.caches class)) (first_own v has class can));
 })
 
 append_again : (bs : List ℕ) (b : ℕ) (cs : List ℕ) → (bs ++ b ∷ []) ++ cs ≡ bs ++ b ∷ cs
@@ -166,7 +176,8 @@ lifts_begin v class is some none = let empty = ap (λ (x : Batch). length x.bloc
   linked = λ more. absurd (omega arith);
 }
 
-pub lifting_one : (v w : View) (class first : ℕ) → 1 ≤ length (of_class v.caches class) → v.batch ≡ no_batch → first ≡ first_of (of_class v.caches class) → HasLifted class first v w → ViewRow (record no_costs { draws = 2 }) v w
+pub lifting_one : (v w : View) (class first : ℕ) → 1 ≤ length (of_class v.caches class) → v.batch ≡ no_batch
+    → first ≡ first_of (of_class v.caches class) → HasLifted class first v w → ViewRow (record no_costs { draws = 2 }) v w
     → IsLifting class (superblock_at v.setup.capacity first) first v w
 lifting_one v w class first some none is lifted row = record {
   ran = lifted.ran;
@@ -177,9 +188,13 @@ lifting_one v w class first some none is lifted row = record {
   rest = rest_of (of_class v.caches class);
   both = first_rest (of_class v.caches class) some ∙ ap (λ b. b ∷ rest_of (of_class v.caches class)) (sym is);
   parts_are = lifted.parts_are
-      ∙ ap (λ (x : Batch). record (parts v) { caches = set v.caches class (rest_of (of_class v.caches class)); batch = record { descriptor = superblock_at v.setup.capacity first; class = class; blocks = x.blocks ++ first ∷ []; linked = true } }) none;
+      ∙ ap (λ (x : Batch). record (parts v) {
+        caches = set v.caches class (rest_of (of_class v.caches class));
+        batch = record { descriptor = superblock_at v.setup.capacity first; class = class; blocks = x.blocks ++ first ∷ []; linked = true };
+      }) none;
   some = omega arith;
-  together = All-cons (λ b. superblock_at v.setup.capacity b ≡ superblock_at v.setup.capacity first) first [] refl (All-nil (λ b. superblock_at v.setup.capacity b ≡ superblock_at v.setup.capacity first));
+  together = All-cons (λ b. superblock_at v.setup.capacity b ≡ superblock_at v.setup.capacity first) first [] refl
+      (All-nil (λ b. superblock_at v.setup.capacity b ≡ superblock_at v.setup.capacity first));
   last_is = refl;
   link = lifted.link;
   row = row;
@@ -206,16 +221,20 @@ module _ (v : View) (has : HasSoundState v) (class : ℕ) (is : IsClass class) w
     lifting_can some at = record {
       is_class = is;
       cached = some;
-      same = λ more. ap (λ (x : Batch). x.descriptor) lifting_batch ∙ sym at ∙ ap (λ (k : Setup). superblock_at k.capacity (first_of (of_class t.caches class))) (sym lifting_setup);
+      same = λ more. ap (λ (x : Batch). x.descriptor) lifting_batch ∙ sym at
+          ∙ ap (λ (k : Setup). superblock_at k.capacity (first_of (of_class t.caches class))) (sym lifting_setup);
       unchanged = λ more. ap (λ (x : Batch). x.linked) lifting_batch;
-      linked = λ more. subst (λ n. Shows t (data_cell n) (first_of (of_class t.caches class))) (sym (ap (λ (x : Batch). last_of x.blocks) lifting_batch ∙ lifting.last_is))
+      linked = λ more. subst (λ n. Shows t (data_cell n) (first_of (of_class t.caches class)))
+          (sym (ap (λ (x : Batch). last_of x.blocks) lifting_batch ∙ lifting.last_is))
           (subst (λ bs. Shows t (data_cell last) (first_of bs)) (sym lifting_cache) (lifting.link (subst (λ bs. 1 ≤ length bs) lifting_cache some)));
     }
 
-    module _ (w : View) (next : ℕ) (some : 1 ≤ length (of_class t.caches class)) (next_is : next ≡ first_of (of_class t.caches class)) (at : superblock_at v.setup.capacity (first_of (of_class t.caches class)) ≡ d)
+    module _ (w : View) (next : ℕ) (some : 1 ≤ length (of_class t.caches class)) (next_is : next ≡ first_of (of_class t.caches class))
+        (at : superblock_at v.setup.capacity (first_of (of_class t.caches class)) ≡ d)
         (lifted : HasLifted class next t w) (row : ViewRow (record no_costs { draws = 2 }) t w) where
       rest_is : lifting.rest ≡ next ∷ rest_of lifting.rest
-      rest_is = first_rest lifting.rest (subst (λ bs. 1 ≤ length bs) lifting_cache some) ∙ ap (λ b. b ∷ rest_of lifting.rest) (ap first_of (sym lifting_cache) ∙ sym next_is)
+      rest_is = first_rest lifting.rest (subst (λ bs. 1 ≤ length bs) lifting_cache some)
+          ∙ ap (λ b. b ∷ rest_of lifting.rest) (ap first_of (sym lifting_cache) ∙ sym next_is)
 
       many : length (lifting.lifted ++ next ∷ []) ≡ length lifting.lifted + 1
       many = length-append lifting.lifted (next ∷ [])
@@ -233,32 +252,84 @@ module _ (v : View) (has : HasSoundState v) (class : ℕ) (is : IsClass class) w
         rest = rest_of lifting.rest;
         both = lifting.both ∙ ap (λ bs. lifting.lifted ++ bs) rest_is ∙ sym (append_again lifting.lifted next (rest_of lifting.rest));
         parts_are = lifted.parts_are ∙ ap (with_lifted class next) lifting.parts_are
-            ∙ ap (λ bs. record (parts v) { caches = set (set v.caches class lifting.rest) class (rest_of bs); batch = record { descriptor = superblock_at v.setup.capacity next; class = class; blocks = lifting.lifted ++ next ∷ []; linked = true } }) (cache_set lifting.rest)
-            ∙ ap (λ bs. record (parts v) { caches = bs; batch = record { descriptor = superblock_at v.setup.capacity next; class = class; blocks = lifting.lifted ++ next ∷ []; linked = true } }) (set-set v.caches class lifting.rest (rest_of lifting.rest))
-            ∙ ap (λ n. record (parts v) { caches = set v.caches class (rest_of lifting.rest); batch = record { descriptor = n; class = class; blocks = lifting.lifted ++ next ∷ []; linked = true } }) (ap (superblock_at v.setup.capacity) next_is ∙ at);
+            ∙ ap (λ bs. record (parts v) {
+              caches = set (set v.caches class lifting.rest) class (rest_of bs);
+              batch = record {
+                descriptor = superblock_at v.setup.capacity next;
+                class = class;
+                blocks = lifting.lifted ++ next ∷ [];
+                linked = true;
+              };
+            }) (cache_set lifting.rest)
+            ∙ ap (λ bs. record (parts v) {
+              caches = bs;
+              batch = record {
+                descriptor = superblock_at v.setup.capacity next;
+                class = class;
+                blocks = lifting.lifted ++ next ∷ [];
+                linked = true;
+              };
+            }) (set-set v.caches class lifting.rest (rest_of lifting.rest))
+            ∙ ap (λ n. record (parts v) {
+              caches = set v.caches class (rest_of lifting.rest);
+              batch = record { descriptor = n; class = class; blocks = lifting.lifted ++ next ∷ []; linked = true };
+            })
+            (ap (superblock_at v.setup.capacity) next_is ∙ at);
         some = omega (arith, many);
-        together = All-push (λ b. superblock_at v.setup.capacity b ≡ d) lifting.lifted next lifting.together (ap (superblock_at v.setup.capacity) next_is ∙ at);
+        together = All-push (λ b. superblock_at v.setup.capacity b ≡ d) lifting.lifted next lifting.together
+            (ap (superblock_at v.setup.capacity) next_is ∙ at);
         last_is = last_append lifting.lifted next;
         link = subst (λ bs. 1 ≤ length (rest_of bs) → Shows w (data_cell next) (first_of (rest_of bs))) lifting_cache lifted.link;
-        row = let m = many in view_row_within (lift_costs (length (lifting.lifted ++ next ∷ []))) v w (record { draws = omega arith; wins = omega arith; gives = omega arith; cuts = omega arith; taken = omega arith; moves = omega arith }) (view_row_then v t w lifting.row row);
+        row = let m = many in view_row_within (lift_costs (length (lifting.lifted ++ next ∷ []))) v w
+            (record {
+              draws = omega arith;
+              wins = omega arith;
+              gives = omega arith;
+              cuts = omega arith;
+              taken = omega arith;
+              moves = omega arith;
+            }) (view_row_then v t w lifting.row row);
       }
 
-    pub lifting_most : (w : View) → 1 ≤ length (of_class t.caches class) → ViewRow (record no_costs { draws = 2 }) t w → ViewRow (lift_costs (length (of_class v.caches class))) v w
-    lifting_most w some row = let all = ap length lifting.both in let sum = length-append lifting.lifted lifting.rest in let r = ap length lifting_cache in
-        view_row_within (lift_costs (length (of_class v.caches class))) v w (record { draws = omega arith; wins = omega arith; gives = omega arith; cuts = omega arith; taken = omega arith; moves = omega arith }) (view_row_then v t w lifting.row row)
+    pub lifting_most : (w : View) → 1 ≤ length (of_class t.caches class) → ViewRow (record no_costs { draws = 2 }) t w
+        → ViewRow (lift_costs (length (of_class v.caches class))) v w
+    lifting_most w some row = let all = ap length lifting.both in let sum = length-append lifting.lifted lifting.rest in
+        let r = ap length lifting_cache in
+        view_row_within (lift_costs (length (of_class v.caches class))) v w
+        (record {
+          draws = omega arith;
+          wins = omega arith;
+          gives = omega arith;
+          cuts = omega arith;
+          taken = omega arith;
+          moves = omega arith;
+        }) (view_row_then v t w lifting.row row)
 
     pub lifting_row : ViewRow (lift_costs (length (of_class v.caches class))) v t
     lifting_row = let all = ap length lifting.both in let sum = length-append lifting.lifted lifting.rest in
-        view_row_within (lift_costs (length (of_class v.caches class))) v t (record { draws = omega arith; wins = omega arith; gives = omega arith; cuts = omega arith; taken = omega arith; moves = omega arith }) lifting.row
+        view_row_within (lift_costs (length (of_class v.caches class))) v t
+        (record {
+          draws = omega arith;
+          wins = omega arith;
+          gives = omega arith;
+          cuts = omega arith;
+          taken = omega arith;
+          moves = omega arith;
+        }) lifting.row
 
     pub lifted_all : length (of_class t.caches class) ≡ 0 → HasLiftedPrefix class d last v t
     lifted_all none = record { lifting = lifting; longest = λ more. absurd (let r = ap length lifting_cache in omega arith) }
 
     pub lifted_some : superblock_at v.setup.capacity (first_of (of_class t.caches class)) ≢ d → HasLiftedPrefix class d last v t
-    lifted_some other = record { lifting = lifting; longest = λ more same. other (ap (λ bs. superblock_at v.setup.capacity (first_of bs)) lifting_cache ∙ same) }
+    lifted_some other = record {
+      lifting = lifting;
+      longest = λ more same. other
+          (ap (λ bs. superblock_at v.setup.capacity (first_of bs)) lifting_cache ∙ same);
+    }
 
 -- a cached block lies among the words of superblocks
-pub above : (v : View) → HasSoundState v → (class : ℕ) → 1 ≤ length (of_class v.caches class) → start_word v.setup.capacity 0 ≤ first_of (of_class v.caches class)
+pub above : (v : View) → HasSoundState v → (class : ℕ) → 1 ≤ length (of_class v.caches class)
+    → start_word v.setup.capacity 0 ≤ first_of (of_class v.caches class)
 above v has class some = (block_range v has (first_of (of_class v.caches class))
     (let t = in_lists_total (first_of (of_class v.caches class)) class v.caches (first_there (of_class v.caches class) some) in omega arith)).0
 

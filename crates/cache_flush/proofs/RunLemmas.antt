@@ -18,11 +18,13 @@ runs_few c (b ∷ []) = omega arith
 runs_few c (b ∷ a ∷ bs) = let rest = runs_few c (a ∷ bs) in let one = begins_few (nat_eq (superblock_at c b) (superblock_at c a)) in omega arith
 
 -- blocks of superblock d, with one of another behind them, if any
-pub first_run : (c d : ℕ) (bs rest : List ℕ) → 1 ≤ length bs → All (λ b. superblock_at c b ≡ d) bs → (1 ≤ length rest → superblock_at c (first_of rest) ≢ d) → runs_of c (bs ++ rest) ≡ 1 + runs_of c rest
+pub first_run : (c d : ℕ) (bs rest : List ℕ) → 1 ≤ length bs → All (λ b. superblock_at c b ≡ d) bs
+    → (1 ≤ length rest → superblock_at c (first_of rest) ≢ d) → runs_of c (bs ++ rest) ≡ 1 + runs_of c rest
 first_run c d [] rest some in_d longest = absurd (omega arith)
 first_run c d (b ∷ []) [] some in_d longest = refl
 first_run c d (b ∷ []) (a ∷ rest) some in_d longest =
-    ap (λ same. begins same + runs_of c (a ∷ rest)) (ne_eqb (superblock_at c b) (superblock_at c a) (λ same. longest (omega arith) (sym same ∙ All-head (λ x. superblock_at c x ≡ d) b [] in_d)))
+    ap (λ same. begins same + runs_of c (a ∷ rest)) (ne_eqb (superblock_at c b) (superblock_at c a)
+    (λ same. longest (omega arith) (sym same ∙ All-head (λ x. superblock_at c x ≡ d) b [] in_d)))
 first_run c d (b ∷ a ∷ bs) rest some in_d longest =
     let behind = All-tail (λ x. superblock_at c x ≡ d) b (a ∷ bs) in_d in
     ap (λ same. begins same + runs_of c ((a ∷ bs) ++ rest)) (eq-eqb (superblock_at c b) (superblock_at c a)

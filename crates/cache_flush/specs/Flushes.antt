@@ -55,7 +55,8 @@ pub data GivesRuns (class : ℕ) (v : View) : View → Type 0 where
 abbrev pub with_cache : ℕ → List ℕ → Parts → Parts
 with_cache class blocks p = record p { caches = set p.caches class blocks }
 
--- of so many blocks in so many runs: for each block 2 draws, and for each run 7 draws, 2 exchanges that are won, a give, and a superblock that may be moved
+-- of so many blocks in so many runs: for each block 2 draws, and for each run 7 draws, 2 exchanges that are won, a
+-- give, and a superblock that may be moved
 abbrev pub flush_costs : ℕ → ℕ → Costs
 flush_costs blocks runs = record no_costs { draws = 2 * blocks + 7 * runs; wins = 2 * runs; gives = runs; moves = runs }
 

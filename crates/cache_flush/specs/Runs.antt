@@ -6,4 +6,5 @@ use Rattle.core_model.specs.Cells.{superblock_at}
 abbrev pub runs_of : ℕ → List ℕ → ℕ
 runs_of capacity [] = 0
 runs_of capacity (block ∷ []) = 1
-runs_of capacity (block ∷ next ∷ blocks) = cond (nat_eq (superblock_at capacity block) (superblock_at capacity next)) 0 1 + runs_of capacity (next ∷ blocks)
+runs_of capacity (block ∷ next ∷ blocks) = cond (nat_eq (superblock_at capacity block) (superblock_at capacity next)) 0 1 + runs_of capacity
+    (next ∷ blocks)

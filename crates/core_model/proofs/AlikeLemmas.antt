@@ -21,7 +21,8 @@ at_random capacity _ (is_link d word less at) = inr (d, less, omega arith, omega
 
 -- so not in a root, an info or a superblock
 root_lasts : (capacity root : ℕ) → root < roots → IsTransient capacity (root_word root) → ⊥
-root_lasts capacity root below lost = elim (at_random capacity (root_word root) lost) as (λ _. ⊥) [ inl heads ↦ (let until = heads.1 in omega arith) | inr line ↦ (let from = line.2 in omega arith) ]
+root_lasts capacity root below lost = elim (at_random capacity (root_word root) lost) as
+    (λ _. ⊥) [ inl heads ↦ (let until = heads.1 in omega arith) | inr line ↦ (let from = line.2 in omega arith) ]
 
 info_lasts : (capacity e : ℕ) → IsTransient capacity (info_word e) → ⊥
 info_lasts capacity e lost = elim (at_random capacity (info_word e) lost) as (λ _. ⊥) [
@@ -55,7 +56,8 @@ module _ (durable image other : Image) (crash : IsCrashImage durable image) (cra
   -- a word of a superblock
   same_inside : (word : ℕ) → start_word (capacity_of image) 0 ≤ word → other word ≡ image word
   same_inside word low =
-      let capacity : capacity_of image ≡ capacity_of durable = crash.others capacity_word (λ e. omega (arith, e)) (header_lasts (capacity_of durable) capacity_word (omega arith)) in
+      let capacity : capacity_of image ≡ capacity_of durable = crash.others capacity_word (λ e. omega (arith, e))
+      (header_lasts (capacity_of durable) capacity_word (omega arith)) in
       same_word word (λ e. omega (arith, e, low)) (inside_lasts (capacity_of durable) word (omega arith))
 
   module _ (kinds : ℕ → ℕ) (links : Links) where

@@ -76,4 +76,5 @@ of_class_other lists class bs n other = get_or-set_other lists class n bs [] oth
 
 pub total_lists : (b : ℕ) (lists : List (List ℕ)) (class : ℕ) (bs : List ℕ) → class < length lists
     → total (times b) (set lists class bs) + times b (get_or lists class []) ≡ total (times b) lists + times b bs
-total_lists b lists class bs below = total_set (times b) lists class (get_or lists class []) bs below (get_or_default lists class (get_or lists class []) [] below)
+total_lists b lists class bs below = total_set (times b) lists class (get_or lists class []) bs below
+    (get_or_default lists class (get_or lists class []) [] below)

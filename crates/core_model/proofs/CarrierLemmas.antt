@@ -29,7 +29,8 @@ both_times n [] yss = omega arith
 both_times n (xs ∷ xss) [] = omega arith
 both_times n (xs ∷ xss) (ys ∷ yss) = let here = times_append n xs ys in let rest = both_times n xss yss in omega arith
 
-pub both_class : (n class : ℕ) (xss yss : List (List ℕ)) → times n (of_class (both_lists xss yss) class) ≡ times n (of_class xss class) + times n (of_class yss class)
+pub both_class : (n class : ℕ) (xss yss : List (List ℕ)) → times n (of_class (both_lists xss yss) class) ≡ times n
+    (of_class xss class) + times n (of_class yss class)
 both_class n class [] yss = omega arith
 both_class n zero (xs ∷ xss) [] = omega arith
 both_class n (suc class) (xs ∷ xss) [] = omega arith
@@ -41,21 +42,25 @@ both_length [] yss same = refl
 both_length (xs ∷ xss) [] same = same
 both_length (xs ∷ xss) (ys ∷ yss) same = let rest = both_length xss yss (omega (arith, same)) in omega arith
 
-pub both_within : (word class : ℕ) (xss yss : List (List ℕ)) → times_in_classes word class (both_lists xss yss) ≡ times_in_classes word class xss + times_in_classes word class yss
+pub both_within : (word class : ℕ) (xss yss : List (List ℕ)) → times_in_classes word class
+    (both_lists xss yss) ≡ times_in_classes word class xss + times_in_classes word class yss
 both_within word class [] yss = omega arith
 both_within word class (xs ∷ xss) [] = omega arith
-both_within word class (xs ∷ xss) (ys ∷ yss) = let here = within_append (words_of_class class) word xs ys in let rest = both_within word (class + 1) xss yss in omega arith
+both_within word class (xs ∷ xss) (ys ∷ yss) = let here = within_append (words_of_class class) word xs ys in
+    let rest = both_within word (class + 1) xss yss in omega arith
 
 pub large_append : (d : ℕ) (xs ys : List Span) → times_large d (xs ++ ys) ≡ times_large d xs + times_large d ys
 large_append d [] ys = omega arith
 large_append d (x ∷ xs) ys = let rest = large_append d xs ys in omega arith
 
 -- the first of the spans that begin there is one of either
-pub count_append : (d : ℕ) (xs ys : List Span) → ((span : Span) → Contains xs span → 1 ≤ span.count) → ((0 < span_count d xs) × (span_count d (xs ++ ys) ≡ span_count d xs)) ⊎ (span_count d (xs ++ ys) ≡ span_count d ys)
+pub count_append : (d : ℕ) (xs ys : List Span) → ((span : Span) → Contains xs span → 1 ≤ span.count)
+    → ((0 < span_count d xs) × (span_count d (xs ++ ys) ≡ span_count d xs)) ⊎ (span_count d (xs ++ ys) ≡ span_count d ys)
 count_append d [] ys counted = inr refl
 count_append d (x ∷ xs) ys counted = by_test (nat_eq x.first d) (count_append d xs ys (λ span there. counted span (in_rest x span xs there))) where
   by_test : (t : Bool) → ((0 < span_count d xs) × (span_count d (xs ++ ys) ≡ span_count d xs)) ⊎ (span_count d (xs ++ ys) ≡ span_count d ys)
-      → ((0 < cond t x.count (span_count d xs)) × (cond t x.count (span_count d (xs ++ ys)) ≡ cond t x.count (span_count d xs))) ⊎ (cond t x.count (span_count d (xs ++ ys)) ≡ span_count d ys)
+      → ((0 < cond t x.count (span_count d xs)) × (cond t x.count (span_count d (xs ++ ys)) ≡ cond t x.count (span_count d xs))) ⊎
+      (cond t x.count (span_count d (xs ++ ys)) ≡ span_count d ys)
   by_test true rest = inl (counted x (in_head x xs), refl)
   by_test false rest = rest
 
@@ -64,14 +69,16 @@ either_length [] ys = refl
 either_length (x ∷ xs) [] = refl
 either_length (x ∷ xs) (y ∷ ys) = ap suc (either_length xs ys)
 
-pub either_at : (xs ys : List (Option ℕ)) (n value : ℕ) → get_or (either_of xs ys) n None ≡ Some value → (get_or xs n None ≡ Some value) ⊎ (get_or ys n None ≡ Some value)
+pub either_at : (xs ys : List (Option ℕ)) (n value : ℕ) → get_or (either_of xs ys) n None ≡ Some value
+    → (get_or xs n None ≡ Some value) ⊎ (get_or ys n None ≡ Some value)
 either_at [] ys n value e = inr e
 either_at (x ∷ xs) [] n value e = inr e
 either_at (None ∷ xs) (y ∷ ys) zero value e = inr e
 either_at (Some x ∷ xs) (y ∷ ys) zero value e = inl e
 either_at (x ∷ xs) (y ∷ ys) (suc n) value e = either_at xs ys n value e
 
-module _ (k : Setup) (m : Memory) (old new : List View) (v u : View) (good : Good k m old) (has_v : Contains old v) (has_u : Contains old u) (carries : IsCarrier u) (less : AreOneLess old new v u (accepted v u)) where
+module _ (k : Setup) (m : Memory) (old new : List View) (v u : View) (good : Good k m old) (has_v : Contains old v) (has_u : Contains old u)
+    (carries : IsCarrier u) (less : AreOneLess old new v u (accepted v u)) where
   abbrev w : View
   w = accepted v u
 
@@ -82,7 +89,8 @@ module _ (k : Setup) (m : Memory) (old new : List View) (v u : View) (good : Goo
   carrier = seat_at k m old good has_u.0 u has_u.1 has_u.2
 
   no_raw : (d : ℕ) → times_raw d u ≡ 0
-  no_raw d = let c = carries.claims in ap (λ (p : List ℕ × (List ℕ × List ℕ)). times d p.0 + times d p.1.0 + times d p.1.1) (λ i. (c.0 i, (c.1 i, c.2 i)))
+  no_raw d = let c = carries.claims in ap (λ (p : List ℕ × (List ℕ × List ℕ)). times d p.0 + times d p.1.0 + times d p.1.1)
+      (λ i. (c.0 i, (c.1 i, c.2 i)))
 
   no_class : (d : ℕ) → times_classed d u.classed ≡ 0
   no_class d = ap (times_classed d) carries.claims.3
@@ -128,10 +136,12 @@ module _ (k : Setup) (m : Memory) (old new : List View) (v u : View) (good : Goo
     durable = either_length u.durable v.durable ∙ s.durable;
   }
 
-  is_large : (d : ℕ) → 0 < span_count d w.large → (info m d ≡ large_info (span_count d w.large)) × ((e : ℕ) → d < e → e < d + span_count d w.large → info m e ≡ 0)
+  is_large : (d : ℕ) → 0 < span_count d w.large → (info m d ≡ large_info (span_count d w.large))
+      × ((e : ℕ) → d < e → e < d + span_count d w.large → info m e ≡ 0)
   is_large d there = elim (count_append d u.large v.large carrier.claims.some) [
     | inl of_u ↦ subst (λ n. (info m d ≡ large_info n) × ((e : ℕ) → d < e → e < d + n → info m e ≡ 0)) (sym of_u.1) (carrier.claims.is_large d of_u.0)
-    | inr of_v ↦ subst (λ n. (info m d ≡ large_info n) × ((e : ℕ) → d < e → e < d + n → info m e ≡ 0)) (sym of_v) (seat.claims.is_large d (omega (arith, of_v, there)))
+    | inr of_v ↦ subst (λ n. (info m d ≡ large_info n) × ((e : ℕ) → d < e → e < d + n → info m e ≡ 0)) (sym of_v)
+        (seat.claims.is_large d (omega (arith, of_v, there)))
   ]
 
   claims : ClaimsOf m w
@@ -145,7 +155,8 @@ module _ (k : Setup) (m : Memory) (old new : List View) (v u : View) (good : Goo
       | inl of_u ↦ carrier.claims.is_part d of_u
       | inr none ↦ x.is_part d (let l = large_share d in omega arith)
     ];
-    some = λ span there. elim (Contains-append_cases u.large v.large span there) [ inl of_u ↦ carrier.claims.some span of_u | inr of_v ↦ x.some span of_v ];
+    some = λ span there. elim (Contains-append_cases u.large v.large span there)
+        [ inl of_u ↦ carrier.claims.some span of_u | inr of_v ↦ x.some span of_v ];
   }
 
   same_setup : u.setup ≡ v.setup
@@ -164,7 +175,14 @@ module _ (k : Setup) (m : Memory) (old new : List View) (v u : View) (good : Goo
   }
 
   knows : Knows k.capacity m good.shape w
-  knows = let s = seat.knows in record { seen_head = s.seen_head; seen_used = s.seen_used; looked = s.looked; seen_anchor = s.seen_anchor; seen_empty = s.seen_empty; floor = s.floor }
+  knows = let s = seat.knows in record {
+    seen_head = s.seen_head;
+    seen_used = s.seen_used;
+    looked = s.looked;
+    seen_anchor = s.seen_anchor;
+    seen_empty = s.seen_empty;
+    floor = s.floor;
+  }
 
   -- what was own to either is own to the seat
   own_more : (cell : Cell) → (times_own v cell ≤ times_own w cell) × (times_own u cell ≤ times_own w cell)
@@ -176,9 +194,11 @@ module _ (k : Setup) (m : Memory) (old new : List View) (v u : View) (good : Goo
   own_more (root_cell n) = let z = ap (times n) carries.roots in (omega arith, omega arith)
   own_more (data_cell word) =
       let s = both_within word 0 u.small v.small in
-      let c = ap (times_in_classes word 0) carries.free.0 in let b = ap (λ (x : Batch). times_within (words_of_class x.class) word x.blocks) carries.free.1 in
+      let c = ap (times_in_classes word 0) carries.free.0 in let b =
+      ap (λ (x : Batch). times_within (words_of_class x.class) word x.blocks) carries.free.1 in
       let l = large_share (superblock_at v.setup.capacity word) in let z = no_raw (superblock_at v.setup.capacity word) in
-      let p = ap (λ (x : Setup). times_large (superblock_at x.capacity word) u.large) same_setup in let q = ap (λ (x : Setup). times_raw (superblock_at x.capacity word) u) same_setup in (omega arith, omega arith)
+      let p = ap (λ (x : Setup). times_large (superblock_at x.capacity word) u.large) same_setup in
+      let q = ap (λ (x : Setup). times_raw (superblock_at x.capacity word) u) same_setup in (omega arith, omega arith)
   own_more no_cell = (omega arith, omega arith)
 
   words : KnowsWords k.capacity m w
@@ -232,30 +252,62 @@ module _ (k : Setup) (m : Memory) (old new : List View) (v u : View) (good : Goo
           budget = omega arith;
           stopped = omega arith;
           taken = omega arith;
-          roots = λ n. let before = x.roots n in let same = both (λ (y : View). times n y.roots) (let z = ap (times n) carries.roots in omega arith) in omega arith;
+          roots = λ n. let before = x.roots n in let same = both (λ (y : View). times n y.roots) (let z = ap (times n) carries.roots in
+              omega arith) in omega arith;
         });
-    lost = each_of (HasLost m new) (λ i x below at. let before = good.lost i x below at in let s = wins in omega arith) (let before = good.lost has_v.0 v has_v.1 has_v.2 in let s = wins in omega arith);
+    lost = each_of (HasLost m new) (λ i x below at. let before = good.lost i x below at in let s = wins in
+        omega arith) (let before = good.lost has_v.0 v has_v.1 has_v.2 in let s = wins in omega arith);
     moves = (let before = good.moves in let c = carries.counts in let g = c.5 in let n = c.6 in
         let moves = both (λ (y : View). y.moves) (omega arith) in let gives = both (λ (y : View). y.gives) (omega arith) in
         let same = ap (λ (t : Tally). empties k.capacity (anchor m) (times_parked good.shape t)) tally in omega arith);
   }
 
 -- the same of the words of the table
-pub join_sound : (k : Setup) (words : List ℕ) (old new : List View) (v u : View) → Contains old v → Contains old u → IsCarrier u → AreOneLess old new v u (accepted v u) → Sound k words old → Sound k words new
-join_sound k words old new v u has_v has_u carries less sound = record { some = sound.some; long = sound.long; fixed = sound.fixed; capacity = sound.capacity; used = sound.used; good = join_good k (memory_of k.capacity words) old new v u sound.good has_v has_u carries less }
+pub join_sound : (k : Setup) (words : List ℕ) (old new : List View) (v u : View) → Contains old v → Contains old u → IsCarrier u
+    → AreOneLess old new v u (accepted v u) → Sound k words old → Sound k words new
+join_sound k words old new v u has_v has_u carries less sound = record {
+  some = sound.some;
+  long = sound.long;
+  fixed = sound.fixed;
+  capacity = sound.capacity;
+  used = sound.used;
+  good = join_good k (memory_of k.capacity words) old new v u sound.good has_v has_u carries less;
+}
 
 -- what is so of each member, after a step of one
-pub one_set : (views : List View) (i : ℕ) (w : View) (P : View → Type 0) → ((x : View) → Contains views x → P x) → P w → (x : View) → Contains (set views i w) x → P x
+pub one_set : (views : List View) (i : ℕ) (w : View) (P : View → Type 0) → ((x : View) → Contains views x → P x) → P w → (x : View)
+    → Contains (set views i w) x → P x
 one_set [] i w P all own x there = all x there
-one_set (y ∷ views) zero w P all own x there = elim (head_or_rest w x views there) [ inl same ↦ subst P same own | inr later ↦ all x (in_rest y x views later) ]
-one_set (y ∷ views) (suc i) w P all own x there = elim (head_or_rest y x (set views i w) there) [ inl same ↦ all x (subst (λ z. Contains (y ∷ views) z) same (in_head y views)) | inr later ↦ one_set views i w P (λ z at. all z (in_rest y z views at)) own x later ]
+one_set (y ∷ views) zero w P all own x there = elim (head_or_rest w x views there)
+    [ inl same ↦ subst P same own | inr later ↦ all x (in_rest y x views later) ]
+one_set (y ∷ views) (suc i) w P all own x there = elim (head_or_rest y x (set views i w) there) [
+  | inl same ↦ all x (subst (λ z. Contains (y ∷ views) z) same (in_head y views))
+  | inr later ↦ one_set views i w P
+      (λ z at. all z (in_rest y z views at)) own x later
+]
 
 -- a ticket that is used up for nothing
-pub spend : (k : Setup) (m : Memory) (views : List View) (i : ℕ) (v : View) → i < length views → get_or views i v ≡ v → Good k m views → (offers : ℕ) → Good k m (set views i (record v { ticket = None; offers = offers }))
+pub spend : (k : Setup) (m : Memory) (views : List View) (i : ℕ) (v : View) → i < length views → get_or views i v ≡ v → Good k m views
+    → (offers : ℕ) → Good k m (set views i (record v { ticket = None; offers = offers }))
 spend k m views i v below at good offers = let s = seat_at k m views good i v below at in
     quiet k m views i v (record v { ticket = None; offers = offers }) below at good refl refl
-    (let x = s.set_up in record { setup = x.setup; small = x.small; roots = x.roots; caches = x.caches; looks = x.looks; volatile = x.volatile; durable = x.durable })
-    (let x = s.knows in record { seen_head = x.seen_head; seen_used = x.seen_used; looked = x.looked; seen_anchor = x.seen_anchor; seen_empty = x.seen_empty; floor = x.floor })
+    (let x = s.set_up in record {
+      setup = x.setup;
+      small = x.small;
+      roots = x.roots;
+      caches = x.caches;
+      looks = x.looks;
+      volatile = x.volatile;
+      durable = x.durable;
+    })
+    (let x = s.knows in record {
+      seen_head = x.seen_head;
+      seen_used = x.seen_used;
+      looked = x.looked;
+      seen_anchor = x.seen_anchor;
+      seen_empty = x.seen_empty;
+      floor = x.floor;
+    })
     (words_same k.capacity m v (record v { ticket = None; offers = offers }) refl refl refl s.words)
     (let t = s.tickets in record {
       ticket = none_drawn m.drawn;
@@ -291,44 +343,68 @@ twice (x ∷ xs) zero a b = refl
 twice (x ∷ xs) (suc i) a b = ap (λ l. x ∷ l) (twice xs i a b)
 
 -- a seat that offers a block
-pub offer_good : (k : Setup) (m : Memory) (views : List View) (i : ℕ) (v : View) (block : ℕ) → i < length views → get_or views i v ≡ v → Good k m views → Good k m (set views i (offered v block) ++ carrier_of v block ∷ [])
+pub offer_good : (k : Setup) (m : Memory) (views : List View) (i : ℕ) (v : View) (block : ℕ) → i < length views → get_or views i v ≡ v
+    → Good k m views → Good k m (set views i (offered v block) ++ carrier_of v block ∷ [])
 offer_good k m views i v block below at good = subst (λ l. Good k m (l ++ carrier_of v block ∷ [])) (twice views i spent (offered v block))
-    (split_seat k m (set views i spent) i spent (let l = length-set views i spent in omega arith) (get_or-set_same views i spent spent below) (spend k m views i v below at good (v.offers + 1)) (one_block v.setup.capacity block)) where
+    (split_seat k m (set views i spent) i spent (let l = length-set views i spent in
+    omega arith) (get_or-set_same views i spent spent below) (spend k m views i v below at good (v.offers + 1))
+    (one_block v.setup.capacity block)) where
       spent : View
       spent = record v { ticket = None; offers = v.offers + 1 }
 
-pub offer_sound : (k : Setup) (words : List ℕ) (views : List View) (i : ℕ) (v : View) (block : ℕ) → i < length views → get_or views i v ≡ v → Sound k words views → Sound k words (set views i (offered v block) ++ carrier_of v block ∷ [])
-offer_sound k words views i v block below at sound = record { some = sound.some; long = sound.long; fixed = sound.fixed; capacity = sound.capacity; used = sound.used; good = offer_good k (memory_of k.capacity words) views i v block below at sound.good }
+pub offer_sound : (k : Setup) (words : List ℕ) (views : List View) (i : ℕ) (v : View) (block : ℕ) → i < length views → get_or views i v ≡ v
+    → Sound k words views → Sound k words (set views i (offered v block) ++ carrier_of v block ∷ [])
+offer_sound k words views i v block below at sound = record {
+  some = sound.some;
+  long = sound.long;
+  fixed = sound.fixed;
+  capacity = sound.capacity;
+  used = sound.used;
+  good = offer_good k (memory_of k.capacity words) views i v block below at sound.good;
+}
 
 -- the seats and the carriers after an event of a seat
-module _ (k : Setup) (views : List View) (i : ℕ) (v w : View) (below : i < length views) (at : get_or views i v ≡ v) (are : AreSeatsAndCarriers k views) where
+module _ (k : Setup) (views : List View) (i : ℕ) (v w : View) (below : i < length views) (at : get_or views i v ≡ v)
+    (are : AreSeatsAndCarriers k views) where
   pub same_roles : v.carries ≡ 0 → role w ≡ role v → AreSeatsAndCarriers k (set views i w)
   same_roles seat same = record {
     seats = total_same (λ (x : View). 1 - x.carries) views i v w below at (ap (λ (r : Role). 1 - r.carries) same) ∙ are.seats;
-    carriers = (let c = total_same one_if_carrier views i v w below at (ap (λ (r : Role). one_if (nat_eq r.carries 1)) same) in let a = total_same (λ (x : View). x.accepts) views i v w below at (ap (λ (r : Role). r.accepts) same) in
+    carriers = (let c = total_same one_if_carrier views i v w below at (ap (λ (r : Role). one_if (nat_eq r.carries 1)) same) in
+        let a = total_same (λ (x : View). x.accepts) views i v w below at (ap (λ (r : Role). r.accepts) same) in
         let o = total_same (λ (x : View). x.offers) views i v w below at (ap (λ (r : Role). r.offers) same) in let old = are.carriers in omega arith);
-    each = λ x there. one_set views i w (λ y. (y.carries ≡ 0) ⊎ IsCarrier y ⊎ IsEmptied y) are.each (inl (ap (λ (r : Role). r.carries) same ∙ seat)) x there;
+    each = λ x there. one_set views i w (λ y. (y.carries ≡ 0) ⊎ IsCarrier y ⊎ IsEmptied y) are.each
+        (inl (ap (λ (r : Role). r.carries) same ∙ seat)) x there;
   }
 
   -- after an offer
   pub offers_one : (block : ℕ) → v.carries ≡ 0 → w ≡ offered v block → AreSeatsAndCarriers k (set views i w ++ carrier_of v block ∷ [])
   offers_one block seat is = record {
-    seats = (let t = total_behind (λ (x : View). 1 - x.carries) (set views i w) (carrier_of v block) in let s = total_same (λ (x : View). 1 - x.carries) views i v w below at (ap (λ (x : View). 1 - x.carries) is) in let old = are.seats in omega arith);
-    carriers = (let c = total_behind one_if_carrier (set views i w) (carrier_of v block) in let c' = total_same one_if_carrier views i v w below at (ap one_if_carrier is) in
-        let a = total_behind (λ (x : View). x.accepts) (set views i w) (carrier_of v block) in let a' = total_same (λ (x : View). x.accepts) views i v w below at (ap (λ (x : View). x.accepts) is) in
-        let o = total_behind (λ (x : View). x.offers) (set views i w) (carrier_of v block) in let o' = total_set (λ (x : View). x.offers) views i v w below at in let more = ap (λ (x : View). x.offers) is in let old = are.carriers in omega arith);
+    seats = (let t = total_behind (λ (x : View). 1 - x.carries) (set views i w) (carrier_of v block) in
+        let s = total_same (λ (x : View). 1 - x.carries) views i v w below at (ap (λ (x : View). 1 - x.carries) is) in let old = are.seats in
+        omega arith);
+    carriers = (let c = total_behind one_if_carrier (set views i w) (carrier_of v block) in
+        let c' = total_same one_if_carrier views i v w below at (ap one_if_carrier is) in
+        let a = total_behind (λ (x : View). x.accepts) (set views i w) (carrier_of v block) in
+        let a' = total_same (λ (x : View). x.accepts) views i v w below at (ap (λ (x : View). x.accepts) is) in
+        let o = total_behind (λ (x : View). x.offers) (set views i w) (carrier_of v block) in
+        let o' = total_set (λ (x : View). x.offers) views i v w below at in let more = ap (λ (x : View). x.offers) is in
+        let old = are.carriers in omega arith);
     each = λ x there. elim (Contains-append_cases (set views i w) (carrier_of v block ∷ []) x there) [
-      | inl before ↦ one_set views i w (λ y. (y.carries ≡ 0) ⊎ IsCarrier y ⊎ IsEmptied y) are.each (inl (ap (λ (x : View). x.carries) is ∙ seat)) x before
-      | inr last ↦ elim (head_or_rest (carrier_of v block) x [] last) [ inl same ↦ inr (inl (subst IsCarrier same (carries_block v block))) | inr none ↦ absurd (in_none x none) ]
+      | inl before ↦ one_set views i w (λ y. (y.carries ≡ 0) ⊎ IsCarrier y ⊎ IsEmptied y) are.each
+          (inl (ap (λ (x : View). x.carries) is ∙ seat)) x before
+      | inr last ↦ elim (head_or_rest (carrier_of v block) x [] last)
+          [ inl same ↦ inr (inl (subst IsCarrier same (carries_block v block))) | inr none ↦ absurd (in_none x none) ]
     ];
   }
 
 -- after an accept
-pub accepts_one : (k : Setup) (old new : List View) (v u : View) → v.carries ≡ 0 → IsCarrier u → AreOneLess old new v u (accepted v u) → AreSeatsAndCarriers k old → AreSeatsAndCarriers k new
+pub accepts_one : (k : Setup) (old new : List View) (v u : View) → v.carries ≡ 0 → IsCarrier u → AreOneLess old new v u (accepted v u)
+    → AreSeatsAndCarriers k old → AreSeatsAndCarriers k new
 accepts_one k old new v u seat carries less are = record {
   seats = (let s = less.sums (λ (x : View). 1 - x.carries) in let c = carries.is_one in let was = are.seats in omega arith);
   carriers = (let c = less.sums one_if_carrier in let a = less.sums (λ (x : View). x.accepts) in let o = less.sums (λ (x : View). x.offers) in
-      let one = ap (λ n. one_if (nat_eq n 1)) carries.is_one in let h = carries.handed in let p = h.0 in let q = h.1 in let was = are.carriers in omega arith);
+      let one = ap (λ n. one_if (nat_eq n 1)) carries.is_one in let h = carries.handed in let p = h.0 in let q = h.1 in
+      let was = are.carriers in omega arith);
   each = λ x there. elim (less.members x there) [ inl same ↦ inl (ap (λ (y : View). y.carries) (sym same) ∙ seat) | inr before ↦ are.each x before ];
 }
 
@@ -336,7 +412,8 @@ accepts_one k old new v u seat carries less are = record {
 pub same_seats : (k : Setup) (old new : List View) → AreReordered old new → AreSeatsAndCarriers k old → AreSeatsAndCarriers k new
 same_seats k old new same are = record {
   seats = same.sums (λ (x : View). 1 - x.carries) ∙ are.seats;
-  carriers = (let c = same.sums one_if_carrier in let a = same.sums (λ (x : View). x.accepts) in let o = same.sums (λ (x : View). x.offers) in let was = are.carriers in omega arith);
+  carriers = (let c = same.sums one_if_carrier in let a = same.sums (λ (x : View). x.accepts) in let o = same.sums (λ (x : View). x.offers) in
+      let was = are.carriers in omega arith);
   each = λ x there. are.each x (same.members x there);
 }
 
@@ -348,6 +425,7 @@ stopped_few k views are = let l = go views are.each in let s = are.seats in omeg
   here x (inr (inl carrier)) = let z = ap one_if_some carrier.tickets.1 in omega arith
   here x (inr (inr empty)) = let z = ap one_if_some empty.was.tickets.1 in omega arith
 
-  go : (xs : List View) → ((x : View) → Contains xs x → (x.carries ≡ 0) ⊎ IsCarrier x ⊎ IsEmptied x) → total (λ (x : View). one_if_some x.stopped) xs ≤ total (λ (x : View). 1 - x.carries) xs
+  go : (xs : List View) → ((x : View) → Contains xs x → (x.carries ≡ 0) ⊎ IsCarrier x ⊎ IsEmptied x)
+      → total (λ (x : View). one_if_some x.stopped) xs ≤ total (λ (x : View). 1 - x.carries) xs
   go [] each = omega arith
   go (x ∷ xs) each = let h = here x (each x (in_head x xs)) in let rest = go xs (λ y there. each y (in_rest x y xs there)) in omega arith

@@ -22,7 +22,8 @@ use Rattle.core_model.proofs.BlockLemmas.{superblock_is, walks_first, full_ancho
 use Rattle.core_model.proofs.ShiftLemmas.{shift_step}
 use Rattle.core_model.proofs.SpanLemmas as spans
 
-module _ (k : Setup) (m : Memory) (views : List View) (i : ℕ) (v : View) (below_i : i < length views) (at : get_or views i v ≡ v) (good : Good k m views) (d : ℕ) (may : MayCut m v d) (more_draws : v.cuts < v.draws) where
+module _ (k : Setup) (m : Memory) (views : List View) (i : ℕ) (v : View) (below_i : i < length views) (at : get_or views i v ≡ v)
+    (good : Good k m views) (d : ℕ) (may : MayCut m v d) (more_draws : v.cuts < v.draws) where
   seat : IsSeat k m good.shape v
   seat = seat_at k m views good i v below_i at
 
@@ -51,7 +52,8 @@ module _ (k : Setup) (m : Memory) (views : List View) (i : ℕ) (v : View) (belo
   fits = let c = seat.set_up.caches in let last = may.class.last in omega arith
 
   in_block : (b : ℕ) → 0 < times b bs → IsCutBlock k.capacity class d b × (superblock_at k.capacity b ≡ d)
-  in_block b some = let c = spans.block_of k.capacity class d b (let e = ap (times b) same_blocks in omega arith) in (c, superblock_is k.capacity class d b may.class c)
+  in_block b some = let c = spans.block_of k.capacity class d b (let e = ap (times b) same_blocks in omega arith) in
+      (c, superblock_is k.capacity class d b may.class c)
 
   is_full : anchor m d ≡ full_anchor
   is_full = seat.claims.is_cutting d may.cutting
@@ -100,23 +102,33 @@ module _ (k : Setup) (m : Memory) (views : List View) (i : ℕ) (v : View) (belo
   -- no block of it was anywhere
   none_yet : (b : ℕ) → superblock_at k.capacity b ≡ d → total (times_block b) views ≡ 0
   none_yet b here = elim (cases_lt 0 (total (times_block b) views)) [
-    | inl some ↦ absurd (let c = (good.shaped.chained.inside b some).0 in let n = not_cut in let e = ap (times_cut good.shape (tally_of views)) here in omega arith)
+    | inl some ↦ absurd (let c = (good.shaped.chained.inside b some).0 in let n = not_cut in
+        let e = ap (times_cut good.shape (tally_of views)) here in omega arith)
     | inr none ↦ omega arith
   ]
 
   chained : AreChained k.capacity (info m) (anchor m) (next m) g'.chains (times_cut g' t') blocks'
   chained = let c = good.shaped.chained in record {
-    is_class = λ e some. elim (cases_eq e d) [ inl same ↦ subst (λ x. IsClass (info m x)) (sym same) may.class | inr other ↦ c.is_class e (old_cut e other some) ];
+    is_class = λ e some. elim (cases_eq e d) [
+      | inl same ↦ subst (λ x. IsClass (info m x)) (sym same) may.class
+      | inr other ↦ c.is_class e
+          (old_cut e other some)
+    ];
     anchored = λ e some. elim (cases_eq e d) as (λ _. IsAnchoredBy (next m) k.capacity (info m e) e (anchor m e) (g'.chains e)) [
       | inl same ↦ subst (λ x. IsAnchoredBy (next m) k.capacity (info m x) x (anchor m x) (g'.chains x)) (sym same)
-          (subst (λ x. IsAnchoredBy (next m) k.capacity class d x (g'.chains d)) (sym is_full) (subst (IsAnchoredBy (next m) k.capacity class d full_anchor) (sym (at_one good.shape.chains d [] d refl)) (full_anchored (next m) k.capacity class d may.class)))
-      | inr other ↦ subst (IsAnchoredBy (next m) k.capacity (info m e) e (anchor m e)) (sym (at_other good.shape.chains d [] e other)) (c.anchored e (old_cut e other some))
+          (subst (λ x. IsAnchoredBy (next m) k.capacity class d x (g'.chains d)) (sym is_full)
+          (subst (IsAnchoredBy (next m) k.capacity class d full_anchor) (sym (at_one good.shape.chains d [] d refl))
+          (full_anchored (next m) k.capacity class d may.class)))
+      | inr other ↦ subst (IsAnchoredBy (next m) k.capacity (info m e) e (anchor m e)) (sym (at_other good.shape.chains d [] e other))
+          (c.anchored e (old_cut e other some))
     ];
     owned = λ e b some is. let all = blocks_are b in elim (cases_eq e d) as (λ _. times b (g'.chains e) + blocks' b ≡ 1) [
       | inl same ↦ let block : IsCutBlock k.capacity class d b = subst (λ x. IsCutBlock k.capacity (info m x) x b) same is in
-          let none = ap (times b) (at_one good.shape.chains d [] e same) in let one = block_once k.capacity class d b may.class block in let z = ap (times b) same_blocks in
+          let none = ap (times b) (at_one good.shape.chains d [] e same) in let one = block_once k.capacity class d b may.class block in
+          let z = ap (times b) same_blocks in
           let before_it = none_yet b (superblock_is k.capacity class d b may.class block) in omega arith
-      | inr other ↦ let cut_e = old_cut e other some in let old = c.owned e b cut_e is in let same_chain = ap (times b) (at_other good.shape.chains d [] e other) in
+      | inr other ↦ let cut_e = old_cut e other some in let old = c.owned e b cut_e is in
+          let same_chain = ap (times b) (at_other good.shape.chains d [] e other) in
           let none : times b bs ≡ 0 = elim (cases_lt 0 (times b bs)) [
             | inl there ↦ absurd (other (sym (superblock_is k.capacity (info m e) e b (c.is_class e cut_e) is) ∙ (in_block b there).1))
             | inr gone ↦ omega arith
@@ -128,8 +140,10 @@ module _ (k : Setup) (m : Memory) (views : List View) (i : ℕ) (v : View) (belo
     ];
     inside = λ b some. elim (cases_lt 0 (total (times_block b) views)) [
       | inl old ↦ let o = c.inside b old in (let y = o.0 in omega arith, o.1)
-      | inr none ↦ let here = in_block b (let all = blocks_are b in omega arith) in
-          (subst (λ x. 0 < times_cut g' t' x) (sym here.1) (let one = eq-eqb-one d d refl in omega arith), subst (λ x. IsCutBlock k.capacity (info m x) x b) (sym here.1) here.0)
+      | inr none ↦ let here = in_block b (let all = blocks_are b in omega arith) in (
+        subst (λ x. 0 < times_cut g' t' x) (sym here.1) (let one = eq-eqb-one d d refl in omega arith),
+        subst (λ x. IsCutBlock k.capacity (info m x) x b) (sym here.1) here.0,
+      )
     ];
   }
 
@@ -137,14 +151,17 @@ module _ (k : Setup) (m : Memory) (views : List View) (i : ℕ) (v : View) (belo
   blocks_now = let s = seat.blocks in record {
     held = s.held;
     cached = λ n b some. elim (cases_eq n class) as (λ _. info m (superblock_at v.setup.capacity b) ≡ n) [
-      | inl same ↦ let here = in_block b (let e = ap (times b) (of_class_same v.caches class bs n same fits) in omega arith) in ap (λ c. info m (superblock_at c b)) cap ∙ ap (info m) here.1 ∙ sym same
+      | inl same ↦ let here = in_block b (let e = ap (times b) (of_class_same v.caches class bs n same fits) in omega arith) in
+          ap (λ c. info m (superblock_at c b)) cap ∙ ap (info m) here.1 ∙ sym same
       | inr other ↦ s.cached n b (let z = ap (times b) (of_class_other v.caches class bs n other) in omega arith)
     ];
     batched = s.batched;
-    cache_linked = λ n. elim (cases_eq n class) as (λ _. Walks (next m) (first_of (of_class (set v.caches class bs) n)) (of_class (set v.caches class bs) n)) [
-      | inl same ↦ subst (λ xs. Walks (next m) (first_of xs) xs) (sym (of_class_same v.caches class bs n same fits)) (walks_first (next m) (start_word v.setup.capacity d) bs may.linked)
-      | inr other ↦ subst (λ xs. Walks (next m) (first_of xs) xs) (sym (of_class_other v.caches class bs n other)) (s.cache_linked n)
-    ];
+    cache_linked = λ n. elim (cases_eq n class) as (λ _. Walks (next m) (first_of (of_class (set v.caches class bs) n))
+        (of_class (set v.caches class bs) n)) [
+          | inl same ↦ subst (λ xs. Walks (next m) (first_of xs) xs) (sym (of_class_same v.caches class bs n same fits))
+              (walks_first (next m) (start_word v.setup.capacity d) bs may.linked)
+          | inr other ↦ subst (λ xs. Walks (next m) (first_of xs) xs) (sym (of_class_other v.caches class bs n other)) (s.cache_linked n)
+        ];
     batch_linked = s.batch_linked;
   }
 
@@ -169,12 +186,25 @@ module _ (k : Setup) (m : Memory) (views : List View) (i : ℕ) (v : View) (belo
         durable = (let y = s.durable in record {
           behind = y.behind;
           room = y.room;
-          below = λ e some. elim (cases_eq d e) as (λ _. e < durable_used m) [ inl same ↦ subst (λ x. x < durable_used m) same may.durable | inr other ↦ y.below e (let n = ne-eqb-none d e other in omega arith) ];
-          infos = λ e some. elim (cases_eq d e) as (λ _. durable_info m e ≡ info m e) [ inl same ↦ subst (λ x. durable_info m x ≡ info m x) same may.durable_class | inr other ↦ y.infos e (let n = ne-eqb-none d e other in omega arith) ];
+          below = λ e some. elim (cases_eq d e) as (λ _. e < durable_used m)
+              [ inl same ↦ subst (λ x. x < durable_used m) same may.durable | inr other ↦ y.below e (let n = ne-eqb-none d e other in omega arith) ];
+          infos = λ e some. elim (cases_eq d e) as (λ _. durable_info m e ≡ info m e) [
+            | inl same ↦ subst (λ x. durable_info m x ≡ info m x) same may.durable_class
+            | inr other ↦ y.infos e
+                (let n = ne-eqb-none d e other in omega arith)
+          ];
         });
       }))
       (let s = seat.set_up in record {
-        set_up = record { setup = s.setup; roots = s.roots; small = s.small; caches = length-set v.caches class bs ∙ s.caches; looks = s.looks; volatile = length_only base 0 v.volatile ∙ s.volatile; durable = length_only base 0 v.durable ∙ s.durable };
+        set_up = record {
+          setup = s.setup;
+          roots = s.roots;
+          small = s.small;
+          caches = length-set v.caches class bs ∙ s.caches;
+          looks = s.looks;
+          volatile = length_only base 0 v.volatile ∙ s.volatile;
+          durable = length_only base 0 v.durable ∙ s.durable;
+        };
         claims = (let c = seat.claims in record {
           is_raw = c.is_raw;
           is_split = c.is_split;
@@ -187,7 +217,17 @@ module _ (k : Setup) (m : Memory) (views : List View) (i : ℕ) (v : View) (belo
         blocks = blocks_now;
         knows = spans.knows_after k m views i v below_i at good d 1 w g' refl refl refl refl refl refl refl refl refl raw_out seat.knows.floor;
         words = spans.words_after k m views i v below_i at good base refl refl refl;
-        tickets = (let t = seat.tickets in record { ticket = t.ticket; last = t.last; used_look = t.used_look; head_looks = t.head_looks; counts = t.counts; state = t.state; looked_then = t.looked_then; gives = t.gives; cuts = omega arith });
+        tickets = (let t = seat.tickets in record {
+          ticket = t.ticket;
+          last = t.last;
+          used_look = t.used_look;
+          head_looks = t.head_looks;
+          counts = t.counts;
+          state = t.state;
+          looked_then = t.looked_then;
+          gives = t.gives;
+          cuts = omega arith;
+        });
       })
       refl refl refl refl (spans.stale_after k m views i v below_i at good d 1 w refl refl refl raw_out)
       (let e = ap (λ (t : Tally). empties k.capacity (anchor m) (times_parked g' t)) tally in omega arith)

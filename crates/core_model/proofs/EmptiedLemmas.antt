@@ -25,7 +25,8 @@ empties_carrier u c = record {
 }
 
 -- beside the views, one of them without its block may stand
-module _ (k : Setup) (m : Memory) (views : List View) (j : ℕ) (u : View) (below : j < length views) (at : get_or views j u ≡ u) (carries : IsCarrier u) (good : Good k m views) where
+module _ (k : Setup) (m : Memory) (views : List View) (j : ℕ) (u : View) (below : j < length views) (at : get_or views j u ≡ u)
+    (carries : IsCarrier u) (good : Good k m views) where
   abbrev e : View
   e = emptied u
 
@@ -39,15 +40,17 @@ module _ (k : Setup) (m : Memory) (views : List View) (j : ℕ) (u : View) (belo
   none_more f none = let t = total_behind f views e in omega arith
 
   no_raw : (d : ℕ) → times_raw d e ≡ 0
-  no_raw d = let c = carries.claims in ap (λ (p : List ℕ × (List ℕ × List ℕ)). times d p.0 + times d p.1.0 + times d p.1.1) (λ i. (c.0 i, (c.1 i, c.2 i)))
+  no_raw d = let c = carries.claims in ap (λ (p : List ℕ × (List ℕ × List ℕ)). times d p.0 + times d p.1.0 + times d p.1.1)
+      (λ i. (c.0 i, (c.1 i, c.2 i)))
 
   no_class : (d : ℕ) → times_classed d e.classed ≡ 0
   no_class d = ap (times_classed d) carries.claims.3
 
   no_blocks : (n : ℕ) → times_block n e ≡ 0
-  no_blocks n = let c = ap (total (times n)) carries.free.0 in let b = ap (λ (x : Batch). times n x.blocks) carries.free.1 in let z = empties_of n in omega arith where
-    empties_of : (i : ℕ) → total (times i) (replicate lists []) ≡ 0
-    empties_of i = refl
+  no_blocks n = let c = ap (total (times n)) carries.free.0 in let b = ap (λ (x : Batch). times n x.blocks) carries.free.1 in
+      let z = empties_of n in omega arith where
+        empties_of : (i : ℕ) → total (times i) (replicate lists []) ≡ 0
+        empties_of i = refl
 
   tally : tally_of more ≡ tally_of views
   tally = λ i. record {
@@ -100,7 +103,17 @@ module _ (k : Setup) (m : Memory) (views : List View) (j : ℕ) (u : View) (belo
   }
 
   tickets : HasTickets k.budget m.drawn e
-  tickets = let t = carrier.tickets in record { ticket = t.ticket; last = t.last; used_look = t.used_look; head_looks = t.head_looks; counts = t.counts; state = t.state; looked_then = t.looked_then; gives = t.gives; cuts = t.cuts }
+  tickets = let t = carrier.tickets in record {
+    ticket = t.ticket;
+    last = t.last;
+    used_look = t.used_look;
+    head_looks = t.head_looks;
+    counts = t.counts;
+    state = t.state;
+    looked_then = t.looked_then;
+    gives = t.gives;
+    cuts = t.cuts;
+  }
 
   wins : total (λ (x : View). x.wins) more ≡ total (λ (x : View). x.wins) views
   wins = none_more (λ (x : View). x.wins) carries.counts.1
@@ -114,7 +127,8 @@ module _ (k : Setup) (m : Memory) (views : List View) (j : ℕ) (u : View) (belo
     claims = each_behind views e (ClaimsOf m) good.claims claims;
     blocks = each_behind views e (BlocksOf m) good.blocks blocks;
     knows = each_behind views e (Knows k.capacity m good.shape) good.knows knows;
-    words = each_behind views e (KnowsWords k.capacity m) good.words (spans.words_after k m views j u below at good (record u { small = replicate lists []; large = []; carries = 2 }) refl refl refl);
+    words = each_behind views e (KnowsWords k.capacity m) good.words
+        (spans.words_after k m views j u below at good (record u { small = replicate lists []; large = []; carries = 2 }) refl refl refl);
     tickets = each_behind views e (HasTickets k.budget m.drawn) good.tickets tickets;
     adds = (let x = good.adds in let c = carries.counts in
         let draws = none_more (λ (y : View). y.draws) c.0 in
@@ -130,14 +144,16 @@ module _ (k : Setup) (m : Memory) (views : List View) (j : ℕ) (u : View) (belo
           taken = omega arith;
           roots = λ n. let before = x.roots n in let same = none_more (λ (y : View). times n y.roots) (ap (times n) carries.roots) in omega arith;
         });
-    lost = each_behind views e (HasLost m more) (λ i x below_x at_x. let before = good.lost i x below_x at_x in let s = wins in omega arith) (let before = good.lost j u below at in let s = wins in omega arith);
+    lost = each_behind views e (HasLost m more) (λ i x below_x at_x. let before = good.lost i x below_x at_x in let s = wins in
+        omega arith) (let before = good.lost j u below at in let s = wins in omega arith);
     moves = (let before = good.moves in let c = carries.counts in let g = c.5 in let n = c.6 in
         let moves = none_more (λ (y : View). y.moves) n in let gives = none_more (λ (y : View). y.gives) g in
         let same = ap (λ (t : Tally). empties k.capacity (anchor m) (times_parked good.shape t)) tally in omega arith);
   }
 
 -- the seat takes the block in, and the carrier stays without it
-module _ (k : Setup) (views : List View) (i j : ℕ) (v u : View) (apart : j ≢ i) (below_i : i < length views) (at_i : get_or views i v ≡ v) (below_j : j < length views) (at_j : get_or views j u ≡ u) where
+module _ (k : Setup) (views : List View) (i j : ℕ) (v u : View) (apart : j ≢ i) (below_i : i < length views) (at_i : get_or views i v ≡ v)
+    (below_j : j < length views) (at_j : get_or views j u ≡ u) where
   abbrev w : View
   w = accepted v u
 
@@ -152,9 +168,11 @@ module _ (k : Setup) (views : List View) (i j : ℕ) (v u : View) (apart : j ≢
 
   less : AreOneLess (views ++ emptied u ∷ []) (set seated j (emptied u)) v u w
   less = record {
-    sums = λ f. let s = total_set f views i v w below_i at_i in let t = total_set f seated j u (emptied u) below at in let b = total_behind f views (emptied u) in omega arith;
+    sums = λ f. let s = total_set f views i v w below_i at_i in let t = total_set f seated j u (emptied u) below at in
+        let b = total_behind f views (emptied u) in omega arith;
     members = one_set seated j (emptied u) (λ y. (w ≡ y) ⊎ Contains (views ++ emptied u ∷ []) y)
-        (one_set views i w (λ y. (w ≡ y) ⊎ Contains (views ++ emptied u ∷ []) y) (λ y there. inr (Contains-append_left views (emptied u ∷ []) y there)) (inl refl))
+        (one_set views i w (λ y. (w ≡ y) ⊎ Contains (views ++ emptied u ∷ []) y)
+        (λ y there. inr (Contains-append_left views (emptied u ∷ []) y there)) (inl refl))
         (inr (Contains-append_right views (emptied u ∷ []) (emptied u) (in_head (emptied u) [])));
   }
 
@@ -163,14 +181,26 @@ module _ (k : Setup) (views : List View) (i j : ℕ) (v u : View) (apart : j ≢
       (Contains-append_left views (emptied u ∷ []) v (i, below_i, at_i)) (Contains-append_left views (emptied u ∷ []) u (j, below_j, at_j)) carries less
 
   pub accept_sound : (words : List ℕ) → IsCarrier u → Sound k words views → Sound k words (set seated j (emptied u))
-  accept_sound words carries sound = record { some = sound.some; long = sound.long; fixed = sound.fixed; capacity = sound.capacity; used = sound.used; good = accept_good (memory_of k.capacity words) carries sound.good }
+  accept_sound words carries sound = record {
+    some = sound.some;
+    long = sound.long;
+    fixed = sound.fixed;
+    capacity = sound.capacity;
+    used = sound.used;
+    good = accept_good (memory_of k.capacity words) carries sound.good;
+  }
 
   pub accept_counted : v.carries ≡ 0 → IsCarrier u → AreSeatsAndCarriers k views → AreSeatsAndCarriers k (set seated j (emptied u))
   accept_counted seat carries are = record {
-    seats = (let s = total_same (λ (x : View). 1 - x.carries) views i v w below_i at_i refl in let t = total_same (λ (x : View). 1 - x.carries) seated j u (emptied u) below at (let c = carries.is_one in omega arith) in let old = are.seats in omega arith);
+    seats = (let s = total_same (λ (x : View). 1 - x.carries) views i v w below_i at_i refl in
+        let t = total_same (λ (x : View). 1 - x.carries) seated j u (emptied u) below at (let c = carries.is_one in omega arith) in
+        let old = are.seats in omega arith);
     carriers = (let c = total_same one_if_carrier views i v w below_i at_i refl in let c' = total_set one_if_carrier seated j u (emptied u) below at in
-        let a = total_set (λ (x : View). x.accepts) views i v w below_i at_i in let a' = total_same (λ (x : View). x.accepts) seated j u (emptied u) below at refl in
-        let o = total_same (λ (x : View). x.offers) views i v w below_i at_i refl in let o' = total_same (λ (x : View). x.offers) seated j u (emptied u) below at refl in
+        let a = total_set (λ (x : View). x.accepts) views i v w below_i at_i in
+        let a' = total_same (λ (x : View). x.accepts) seated j u (emptied u) below at refl in
+        let o = total_same (λ (x : View). x.offers) views i v w below_i at_i refl in
+        let o' = total_same (λ (x : View). x.offers) seated j u (emptied u) below at refl in
         let one = ap (λ n. one_if (nat_eq n 1)) carries.is_one in let old = are.carriers in omega arith);
-    each = one_set seated j (emptied u) (λ y. (y.carries ≡ 0) ⊎ IsCarrier y ⊎ IsEmptied y) (one_set views i w (λ y. (y.carries ≡ 0) ⊎ IsCarrier y ⊎ IsEmptied y) are.each (inl seat)) (inr (inr (empties_carrier u carries)));
+    each = one_set seated j (emptied u) (λ y. (y.carries ≡ 0) ⊎ IsCarrier y ⊎ IsEmptied y)
+        (one_set views i w (λ y. (y.carries ≡ 0) ⊎ IsCarrier y ⊎ IsEmptied y) are.each (inl seat)) (inr (inr (empties_carrier u carries)));
   }

@@ -18,7 +18,8 @@ pub record IsSeat (k : Setup) (m : Memory) (g : CoreShape) (v : View) : Type 0 w
   pub words : KnowsWords k.capacity m v
   pub tickets : HasTickets k.budget m.drawn v
 
-pub seat_at : (k : Setup) (m : Memory) (views : List View) (good : Good k m views) (i : ℕ) (v : View) → i < length views → get_or views i v ≡ v → IsSeat k m good.shape v
+pub seat_at : (k : Setup) (m : Memory) (views : List View) (good : Good k m views) (i : ℕ) (v : View) → i < length views → get_or views i v ≡ v
+    → IsSeat k m good.shape v
 seat_at k m views good i v below at = record {
   set_up = good.set_up i v below at;
   claims = good.claims i v below at;
@@ -29,7 +30,8 @@ seat_at k m views good i v below at = record {
 }
 
 -- a seat is set up the same where its lists are as long
-pub set_up_kept : (k : Setup) (v w : View) → IsSetUp k v → w.setup ≡ v.setup → w.roots ≡ v.roots → w.small ≡ v.small → w.caches ≡ v.caches → w.head_looks ≡ v.head_looks
+pub set_up_kept : (k : Setup) (v w : View) → IsSetUp k v → w.setup ≡ v.setup → w.roots ≡ v.roots → w.small ≡ v.small → w.caches ≡ v.caches
+    → w.head_looks ≡ v.head_looks
     → length w.volatile ≡ length v.volatile → length w.durable ≡ length v.durable → IsSetUp k w
 set_up_kept k v w s setup roots_same small caches looks volatile durable = record {
   setup = setup ∙ s.setup;
@@ -54,7 +56,8 @@ pub good_step : (k : Setup) (m m' : Memory) (views : List View) (i : ℕ) (v w :
     → HasTotals k m' (set views i w)
     → Loses m m' v w
     → ((j : ℕ) (u : View) → j ≢ i → j < length views → get_or views j u ≡ u → stale m' u + v.wins ≤ stale m u + w.wins)
-    → empties k.capacity (anchor m') (times_parked g (tally_of (set views i w))) + total (λ (u : View). u.moves) (set views i w) ≤ total (λ (u : View). u.gives) (set views i w) + k.capacity
+    → empties k.capacity (anchor m') (times_parked g (tally_of (set views i w))) + total (λ (u : View). u.moves) (set views i w) ≤ total
+    (λ (u : View). u.gives) (set views i w) + k.capacity
     → Good k m' (set views i w)
 good_step k m m' views i v w good g below at shaped mine others adds loses theirs moves = record {
   small = good.small;
@@ -68,7 +71,8 @@ good_step k m m' views i v w good g below at shaped mine others adds loses their
   tickets = each_set views i w (HasTickets k.budget m'.drawn) below (λ j u other b a. (seat j u other b a).tickets) mine.tickets;
   adds = adds;
   lost = each_set views i w (HasLost m' (set views i w)) below
-      (λ j u other b a. let old = good.lost j u b a in let step = theirs j u other b a in let wins = total_set (λ (x : View). x.wins) views i v w below at in omega arith)
+      (λ j u other b a. let old = good.lost j u b a in let step = theirs j u other b a in
+      let wins = total_set (λ (x : View). x.wins) views i v w below at in omega arith)
       (let old = good.lost i v below at in let own = loses.mine in let wins = total_set (λ (x : View). x.wins) views i v w below at in omega arith);
   moves = moves;
 } where
@@ -76,18 +80,21 @@ good_step k m m' views i v w good g below at shaped mine others adds loses their
   seat j u other b a = others j u other b a (seat_at k m views good j u b a)
 
 -- where a seat's parts stay, so do the sums of all
-pub tally_same : (views : List View) (i : ℕ) (v w : View) → i < length views → get_or views i v ≡ v → parts w ≡ parts v → tally_of (set views i w) ≡ tally_of views
+pub tally_same : (views : List View) (i : ℕ) (v w : View) → i < length views → get_or views i v ≡ v → parts w ≡ parts v
+    → tally_of (set views i w) ≡ tally_of views
 tally_same views i v w below at same = λ j. record {
   raw = λ d. (total_same (times_raw d) views i v w below at (ap (λ (p : Parts). times d p.raw + times d p.split + times d p.cutting) same)) j;
   classed = λ d. (total_same (λ (u : View). times_classed d u.classed) views i v w below at (ap (λ (p : Parts). times_classed d p.classed) same)) j;
   large = λ d. (total_same (λ (u : View). times_large d u.large) views i v w below at (ap (λ (p : Parts). times_large d p.large) same)) j;
-  blocks = λ b. (total_same (times_block b) views i v w below at (ap (λ (p : Parts). total (times b) p.small + total (times b) p.caches + times b p.batch.blocks) same)) j;
+  blocks = λ b. (total_same (times_block b) views i v w below at (ap
+      (λ (p : Parts). total (times b) p.small + total (times b) p.caches + times b p.batch.blocks) same)) j;
 }
 
 -- a step without a draw changes the sums by what the words and the counts change
 pub adds_step : (k : Setup) (m m' : Memory) (views : List View) (i : ℕ) (v w : View) → i < length views → get_or views i v ≡ v → HasTotals k m views
     → m'.drawn ≡ m.drawn → w.draws ≡ v.draws → w.stopped ≡ v.stopped → w.roots ≡ v.roots
-    → total (λ list. head_pops (head m' list)) list_numbers + one_if_some w.ticket ≤ total (λ list. head_pops (head m list)) list_numbers + one_if_some v.ticket
+    → total (λ list. head_pops (head m' list)) list_numbers + one_if_some w.ticket ≤ total
+    (λ list. head_pops (head m list)) list_numbers + one_if_some v.ticket
     → used m' + v.taken ≡ used m + w.taken
     → HasTotals k m' (set views i w)
 adds_step k m m' views i v w below at adds drawn draws stopped roots pops taken =
@@ -102,5 +109,6 @@ adds_step k m m' views i v w below at adds drawn draws stopped roots pops taken 
       budget = omega arith;
       stopped = omega arith;
       taken = omega arith;
-      roots = λ n. let same = total_same (λ (x : View). times n x.roots) views i v w below at (ap (times n) roots) in let old = adds.roots n in omega arith;
+      roots = λ n. let same = total_same (λ (x : View). times n x.roots) views i v w below at (ap (times n) roots) in let old = adds.roots n in
+          omega arith;
     }

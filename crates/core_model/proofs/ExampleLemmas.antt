@@ -84,7 +84,11 @@ lifts_from_none may = let some = may.cached in omega arith
 
 -- behind a block that leads to it, but not where a store may have changed that
 pub lifts_behind : MayLift leading (behind true) 20
-lifts_behind = record { is_class = record { some = omega arith; last = omega arith }; cached = omega arith; behind = λ some. record { same = refl; unchanged = refl; linked = refl } }
+lifts_behind = record {
+  is_class = record { some = omega arith; last = omega arith };
+  cached = omega arith;
+  behind = λ some. record { same = refl; unchanged = refl; linked = refl };
+}
 
 pub lifts_behind_a_store : MayLift leading (behind false) 20 → ⊥
 lifts_behind_a_store may = let changed : false ≡ true = (may.behind (omega arith)).unchanged in absurd (cc)
@@ -125,7 +129,12 @@ pops = record { is_seen = refl; link = refl }
 
 -- the last superblock below the durable mark
 pub pushes_the_last : MayPush memory (record (saw_head 33554432) { raw = 0 ∷ [] }) 0
-pushes_the_last = record { is_seen = refl; durable = omega arith; linked = refl; listed = as_free 0 refl (record { claimed = omega arith; not_cutting = refl }) refl }
+pushes_the_last = record {
+  is_seen = refl;
+  durable = omega arith;
+  linked = refl;
+  listed = as_free 0 refl (record { claimed = omega arith; not_cutting = refl }) refl;
+}
 
 -- a claimed superblock, and that of the batch
 pub looks_at_claim : MayLookAt (record idle { raw = 0 ∷ [] }) 0
@@ -246,12 +255,13 @@ pub overlap : AreApart (record { first_word = 1080; words = 2 }) (record { first
 overlap apart = elim apart [ inl left ↦ let e : 1082 ≤ 1081 = left in omega arith | inr right ↦ let e : 1083 ≤ 1080 = right in omega arith ]
 
 pub two_hold_one : AreHeldOnce 2 (large ∷ large ∷ []) → ⊥
-two_hold_one once = elim (once.by_two 0 1 large large (λ same. omega (arith, same)) (omega arith) refl (omega arith) refl one one (a_large 1 1 (omega arith) refl) (a_large 1 1 (omega arith) refl)) [
-  | inl left ↦ let e : 17464 ≤ 9272 = left in omega arith
-  | inr right ↦ let e : 17464 ≤ 9272 = right in omega arith
-] where
-  one : Block
-  one = record { first_word = start_word 2 1; words = superblock_words * 1 }
+two_hold_one once = elim (once.by_two 0 1 large large (λ same. omega (arith, same)) (omega arith) refl (omega arith) refl one one
+    (a_large 1 1 (omega arith) refl) (a_large 1 1 (omega arith) refl)) [
+      | inl left ↦ let e : 17464 ≤ 9272 = left in omega arith
+      | inr right ↦ let e : 17464 ≤ 9272 = right in omega arith
+    ] where
+      one : Block
+      one = record { first_word = start_word 2 1; words = superblock_words * 1 }
 
 -- a small block that one seat holds and another has cached, and a superblock in two large blocks
 abbrev cached_too : View
@@ -309,7 +319,8 @@ nothing_free k v nothing = nothing.free
 pub nothing_claimed : (k : Setup) (v : View) → HasDoneNothing k v → (v.raw ≡ []) × (v.split ≡ []) × (v.cutting ≡ []) × (v.classed ≡ [])
 nothing_claimed k v nothing = nothing.claims
 
-pub nothing_seen : (k : Setup) (v : View) → HasDoneNothing k v → (v.seen_used ≡ None) × (v.seen_head ≡ None) × (v.seen_link ≡ None) × (v.seen_anchor ≡ None)
+pub nothing_seen : (k : Setup) (v : View) → HasDoneNothing k v → (v.seen_used ≡ None) × (v.seen_head ≡ None) × (v.seen_link ≡ None)
+    × (v.seen_anchor ≡ None)
 nothing_seen k v nothing = nothing.seen
 
 pub mark_as_opened : (k : Setup) (v : View) → HasDoneNothing k v → (v.used_look ≡ unlooked k.used) × (v.floor ≡ k.used)

@@ -49,7 +49,8 @@ times_steps d u (suc n) =
     let same : u + 1 + n ≡ u + suc n = omega arith in
     let later = ap (below d) same in
     elim (cases_lt d u) as (λ _. one_if (nat_eq u d) + times d (steps (u + 1) 1 n) + below d u ≡ below d (u + suc n)) [
-      | inl less ↦ let a = below_is d u less in let b = below_is d (u + 1) (omega arith) in let c = ne-eqb-none u d (λ e. omega (arith, e)) in omega arith
+      | inl less ↦ let a = below_is d u less in let b = below_is d (u + 1) (omega arith) in let c = ne-eqb-none u d (λ e. omega (arith, e)) in
+          omega arith
       | inr more ↦ elim (cases_eq u d) as (λ _. one_if (nat_eq u d) + times d (steps (u + 1) 1 n) + below d u ≡ below d (u + suc n)) [
         | inl here ↦ let a = below_not d u more in let b = below_is d (u + 1) (omega arith) in let c = eq-eqb-one u d here in omega arith
         | inr other ↦ let a = below_not d u more in let b = below_not d (u + 1) (omega arith) in let c = ne-eqb-none u d other in omega arith
@@ -59,11 +60,14 @@ times_steps d u (suc n) =
 -- the first of a number, taken out
 pub times_without : (d e : ℕ) (xs : List ℕ) → 0 < times e xs → times d (without e xs) + one_if (nat_eq e d) ≡ times d xs
 times_without d e [] some = absurd (omega arith)
-times_without d e (x ∷ xs) some = elim (cases_eq x e) as (λ _. times d (cond (nat_eq x e) xs (x ∷ without e xs)) + one_if (nat_eq e d) ≡ one_if (nat_eq x d) + times d xs) [
-  | inl here ↦ subst (λ (t : Bool). times d (cond t xs (x ∷ without e xs)) + one_if (nat_eq e d) ≡ one_if (nat_eq x d) + times d xs) (sym (eq-eqb x e here)) (let same = ap (λ n. one_if (nat_eq n d)) here in omega arith)
-  | inr other ↦ subst (λ (t : Bool). times d (cond t xs (x ∷ without e xs)) + one_if (nat_eq e d) ≡ one_if (nat_eq x d) + times d xs) (sym (ne_eqb x e other))
-      (let none = ne-eqb-none x e other in let rest = times_without d e xs (omega arith) in omega arith)
-]
+times_without d e (x ∷ xs) some = elim (cases_eq x e) as (λ _. times d (cond (nat_eq x e) xs (x ∷ without e xs)) + one_if (nat_eq e d) ≡ one_if
+    (nat_eq x d) + times d xs) [
+      | inl here ↦ subst (λ (t : Bool). times d (cond t xs (x ∷ without e xs)) + one_if (nat_eq e d) ≡ one_if (nat_eq x d) + times d xs)
+          (sym (eq-eqb x e here)) (let same = ap (λ n. one_if (nat_eq n d)) here in omega arith)
+      | inr other ↦ subst (λ (t : Bool). times d (cond t xs (x ∷ without e xs)) + one_if (nat_eq e d) ≡ one_if (nat_eq x d) + times d xs)
+          (sym (ne_eqb x e other))
+          (let none = ne-eqb-none x e other in let rest = times_without d e xs (omega arith) in omega arith)
+    ]
 
 -- nothing to take out
 pub without_none : (d e : ℕ) (xs : List ℕ) → times e xs ≡ 0 → times d (without e xs) ≡ times d xs

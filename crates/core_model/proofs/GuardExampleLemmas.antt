@@ -1,4 +1,5 @@
--- Worked examples of what each condition of a guard refuses by itself: of a superblock that is cut, of stores to anchors and to blocks, and of blocks that go between seats.
+-- Worked examples of what each condition of a guard refuses by itself: of a superblock that is cut, of stores to
+-- anchors and to blocks, and of blocks that go between seats.
 use Rattle.std.proofs.Common.{◌≡◌, ℕ, [], ◌∷◌, replicate, set, Option, None, Some, true, inl, inr, refl, ap, subst, arith}
 use Rattle.heap_model.specs.Sizes.{class_sizes, words_of_class, blocks_of}
 use Rattle.heap_model.specs.Counting.{total}
@@ -25,7 +26,14 @@ cutting = record idle { cutting = 0 ∷ [] }
 
 pub cuts : MayCut ready cutting 0
 unfolding words_of_class class_sizes blocks_of
-cuts = record { cutting = omega arith; class = record { some = omega arith; last = omega arith }; durable_class = refl; durable = omega arith; linked = (refl, (refl, (refl, (refl, tt)))); uncached = refl }
+cuts = record {
+  cutting = omega arith;
+  class = record { some = omega arith; last = omega arith };
+  durable_class = refl;
+  durable = omega arith;
+  linked = (refl, (refl, (refl, (refl, tt))));
+  uncached = refl;
+}
 
 pub cuts_claimed : MayCut ready (record idle { raw = 0 ∷ [] }) 0 → ⊥
 cuts_claimed may = let some = may.cutting in omega arith
@@ -132,7 +140,11 @@ emptied_with_a_block is = let none = ap (total (total (λ n. 1))) is.held.0 in o
 
 -- one view stands for two, and no block for none
 pub is_one_less : AreOneLess (idle ∷ carrier ∷ []) (two ∷ []) idle carrier two
-is_one_less = record { sums = λ f. omega arith; members = λ x there. elim (head_or_rest two x [] there) [ inl same ↦ inl same | inr none ↦ absurd (in_none x none) ] }
+is_one_less = record {
+  sums = λ f. omega arith;
+  members = λ x there. elim
+      (head_or_rest two x [] there) [ inl same ↦ inl same | inr none ↦ absurd (in_none x none) ];
+}
 
 pub one_is_left : AreOneLess (idle ∷ carrier ∷ []) (two ∷ carrier ∷ []) idle carrier two → ⊥
 one_is_left less = let more = less.sums (λ v. 1) in omega arith
@@ -163,7 +175,8 @@ are_all_after = record {
   carriers = refl;
   each = λ v there. elim (head_or_rest (accepted sender carrier) v (emptied carrier ∷ []) there) [
     | inl same ↦ inl (subst (λ (x : View). x.carries ≡ 0) same refl)
-    | inr later ↦ elim (head_or_rest (emptied carrier) v [] later) [ inl same ↦ inr (inr (subst IsEmptied same is_emptied)) | inr none ↦ absurd (in_none v none) ]
+    | inr later ↦ elim (head_or_rest (emptied carrier) v [] later)
+        [ inl same ↦ inr (inr (subst IsEmptied same is_emptied)) | inr none ↦ absurd (in_none v none) ]
   ];
 }
 
@@ -178,8 +191,9 @@ pub one_has_it_still : AreSeatsAndCarriers alone (accepted sender carrier ∷ ca
 one_has_it_still are = let made = are.carriers in omega arith
 
 pub carrier_is_no_carrier : AreSeatsAndCarriers alone (sender ∷ record carrier { ticket = Some 3 } ∷ []) → ⊥
-carrier_is_no_carrier are = elim (are.each (record carrier { ticket = Some 3 }) (in_rest sender (record carrier { ticket = Some 3 }) (record carrier { ticket = Some 3 } ∷ []) (in_head (record carrier { ticket = Some 3 }) []))) [
-  | inl seat ↦ omega (arith, seat)
-  | inr (inl is) ↦ carrier_with_a_ticket is
-  | inr (inr empty) ↦ omega (arith, empty.is_two)
-]
+carrier_is_no_carrier are = elim (are.each (record carrier { ticket = Some 3 })
+    (in_rest sender (record carrier { ticket = Some 3 }) (record carrier { ticket = Some 3 } ∷ []) (in_head (record carrier { ticket = Some 3 }) []))) [
+      | inl seat ↦ omega (arith, seat)
+      | inr (inl is) ↦ carrier_with_a_ticket is
+      | inr (inr empty) ↦ omega (arith, empty.is_two)
+    ]

@@ -20,7 +20,8 @@ kind_lasts c word kind (is_link d w less same) = let from = kind.from in omega (
 kind_there : (c i : ℕ) → i < roots → IsKindWord c (kind_word c i)
 kind_there c i below = record { from = omega arith; until = omega arith }
 
--- an image whose header words but the state are volatile or durable ones, and whose kinds of roots are as they were opened, has a good header where it has a state
+-- an image whose header words but the state are volatile or durable ones, and whose kinds of roots are as they were
+-- opened, has a good header where it has a state
 pub mixture_header : (k : Setup) (words : List ℕ) (views : List View) → Sound k words views → (image : Image)
     → ((word : ℕ) → word < 16 → (word ≡ 3 → ⊥) → (image word ≡ get_or words word 0) ⊎ (image word ≡ get_or words (image_words k.capacity + word) 0))
     → ((word : ℕ) → IsKindWord k.capacity word → image word ≡ slice_index k.opened word)
@@ -65,21 +66,25 @@ mixture_header k words views sound image either kinds state good limit below = n
 pub volatile_is : (k : Setup) (words : List ℕ) (word : ℕ) → word < 16 → volatile_image k.capacity words word ≡ get_or words word 0
 volatile_is k words word low = pick (nat_lt word (image_words k.capacity)) _ _ (lt-ltb word (image_words k.capacity) (omega arith))
 
-pub durable_is : (k : Setup) (words : List ℕ) (word : ℕ) → word < 16 → durable_image k.capacity words word ≡ get_or words (image_words k.capacity + word) 0
+pub durable_is : (k : Setup) (words : List ℕ) (word : ℕ) → word < 16
+    → durable_image k.capacity words word ≡ get_or words (image_words k.capacity + word) 0
 durable_is k words word low = pick (nat_lt word (image_words k.capacity)) _ _ (lt-ltb word (image_words k.capacity) (omega arith))
 
-pub crash_header : (k : Setup) (words : List ℕ) (views : List View) → Sound k words views → (image : Image) → IsCrashImage (durable_image k.capacity words) image
+pub crash_header : (k : Setup) (words : List ℕ) (views : List View) → Sound k words views → (image : Image)
+    → IsCrashImage (durable_image k.capacity words) image
     → IsWellFormed (8 * length k.opened) (slice_index k.opened) → (limit : Option ℕ) → HasKindsBelow limit (slice_index k.opened)
     → header_fault limit (8 * image_words k.capacity) image ≡ None
 crash_header k words views sound image crash = mixture_header k words views sound image
     (λ word low other. inr (crash.others word other (header_lasts (durable_image k.capacity words 2) word low) ∙ durable_is k words word low))
     (λ word kind. let from = kind.from in let until = kind.until in
-    crash.others word (λ e. omega (arith, e)) (λ lost. kind_lasts k.capacity word kind (subst (λ c. IsTransient c word) (durable_capacity k words views sound) lost))
+    crash.others word (λ e. omega (arith, e)) (λ lost. kind_lasts k.capacity word kind
+    (subst (λ c. IsTransient c word) (durable_capacity k words views sound) lost))
     ∙ pick (nat_lt word (image_words k.capacity)) _ _ (lt-ltb word (image_words k.capacity) (omega arith)) ∙ (sound.fixed word (inr (inr kind))).1)
     (inr crash.state)
 
 -- the same of what a close leaves
-pub closed_header : (k : Setup) (words : List ℕ) (views : List View) → Sound k words views → (image : Image) → IsClosedImage (volatile_image k.capacity words) image
+pub closed_header : (k : Setup) (words : List ℕ) (views : List View) → Sound k words views → (image : Image)
+    → IsClosedImage (volatile_image k.capacity words) image
     → IsWellFormed (8 * length k.opened) (slice_index k.opened) → (limit : Option ℕ) → HasKindsBelow limit (slice_index k.opened)
     → header_fault limit (8 * image_words k.capacity) image ≡ None
 closed_header k words views sound image closed = mixture_header k words views sound image

@@ -24,7 +24,8 @@ pub record IsNaming (k : Setup) (m : Memory) (image : Image) : Type 0 where
   pub used_least : durable_used m ≤ used_of image
   pub infos : (d : ℕ) → d < k.capacity → durable_info m d ≡ info m d → image (info_word d) ≡ info m d
 
-module _ (k : Setup) (words : List ℕ) (views : List View) (sound : Sound k words views) (image : Image) (naming : IsNaming k (memory_of k.capacity words) image) where
+module _ (k : Setup) (words : List ℕ) (views : List View) (sound : Sound k words views) (image : Image)
+    (naming : IsNaming k (memory_of k.capacity words) image) where
   abbrev m : Memory
   m = memory_of k.capacity words
 
@@ -52,7 +53,8 @@ module _ (k : Setup) (words : List ℕ) (views : List View) (sound : Sound k wor
       let d = superblock_at k.capacity first in
       let is_info : info m d ≡ class = ap (λ c. info m (superblock_at c first)) (sym cap) ∙ (good.blocks j v below at).held class first some in
       let less = good.shaped.durable.below d (let c = inside.0 in omega arith) in
-      let now : image (info_word d) ≡ class = info_is d (durable_inside d less) (good.shaped.durable.infos d (let c = inside.0 in omega arith)) ∙ is_info in
+      let now : image (info_word d) ≡ class = info_is d (durable_inside d less) (good.shaped.durable.infos d (let c = inside.0 in omega arith))
+      ∙ is_info in
       let is_class : IsClass class = subst IsClass is_info (good.shaped.chained.is_class d inside.0) in
       let block : IsCutBlock k.capacity class d first = subst (λ c. IsCutBlock k.capacity c d first) is_info inside.1 in
       record {
@@ -72,7 +74,8 @@ module _ (k : Setup) (words : List ℕ) (views : List View) (sound : Sound k wor
       let cap : v.setup.capacity ≡ k.capacity = ap (λ (s : Setup). s.capacity) (good.set_up j v below at).setup in
       let large = (good.claims j v below at).is_large d (omega arith) in
       let part : (e : ℕ) → d ≤ e → e < d + n → (e < durable_used m) × (durable_info m e ≡ info m e) = λ e low high.
-      (let covers = span_covers d e v.large (omega arith) low (omega arith) in let t = total_at (λ (u : View). times_large e u.large) views j v below at in
+      (let covers = span_covers d e v.large (omega arith) low (omega arith) in
+      let t = total_at (λ (u : View). times_large e u.large) views j v below at in
       (good.shaped.durable.below e (omega arith), good.shaped.durable.infos e (omega arith))) in
       let first = part d (omega arith) (omega arith) in
       let last = (part (d + n - 1) (omega arith) (omega arith)).0 in
@@ -87,7 +90,8 @@ module _ (k : Setup) (words : List ℕ) (views : List View) (sound : Sound k wor
           begins = as_large n (omega arith) now (let u = used_least in omega arith)
               (λ e low high. let p = part e (omega arith) high in info_is e (durable_inside e p.0) p.1 ∙ large.1 e low (omega arith));
           below = omega arith;
-          at = ap (λ c. start_word c d) (cap ∙ sym capacity_is) ∙ (let z : start_word (capacity_of image) d ≡ start_word (capacity_of image) d + 0 * (superblock_words * n) = omega arith in z);
+          at = ap (λ c. start_word c d) (cap ∙ sym capacity_is) ∙ (let z : start_word (capacity_of image) d ≡ start_word
+              (capacity_of image) d + 0 * (superblock_words * n) = omega arith in z);
           size = refl;
         };
       }
@@ -97,13 +101,19 @@ module _ (k : Setup) (words : List ℕ) (views : List View) (sound : Sound k wor
 
 -- an image that has at each of these words the volatile or the durable value
 naming_by : (k : Setup) (words : List ℕ) (views : List View) → Sound k words views → (image : Image)
-    → ((word : ℕ) → word < image_words k.capacity → word ≢ 3 → (IsTransient k.capacity word → ⊥) → (image word ≡ get_or words word 0) ⊎ (image word ≡ get_or words (image_words k.capacity + word) 0))
+    → ((word : ℕ) → word < image_words k.capacity → word ≢ 3 → (IsTransient k.capacity word → ⊥)
+    → (image word ≡ get_or words word 0) ⊎ (image word ≡ get_or words (image_words k.capacity + word) 0))
     → IsNaming k (memory_of k.capacity words) image
 naming_by k words views sound image either = record {
   capacity = let fixed = sound.fixed 2 (inl (omega arith)) in
-      elim (either 2 (omega arith) (λ e. omega (arith, e)) (λ t. not_transient 2 (omega arith) t)) [ inl volatile ↦ volatile ∙ fixed.0 ∙ sound.capacity | inr durable ↦ durable ∙ fixed.1 ∙ sound.capacity ];
+      elim (either 2 (omega arith) (λ e. omega (arith, e)) (λ t. not_transient 2 (omega arith) t)) [
+        | inl volatile ↦ volatile ∙ fixed.0
+            ∙ sound.capacity
+        | inr durable ↦ durable ∙ fixed.1 ∙ sound.capacity
+      ];
   used_least = let behind = sound.good.shaped.durable.behind in
-      elim (either 8 (omega arith) (λ e. omega (arith, e)) (λ t. not_transient 8 (omega arith) t)) [ inl volatile ↦ omega arith | inr durable ↦ omega arith ];
+      elim (either 8 (omega arith) (λ e. omega (arith, e)) (λ t. not_transient 8 (omega arith) t))
+      [ inl volatile ↦ omega arith | inr durable ↦ omega arith ];
   infos = λ d inside same. elim (either (info_word d) (omega arith) (λ e. omega (arith, e)) (λ t. not_info d t)) [
     | inl volatile ↦ volatile ∙ sym (pick (nat_lt d k.capacity) _ _ (lt-ltb d k.capacity inside))
     | inr durable ↦ durable ∙ sym (pick (nat_lt d k.capacity) _ _ (lt-ltb d k.capacity inside)) ∙ same
@@ -131,14 +141,20 @@ firm k words views sound = record {
 
 -- the durable capacity
 pub durable_capacity : (k : Setup) (words : List ℕ) (views : List View) → Sound k words views → durable_image k.capacity words 2 ≡ k.capacity
-durable_capacity k words views sound = pick (nat_lt 2 (image_words k.capacity)) _ _ (lt-ltb 2 (image_words k.capacity) (omega arith)) ∙ (sound.fixed 2 (inl (omega arith))).1 ∙ sound.capacity
+durable_capacity k words views sound = pick (nat_lt 2 (image_words k.capacity)) _ _ (lt-ltb 2 (image_words k.capacity) (omega arith))
+    ∙ (sound.fixed 2 (inl (omega arith))).1 ∙ sound.capacity
 
 -- what a crash leaves names each held block
-pub crash_names : (k : Setup) (words : List ℕ) (views : List View) → Sound k words views → (image : Image) → IsCrashImage (durable_image k.capacity words) image → (b : Block) → IsHeldBy views b → Names image (8 * b.first_word) b
-crash_names k words views sound image crash b held = names_held k words views sound image (naming_by k words views sound image (λ word inside not_state apart.
-    inr (crash.others word not_state (λ t. apart (subst (λ c. IsTransient c word) (durable_capacity k words views sound) t)) ∙ pick (nat_lt word (image_words k.capacity)) _ _ (lt-ltb word (image_words k.capacity) inside)))) b held
+pub crash_names : (k : Setup) (words : List ℕ) (views : List View) → Sound k words views → (image : Image)
+    → IsCrashImage (durable_image k.capacity words) image → (b : Block) → IsHeldBy views b → Names image (8 * b.first_word) b
+crash_names k words views sound image crash b held = names_held k words views sound image
+    (naming_by k words views sound image (λ word inside not_state apart.
+    inr (crash.others word not_state (λ t. apart (subst (λ c. IsTransient c word) (durable_capacity k words views sound) t))
+    ∙ pick (nat_lt word (image_words k.capacity)) _ _ (lt-ltb word (image_words k.capacity) inside)))) b held
 
 -- and so does what a close leaves
-pub closed_names : (k : Setup) (words : List ℕ) (views : List View) → Sound k words views → (image : Image) → IsClosedImage (volatile_image k.capacity words) image → (b : Block) → IsHeldBy views b → Names image (8 * b.first_word) b
-closed_names k words views sound image closed b held = names_held k words views sound image (naming_by k words views sound image (λ word inside not_state _.
+pub closed_names : (k : Setup) (words : List ℕ) (views : List View) → Sound k words views → (image : Image)
+    → IsClosedImage (volatile_image k.capacity words) image → (b : Block) → IsHeldBy views b → Names image (8 * b.first_word) b
+closed_names k words views sound image closed b held = names_held k words views sound image
+    (naming_by k words views sound image (λ word inside not_state _.
     inl (closed.others word not_state ∙ pick (nat_lt word (image_words k.capacity)) _ _ (lt-ltb word (image_words k.capacity) inside)))) b held

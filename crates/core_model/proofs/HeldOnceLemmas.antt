@@ -28,7 +28,8 @@ module _ (k : Setup) (words : List ℕ) (views : List View) (sound : Sound k wor
 
   small_once : (b : ℕ) → total (times_block b) views ≤ 1
   small_once b = elim (cases_lt 0 (total (times_block b) views)) [
-    | inl some ↦ let inside = good.shaped.chained.inside b some in let one = good.shaped.chained.owned (superblock_at k.capacity b) b inside.0 inside.1 in omega arith
+    | inl some ↦ let inside = good.shaped.chained.inside b some in
+        let one = good.shaped.chained.owned (superblock_at k.capacity b) b inside.0 inside.1 in omega arith
     | inr none ↦ omega arith
   ]
 
@@ -52,12 +53,15 @@ module _ (k : Setup) (words : List ℕ) (views : List View) (sound : Sound k wor
   by_any : (a b : Block) → IsHeldBy views a → IsHeldBy views b → AreOneOrApart a b
   by_any a b first second = never_overlap (layout_of (durable_image k.capacity words)) a b (names_of a first).block (names_of b second).block
 
-  by_two : (i j : ℕ) (v u : View) → j ≢ i → i < length views → get_or views i v ≡ v → j < length views → get_or views j u ≡ u → (a b : Block) → IsHeld v a → IsHeld u b → AreApart a b
+  by_two : (i j : ℕ) (v u : View) → j ≢ i → i < length views → get_or views i v ≡ v → j < length views → get_or views j u ≡ u → (a b : Block)
+      → IsHeld v a → IsHeld u b → AreApart a b
   by_two i j v u other below_i at_i below_j at_j a b first second =
-      elim (by_any a b (record { seat = i; view = v; below = below_i; at = at_i; holds = first }) (record { seat = j; view = u; below = below_j; at = at_j; holds = second })) as (λ _. AreApart a b) [
+      elim (by_any a b (record { seat = i; view = v; below = below_i; at = at_i; holds = first })
+      (record { seat = j; view = u; below = below_j; at = at_j; holds = second })) as (λ _. AreApart a b) [
         | inl same ↦ absurd (let own = first_own i v below_i at_i a first in let own_other = first_own j u below_j at_j b second in
             let none = one_owner k m views good i j v u other below_i at_i below_j at_j (data_cell a.first_word) own in
-            let moved : IsOwn u (data_cell a.first_word) = subst (λ (x : Block). IsOwn u (data_cell x.first_word)) (sym same) own_other in omega (arith, none, moved))
+            let moved : IsOwn u (data_cell a.first_word) = subst (λ (x : Block). IsOwn u (data_cell x.first_word)) (sym same) own_other in
+            omega (arith, none, moved))
         | inr apart ↦ apart
       ]
 
@@ -65,16 +69,19 @@ module _ (k : Setup) (words : List ℕ) (views : List View) (sound : Sound k wor
   inside b held =
       let placed = block_inside (layout_of (durable_image k.capacity words)) b (names_of b held).block in
       let c = durable_capacity k words views sound in
-      let u : durable_image k.capacity words 8 ≡ durable_used m = pick (nat_lt 8 (image_words k.capacity)) _ _ (lt-ltb 8 (image_words k.capacity) (omega arith)) in
+      let u : durable_image k.capacity words 8 ≡ durable_used m = pick (nat_lt 8 (image_words k.capacity)) _ _
+      (lt-ltb 8 (image_words k.capacity) (omega arith)) in
       let behind = good.shaped.durable.behind in let room = good.shaped.durable.room in (omega arith, omega arith)
 
   pub held_once : AreHeldOnce k.capacity views
   held_once = record { small = small_once; large = large_once; by_two = by_two; by_any = by_any; inside = inside }
 
 -- each word is a seat's own at most once
-module _ (k : Setup) (m : Memory) (views : List View) (good : Good k m views) (i : ℕ) (v : View) (below : i < length views) (at : get_or views i v ≡ v) where
+module _ (k : Setup) (m : Memory) (views : List View) (good : Good k m views) (i : ℕ) (v : View) (below : i < length views)
+    (at : get_or views i v ≡ v) where
   once_whole : (d : ℕ) → times_claimed d v ≤ 1
-  once_whole d = let raw = total_at (times_raw d) views i v below at in let classed = total_at (λ (u : View). times_classed d u.classed) views i v below at in
+  once_whole d = let raw = total_at (times_raw d) views i v below at in
+      let classed = total_at (λ (u : View). times_classed d u.classed) views i v below at in
       let p = good.shaped.placed.one_place d in let most = one_at_most (nat_lt d (used m)) in omega arith
 
   once_word : (word : ℕ) → times_own v (data_cell word) ≤ 1

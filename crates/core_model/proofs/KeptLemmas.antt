@@ -39,7 +39,8 @@ exchange a b P won lost = elim (cases_eq a b) [
   | inr other ↦ subst P (sym (ne_eqb a b other)) (lost other)
 ]
 
-module _ (k : Setup) (m : Memory) (views : List View) (i : ℕ) (v : View) (below : i < length views) (at : get_or views i v ≡ v) (good : Good k m views) where
+module _ (k : Setup) (m : Memory) (views : List View) (i : ℕ) (v : View) (below : i < length views) (at : get_or views i v ≡ v)
+    (good : Good k m views) where
   -- a step that leaves the word as it found it
   reads : (p : StepPlace) (w : View) → Good k m (set views i w) → Good k (write m p (read m p)) (set views i w)
   reads p w kept = subst (λ n. Good k n (set views i w)) (sym (write_read m p)) kept
@@ -55,7 +56,8 @@ module _ (k : Setup) (m : Memory) (views : List View) (i : ℕ) (v : View) (belo
 
   pub kept_take_fresh : (n : ℕ) → MayStep m v (TakeFresh n) → Keeps k m views i v (TakeFresh n)
   kept_take_fresh n may = exchange (used m) (seen v.seen_used)
-      (λ t. Good k (write m (place_of v (TakeFresh n)) (cond t (used m + n) (used m))) (set views i (cond t (taken_fresh v n) (record (lost v (used m)) { seen_used = None }))))
+      (λ t. Good k (write m (place_of v (TakeFresh n)) (cond t (used m + n) (used m)))
+      (set views i (cond t (taken_fresh v n) (record (lost v (used m)) { seen_used = None }))))
       (λ same. fresh.take_fresh k m views i v below at good n may.ticket may.ready same)
       (λ other. reads (place_of v (TakeFresh n)) _ (quiet.lost_used k m views i v below at good may.ticket (used m) may.ready.is_seen other))
 
@@ -67,36 +69,47 @@ module _ (k : Setup) (m : Memory) (views : List View) (i : ℕ) (v : View) (belo
 
   pub kept_pop : MayStep m v Pop → Keeps k m views i v Pop
   kept_pop may = exchange (head m (seen_of v.seen_head)) (seen_word v.seen_head)
-      (λ t. Good k (write m (place_of v Pop) (cond t (popped_head v) (head m (seen_of v.seen_head)))) (set views i (cond t (popped v (before (head_first (seen_word v.seen_head)))) (record (lost v (head m (seen_of v.seen_head))) { seen_head = None }))))
+      (λ t. Good k (write m (place_of v Pop) (cond t (popped_head v) (head m (seen_of v.seen_head))))
+      (set views i (cond t (popped v (before (head_first (seen_word v.seen_head))))
+      (record (lost v (head m (seen_of v.seen_head))) { seen_head = None }))))
       (λ same. pop.pop k m views i v below at good may.ticket may.ready same)
-      (λ other. reads (place_of v Pop) _ (quiet.lost_head k m views i v below at good may.ticket (head m (seen_of v.seen_head)) may.ready.is_seen other))
+      (λ other. reads (place_of v Pop) _ (quiet.lost_head k m views i v below at good may.ticket
+      (head m (seen_of v.seen_head)) may.ready.is_seen other))
 
   pub kept_push : (d : ℕ) → MayStep m v (Push d) → Keeps k m views i v (Push d)
   kept_push d may = exchange (head m (seen_of v.seen_head)) (seen_word v.seen_head)
-      (λ t. Good k (write m (place_of v (Push d)) (cond t (pushed_head v d) (head m (seen_of v.seen_head)))) (set views i (cond t (pushed v d) (record (lost v (head m (seen_of v.seen_head))) { seen_head = None }))))
+      (λ t. Good k (write m (place_of v (Push d)) (cond t (pushed_head v d) (head m (seen_of v.seen_head))))
+      (set views i (cond t (pushed v d) (record (lost v (head m (seen_of v.seen_head))) { seen_head = None }))))
       (λ same. push.push k m views i v below at good may.ticket d may.ready same)
-      (λ other. reads (place_of v (Push d)) _ (quiet.lost_head k m views i v below at good may.ticket (head m (seen_of v.seen_head)) may.ready.is_seen other))
+      (λ other. reads (place_of v (Push d)) _ (quiet.lost_head k m views i v below at good may.ticket
+      (head m (seen_of v.seen_head)) may.ready.is_seen other))
 
   pub kept_take_all : (d : ℕ) → MayStep m v (TakeAll d) → Keeps k m views i v (TakeAll d)
   kept_take_all d may = exchange (anchor m d) (seen_word v.seen_anchor)
-      (λ t. Good k (write m (place_of v (TakeAll d)) (cond t full_anchor (anchor m d))) (set views i (cond t (taken_all m v d) (record (lost v (anchor m d)) { seen_anchor = None }))))
+      (λ t. Good k (write m (place_of v (TakeAll d)) (cond t full_anchor (anchor m d)))
+      (set views i (cond t (taken_all m v d) (record (lost v (anchor m d)) { seen_anchor = None }))))
       (λ same. take_all.take_all k m views i v below at good may.ticket d may.ready same)
       (λ other. reads (place_of v (TakeAll d)) _ (quiet.lost_anchor k m views i v below at good may.ticket (anchor m d) may.ready.is_seen
-      (subst (λ x. times_raw x v ≡ 0) (sym may.ready.of) (not_raw_claimed d may.ready.claimed)) (λ same. other (ap (anchor m) (sym may.ready.of) ∙ same)))) where
+      (subst (λ x. times_raw x v ≡ 0) (sym may.ready.of) (not_raw_claimed d may.ready.claimed))
+      (λ same. other (ap (anchor m) (sym may.ready.of) ∙ same)))) where
         not_raw_claimed : (e : ℕ) → 0 < times_classed e v.classed → times_raw e v ≡ 0
-        not_raw_claimed e some = let r = total_at (times_raw e) views i v below at in let c = total_at (λ (u : View). times_classed e u.classed) views i v below at in
+        not_raw_claimed e some = let r = total_at (times_raw e) views i v below at in
+            let c = total_at (λ (u : View). times_classed e u.classed) views i v below at in
             let p = good.shaped.placed.one_place e in let most = one_at_most (nat_lt e (used m)) in omega arith
 
   pub kept_give : (d : ℕ) → MayStep m v (Give d) → Keeps k m views i v (Give d)
   kept_give d may = exchange (anchor m d) (seen_word v.seen_anchor)
-      (λ t. Good k (write m (place_of v (Give d)) (cond t (batch_anchor v d) (anchor m d))) (set views i (cond t (given v d) (record (lost v (anchor m d)) { seen_anchor = None }))))
+      (λ t. Good k (write m (place_of v (Give d)) (cond t (batch_anchor v d) (anchor m d)))
+      (set views i (cond t (given v d) (record (lost v (anchor m d)) { seen_anchor = None }))))
       (λ same. give.give k m views i v below at good may.ticket d may.ready same)
       (λ other. reads (place_of v (Give d)) _ (quiet.lost_anchor k m views i v below at good may.ticket (anchor m d) may.ready.is_seen
       (subst (λ x. times_raw x v ≡ 0) (sym may.ready.of) not_raw) (λ same. other (ap (anchor m) (sym may.ready.of) ∙ same)))) where
         not_raw : times_raw d v ≡ 0
-        not_raw = let b = first_of v.batch.blocks in let there = first_there v.batch.blocks may.ready.some in let t = total_at (times_block b) views i v below at in
+        not_raw = let b = first_of v.batch.blocks in let there = first_there v.batch.blocks may.ready.some in
+            let t = total_at (times_block b) views i v below at in
             let cut = (good.shaped.chained.inside b (omega arith)).0 in let s = good.set_up i v below at in
-            let here : superblock_at k.capacity b ≡ d = ap (λ (q : Setup). superblock_at q.capacity b) (sym s.setup) ∙ ((good.blocks i v below at).batched b there).0 ∙ may.ready.batch in
+            let here : superblock_at k.capacity b ≡ d = ap (λ (q : Setup). superblock_at q.capacity b) (sym s.setup)
+            ∙ ((good.blocks i v below at).batched b there).0 ∙ may.ready.batch in
             let c = ap (times_cut good.shape (tally_of views)) here in let r = total_at (times_raw d) views i v below at in
             let p = good.shaped.placed.one_place d in let most = one_at_most (nat_lt d (used m)) in omega arith
 
@@ -135,23 +148,45 @@ module _ (k : Setup) (m : Memory) (views : List View) (i : ℕ) (v : View) (belo
     shift_kept : (shift : Option Shift) → MayShift m v shift → Good k m1 (set views i (shifted m v1 shift))
     shift_kept None may = good1
     shift_kept (Some (Cut d)) may = twice (after_cut m v1 d) (cuts.cut k m1 views1 i v1 below1 at1 good1 d
-        (record { cutting = may.cutting; class = may.class; durable_class = may.durable_class; durable = may.durable; linked = may.linked; uncached = may.uncached })
+        (record {
+          cutting = may.cutting;
+          class = may.class;
+          durable_class = may.durable_class;
+          durable = may.durable;
+          linked = may.linked;
+          uncached = may.uncached;
+        })
         (let c = (good.tickets i v below at).cuts in omega arith))
-    shift_kept (Some (Alloc class)) may = twice (after_alloc v1 class) (shifts.alloc k m1 views1 i v1 below1 at1 good1 class (record { is_class = may.is_class; cached = may.cached }))
-    shift_kept (Some (Free block)) may = twice (after_free v1 (info m (superblock_at v.setup.capacity block)) block) (shifts.free k m1 views1 i v1 below1 at1 good1 block (record { is_class = may.is_class; held = may.held; linked = may.linked }))
+    shift_kept (Some (Alloc class)) may = twice (after_alloc v1 class)
+        (shifts.alloc k m1 views1 i v1 below1 at1 good1 class (record { is_class = may.is_class; cached = may.cached }))
+    shift_kept (Some (Free block)) may = twice (after_free v1 (info m (superblock_at v.setup.capacity block)) block)
+        (shifts.free k m1 views1 i v1 below1 at1 good1 block (record { is_class = may.is_class; held = may.held; linked = may.linked }))
     shift_kept (Some (Lift class)) may = twice (after_lift v1 class) (shifts.lift k m1 views1 i v1 below1 at1 good1 class (record {
       is_class = may.is_class;
       cached = may.cached;
       behind = λ some. let b = may.behind some in record { same = b.same; unchanged = b.unchanged; linked = b.linked };
     }))
     shift_kept (Some (Large d n)) may = twice (after_large v1 d n) (spans.hold_large k m1 views1 i v1 below1 at1 good1 d n
-        (record { some = may.some; claimed = may.claimed; empty = may.empty; durable = may.durable; first = may.first; others = may.others; durable_infos = may.durable_infos }))
-    shift_kept (Some (Split block)) may = twice (after_split v1 (superblock_at v.setup.capacity block)) (spans.split_large k m1 views1 i v1 below1 at1 good1 block (record { held = may.held; first = may.first }))
+        (record {
+          some = may.some;
+          claimed = may.claimed;
+          empty = may.empty;
+          durable = may.durable;
+          first = may.first;
+          others = may.others;
+          durable_infos = may.durable_infos;
+        }))
+    shift_kept (Some (Split block)) may = twice (after_split v1 (superblock_at v.setup.capacity block))
+        (spans.split_large k m1 views1 i v1 below1 at1 good1 block (record { held = may.held; first = may.first }))
 
   pub kept_tick : (shift : Option Shift) → MayStep m v (Tick shift) → Keeps k m views i v (Tick shift)
   kept_tick shift may = elim (cases_lt m.drawn v.setup.budget) [
-    | inl room ↦ subst (λ t. Good k (write m tickets (m.drawn + 1)) (set views i (cond t (shifted m (drew v m.drawn) shift) (stopped v m.drawn)))) (sym (lt-ltb m.drawn v.setup.budget room)) (shift_kept may.going room shift may.ready)
-    | inr spent ↦ subst (λ t. Good k (write m tickets (m.drawn + 1)) (set views i (cond t (shifted m (drew v m.drawn) shift) (stopped v m.drawn)))) (sym (not-lt m.drawn v.setup.budget spent)) (draws.stop k m views i v below at good may.going spent)
+    | inl room ↦ subst (λ t. Good k (write m tickets (m.drawn + 1))
+        (set views i (cond t (shifted m (drew v m.drawn) shift) (stopped v m.drawn)))) (sym (lt-ltb m.drawn v.setup.budget room))
+        (shift_kept may.going room shift may.ready)
+    | inr spent ↦ subst (λ t. Good k (write m tickets (m.drawn + 1))
+        (set views i (cond t (shifted m (drew v m.drawn) shift) (stopped v m.drawn)))) (sym (not-lt m.drawn v.setup.budget spent))
+        (draws.stop k m views i v below at good may.going spent)
   ]
 
   -- every kind of step

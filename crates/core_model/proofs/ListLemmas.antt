@@ -59,12 +59,14 @@ pub head_parts : (first pops : ℕ) → first < 16777216 → (head_first (head_o
 head_parts first pops small = (omega arith, omega arith)
 
 -- one list changes with its head
-pub lists_set : (capacity : ℕ) (heads links : ℕ → ℕ) (descriptors : ℕ → List ℕ) (list word : ℕ) (ds : List ℕ) → AreLists capacity heads links descriptors
+pub lists_set : (capacity : ℕ) (heads links : ℕ → ℕ) (descriptors : ℕ → List ℕ) (list word : ℕ) (ds : List ℕ)
+    → AreLists capacity heads links descriptors
     → Follows links capacity (head_first word) ds → AreLists capacity (λ n. cond (nat_eq n list) word (heads n)) links (relist descriptors list ds)
 lists_set capacity heads links descriptors list word ds old new = record {
   follows = λ n is. elim (cases_eq n list) [
     | inl same ↦ subst (λ t. Follows links capacity (head_first (cond t word (heads n))) (cond t ds (descriptors n))) (sym (eq-eqb n list same)) new
-    | inr other ↦ subst (λ t. Follows links capacity (head_first (cond t word (heads n))) (cond t ds (descriptors n))) (sym (ne_eqb n list other)) (old.follows n is)
+    | inr other ↦ subst (λ t. Follows links capacity (head_first (cond t word (heads n))) (cond t ds (descriptors n)))
+        (sym (ne_eqb n list other)) (old.follows n is)
   ];
 }
 
@@ -78,16 +80,19 @@ class_once class is some = let all = number_once class is in let none = ne-eqb-n
 
 -- the pops of all heads, where one head changes
 pub pops_set : (heads : ℕ → ℕ) (list word : ℕ) → list < lists
-    → total (λ n. head_pops (cond (nat_eq n list) word (heads n))) list_numbers + head_pops (heads list) ≡ total (λ n. head_pops (heads n)) list_numbers + head_pops word
+    → total (λ n. head_pops (cond (nat_eq n list) word (heads n))) list_numbers + head_pops (heads list) ≡ total
+    (λ n. head_pops (heads n)) list_numbers + head_pops word
 pops_set heads list word is =
     let step = total_change (λ n. head_pops (heads n)) (λ n. head_pops (cond (nat_eq n list) word (heads n))) list list_numbers
     (λ n other. ap (λ t. head_pops (cond t word (heads n))) (ne_eqb n list other)) (number_once list is) in
-    let here : head_pops (cond (nat_eq list list) word (heads list)) ≡ head_pops word = ap (λ t. head_pops (cond t word (heads list))) (eq-eqb list list refl) in
+    let here : head_pops (cond (nat_eq list list) word (heads list)) ≡ head_pops word =
+    ap (λ t. head_pops (cond t word (heads list))) (eq-eqb list list refl) in
     omega arith
 
 -- the class lists, where the list of a class changes
 pub in_lists_set : (d : ℕ) (descriptors : ℕ → List ℕ) (class : ℕ) (ds : List ℕ) → class < lists → class ≢ 0
-    → total (λ n. times d (relist descriptors class ds n)) class_numbers + times d (descriptors class) ≡ total (λ n. times d (descriptors n)) class_numbers + times d ds
+    → total (λ n. times d (relist descriptors class ds n)) class_numbers + times d (descriptors class) ≡ total
+    (λ n. times d (descriptors n)) class_numbers + times d ds
 in_lists_set d descriptors class ds is some =
     let step = total_change (λ n. times d (descriptors n)) (λ n. times d (relist descriptors class ds n)) class class_numbers
     (λ n other. ap (times d) (relist_other descriptors class ds n other)) (class_once class is some) in
@@ -95,16 +100,19 @@ in_lists_set d descriptors class ds is some =
     omega arith
 
 -- a descriptor of the list of a class
-pub in_lists_at : (d : ℕ) (descriptors : ℕ → List ℕ) (class : ℕ) → class < lists → class ≢ 0 → times d (descriptors class) ≤ total (λ n. times d (descriptors n)) class_numbers
+pub in_lists_at : (d : ℕ) (descriptors : ℕ → List ℕ) (class : ℕ) → class < lists → class ≢ 0
+    → times d (descriptors class) ≤ total (λ n. times d (descriptors n)) class_numbers
 in_lists_at d descriptors class is some = let step = in_lists_set d descriptors class [] is some in omega arith
 
 -- a pop makes what others saw of the list's head out of date, and leaves the rest
-pub knows_pop : (capacity : ℕ) (heads links : ℕ → ℕ) (descriptors : ℕ → List ℕ) (at word : ℕ) (ds : List ℕ) → head_pops (heads at) < head_pops word → (list seen_word : ℕ) (next : Option ℕ)
+pub knows_pop : (capacity : ℕ) (heads links : ℕ → ℕ) (descriptors : ℕ → List ℕ) (at word : ℕ) (ds : List ℕ)
+    → head_pops (heads at) < head_pops word → (list seen_word : ℕ) (next : Option ℕ)
     → KnowsHead capacity heads links descriptors list seen_word next
     → KnowsHead capacity (λ n. cond (nat_eq n at) word (heads n)) links (relist descriptors at ds) list seen_word next
 knows_pop capacity heads links descriptors at word ds more list seen_word next h = elim (cases_eq list at) [
   | inl same ↦
-      let now : head_pops (cond (nat_eq list at) word (heads list)) ≡ head_pops word = ap (λ t. head_pops (cond t word (heads list))) (eq-eqb list at same) in
+      let now : head_pops (cond (nat_eq list at) word (heads list)) ≡ head_pops word =
+      ap (λ t. head_pops (cond t word (heads list))) (eq-eqb list at same) in
       let before_it = h.pops in let was = ap (λ n. head_pops (heads n)) same in
       record {
         is_list = h.is_list;
@@ -120,9 +128,12 @@ knows_pop capacity heads links descriptors at word ds more list seen_word next h
         is_list = h.is_list;
         small = h.small;
         pops = subst (λ x. head_pops seen_word ≤ head_pops x) (sym now) h.pops;
-        listed = subst (λ x. head_pops seen_word ≡ head_pops x → head_first seen_word ≢ 0 → 0 < times (before (head_first seen_word)) (relist descriptors at ds list)) (sym now)
-            (subst (λ xs. head_pops seen_word ≡ head_pops (heads list) → head_first seen_word ≢ 0 → 0 < times (before (head_first seen_word)) xs) (sym same_list) h.listed);
-        linked = subst (λ x. IsThere next → (head_first seen_word ≢ 0) × (head_pops seen_word ≡ head_pops x → links (before (head_first seen_word)) ≡ seen next)) (sym now) h.linked;
+        listed = subst (λ x. head_pops seen_word ≡ head_pops x → head_first seen_word ≢ 0
+            → 0 < times (before (head_first seen_word)) (relist descriptors at ds list)) (sym now)
+            (subst (λ xs. head_pops seen_word ≡ head_pops (heads list) → head_first seen_word ≢ 0
+            → 0 < times (before (head_first seen_word)) xs) (sym same_list) h.listed);
+        linked = subst (λ x. IsThere next → (head_first seen_word ≢ 0)
+            × (head_pops seen_word ≡ head_pops x → links (before (head_first seen_word)) ≡ seen next)) (sym now) h.linked;
       }
 ]
 
@@ -143,13 +154,16 @@ others_at_head k m g at word ds knows x h = record {
     seen_empty = s.seen_empty;
     floor = s.floor;
   });
-  words = words_frame k.capacity m (write m (volatile_at (head_cell at)) word) x (λ cell own. untouched x m.volatile (head_cell at) word cell refl own) (λ cell own. refl) h.words;
+  words = words_frame k.capacity m (write m (volatile_at (head_cell at)) word) x
+      (λ cell own. untouched x m.volatile (head_cell at) word cell refl own) (λ cell own. refl) h.words;
   tickets = h.tickets;
 }
 
 -- a seat that wins an exchange on a head gives its ticket up
-pub adds_at_head : (k : Setup) (m : Memory) (views : List View) (i : ℕ) (v w : View) → i < length views → get_or views i v ≡ v → HasTotals k m views → (list word : ℕ) → list < lists
-    → head_pops word ≤ head_pops (head m list) + one_if_some v.ticket → w.ticket ≡ None → w.draws ≡ v.draws → w.stopped ≡ v.stopped → w.roots ≡ v.roots → w.taken ≡ v.taken
+pub adds_at_head : (k : Setup) (m : Memory) (views : List View) (i : ℕ) (v w : View) → i < length views → get_or views i v ≡ v
+    → HasTotals k m views → (list word : ℕ) → list < lists
+    → head_pops word ≤ head_pops (head m list) + one_if_some v.ticket → w.ticket ≡ None → w.draws ≡ v.draws → w.stopped ≡ v.stopped
+    → w.roots ≡ v.roots → w.taken ≡ v.taken
     → HasTotals k (write m (volatile_at (head_cell list)) word) (set views i w)
 adds_at_head k m views i v w below at adds list word is pops none draws stopped roots taken =
     adds_step k m (write m (volatile_at (head_cell list)) word) views i v w below at adds refl draws stopped roots
@@ -159,4 +173,5 @@ adds_at_head k m views i v w below at adds list word is pops none draws stopped 
 pub class_of : (i n : ℕ) → i < last_class → get_or class_numbers i n ≡ n → IsClass n
 class_of i n below at = subst IsClass (sym (at_index i below) ∙ at) (record { some = omega arith; last = omega arith }) where
   at_index : (j : ℕ) → j < last_class → get_or class_numbers j n ≡ j + 1
-  at_index j less = get_or_default class_numbers j n 0 less ∙ eqb-true (get_or class_numbers j 0) (j + 1) (agree_below_at (λ y. nat_eq (get_or class_numbers y 0) (y + 1)) (λ _. true) last_class j refl less)
+  at_index j less = get_or_default class_numbers j n 0 less ∙ eqb-true (get_or class_numbers j 0) (j + 1)
+      (agree_below_at (λ y. nat_eq (get_or class_numbers y 0) (y + 1)) (λ _. true) last_class j refl less)

@@ -24,8 +24,11 @@ follows_alike f g c from (d ∷ ds) same w = (w.0, w.1, subst (λ n. Follows g c
 
 pub walks_alike : (f g : ℕ → ℕ) (from : ℕ) (bs : List ℕ) → ((b : ℕ) → 0 < times b bs → g b ≡ f b) → Walks f from bs → Walks g from bs
 walks_alike f g from [] same w = tt
-walks_alike f g from (b ∷ bs) same w =
-    (w.0, subst (λ n. Walks g n bs) (sym (same b (let one = eq-eqb-one b b refl in omega arith))) (walks_alike f g (f b) bs (λ x some. same x (omega arith)) w.1))
+walks_alike f g from (b ∷ bs) same w = (
+  w.0,
+  subst (λ n. Walks g n bs) (sym (same b (let one = eq-eqb-one b b refl in omega arith)))
+      (walks_alike f g (f b) bs (λ x some. same x (omega arith)) w.1),
+)
 
 pub times_map : (b : ℕ) (ps : List Block) → times b (map (λ (p : Block). p.first_word) ps) ≡ total (λ (p : Block). one_if (nat_eq p.first_word b)) ps
 times_map b [] = refl
@@ -41,14 +44,19 @@ ones_most f (x ∷ xs) = let one = one_at_most (f x) in let rest = ones_most f x
 
 -- how a superblock is divided
 pub begins_cases : (l : Layout) (d w n : ℕ) → Begins l d w n
-    → ((class : ℕ) × (l.info d ≡ class) × IsClass class × (w ≡ words_of_class class) × (n ≡ blocks_of class)) ⊎ ((count : ℕ) × (1 ≤ count) × (l.info d ≡ large_info count) × (d + count ≤ l.used) × ((i : ℕ) → d < i → i < d + count → l.info i ≡ 0) × (w ≡ superblock_words * count) × (n ≡ 1))
+    → ((class : ℕ) × (l.info d ≡ class) × IsClass class × (w ≡ words_of_class class) × (n ≡ blocks_of class)) ⊎ ((count : ℕ) × (1 ≤ count)
+    × (l.info d ≡ large_info count) × (d + count ≤ l.used) × ((i : ℕ) → d < i → i < d + count → l.info i ≡ 0)
+    × (w ≡ superblock_words * count) × (n ≡ 1))
 begins_cases l d w n (of_class class is is_class) = inl (class, is, is_class, refl, refl)
 begins_cases l d w n (as_large count some is fits others) = inr (count, some, is, fits, others, refl, refl)
 
 -- numbers that are dealt out to seats belong to one each
-pub dealt_once : (n count : ℕ) (dealers : List ℕ) (seats : ℕ) → length dealers ≡ count → ((owner : ℕ) → Contains dealers owner → owner < seats) → total (λ j. times n (picked j (steps 0 1 count) dealers)) (steps 0 1 seats) ≤ 1
+pub dealt_once : (n count : ℕ) (dealers : List ℕ) (seats : ℕ) → length dealers ≡ count → ((owner : ℕ) → Contains dealers owner → owner < seats)
+    → total (λ j. times n (picked j (steps 0 1 count) dealers)) (steps 0 1 seats) ≤ 1
 dealt_once n count dealers seats long below =
-    let counted = total_in (λ j. times n (picked j (steps 0 1 count) dealers)) (λ j. total (λ x. one_if (nat_eq x n)) (picked j (steps 0 1 count) dealers)) (steps 0 1 seats) (λ j _. times_total n (picked j (steps 0 1 count) dealers)) in
+    let counted = total_in (λ j. times n (picked j (steps 0 1 count) dealers))
+    (λ j. total (λ x. one_if (nat_eq x n)) (picked j (steps 0 1 count) dealers)) (steps 0 1 seats)
+    (λ j _. times_total n (picked j (steps 0 1 count) dealers)) in
     let all = picked_sum (λ x. one_if (nat_eq x n)) (steps 0 1 count) dealers seats (long ∙ sym (length_steps 0 1 count)) below in
     let back = times_total n (steps 0 1 count) in let t = times_steps n 0 count in let most = one_at_most (nat_lt n (0 + count)) in omega arith
 
@@ -66,7 +74,11 @@ empty_at (suc n) (suc class) b = empty_at n class b
 -- one member's share of a sum
 pub member_at : (f : Block → ℕ) (ps : List Block) (p : Block) → Contains ps p → f p ≤ total f ps
 member_at f [] p there = absurd (in_none p there)
-member_at f (q ∷ ps) p there = elim (head_or_rest q p ps there) [ inl same ↦ let e = ap f same in omega arith | inr later ↦ let r = member_at f ps p later in omega arith ]
+member_at f (q ∷ ps) p there = elim (head_or_rest q p ps there) [
+  | inl same ↦ let e = ap f same in
+      omega arith
+  | inr later ↦ let r = member_at f ps p later in omega arith
+]
 
 -- a list without members is walked
 pub no_walk : (next : ℕ → ℕ) (bs : List ℕ) → ((b : ℕ) → times b bs ≡ 0) → Walks next (first_of bs) bs

@@ -47,4 +47,11 @@ module _ (k : Setup) (m : Memory) (old new : List View) (same : AreReordered old
 
 -- the words of the table and the same seats in another order are sound
 pub reordered : (k : Setup) (words : List ℕ) (old new : List View) → AreReordered old new → Sound k words old → Sound k words new
-reordered k words old new same sound = record { some = sound.some; long = sound.long; fixed = sound.fixed; capacity = sound.capacity; used = sound.used; good = good_of k (memory_of k.capacity words) old new same sound.good }
+reordered k words old new same sound = record {
+  some = sound.some;
+  long = sound.long;
+  fixed = sound.fixed;
+  capacity = sound.capacity;
+  used = sound.used;
+  good = good_of k (memory_of k.capacity words) old new same sound.good;
+}

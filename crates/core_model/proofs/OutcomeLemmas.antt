@@ -73,7 +73,8 @@ module _ (k : Setup) (s : TableState) (i : ℕ) (event : Event) (below : i < len
       (one_step_number v w step step' (λ x. x.stopped) (one_view v w at at') stop stop', refl)
 
 -- and so has a list of them
-pub one_run : (k : Setup) (s t u : TableState) (events : List (ℕ × Event)) (answers answers' : List StepAnswer) → Runs k s events answers t → Runs k s events answers' u
+pub one_run : (k : Setup) (s t u : TableState) (events : List (ℕ × Event)) (answers answers' : List StepAnswer) → Runs k s events answers t
+    → Runs k s events answers' u
     → (answers ≡ answers') × (t ≡ u)
 one_run k s t u [] [] [] runs runs' = (refl, sym runs ∙ runs')
 one_run k s t u [] [] (b ∷ answers') runs runs' = absurd runs'

@@ -35,20 +35,25 @@ own_grows v w same raw claimed large (link_cell d) = claimed d
 own_grows v w same raw claimed large (root_cell n) = let e = ap (λ (h : Holdings). times n h.roots) same in omega arith
 own_grows v w same raw claimed large (data_cell word) =
     let more = large (superblock_at v.setup.capacity word) in
-    let blocks = ap (λ (h : Holdings). times_in_classes word 0 h.small + times_in_classes word 0 h.caches + times_within (words_of_class h.batch_class) word h.batch_blocks) same in
-    let parts_w = ap (λ (h : Holdings). times_large (superblock_at h.setup.capacity word) w.large + times_raw (superblock_at h.setup.capacity word) w) same in
+    let blocks = ap (λ (h : Holdings). times_in_classes word 0 h.small + times_in_classes word 0 h.caches + times_within
+    (words_of_class h.batch_class) word h.batch_blocks) same in
+    let parts_w = ap (λ (h : Holdings). times_large (superblock_at h.setup.capacity word) w.large + times_raw
+    (superblock_at h.setup.capacity word) w) same in
     omega arith
 own_grows v w same raw claimed large no_cell = omega arith
 
 -- the values of own words alone
-pub only_at : (v : View) (index n : ℕ) (values : List (Option ℕ)) → get_or (only_own v index values) n None ≡ cond (nat_lt 0 (times_own v (cell_at v.setup.capacity (index + n)))) (get_or values n None) None
+pub only_at : (v : View) (index n : ℕ) (values : List (Option ℕ))
+    → get_or (only_own v index values) n None ≡ cond (nat_lt 0 (times_own v (cell_at v.setup.capacity (index + n)))) (get_or values n None) None
 only_at v index n [] = none (nat_lt 0 (times_own v (cell_at v.setup.capacity (index + n)))) None where
   none : (test : Bool) (x : Option ℕ) → x ≡ cond test x x
   none true x = refl
   none false x = refl
-only_at v index zero (value ∷ values) = ap (λ j. cond (nat_lt 0 (times_own v (cell_at v.setup.capacity j))) value None) (let e : index ≡ index + 0 = omega arith in e)
+only_at v index zero (value ∷ values) = ap (λ j. cond (nat_lt 0 (times_own v (cell_at v.setup.capacity j))) value None)
+    (let e : index ≡ index + 0 = omega arith in e)
 only_at v index (suc n) (value ∷ values) =
-    only_at v (index + 1) n values ∙ ap (λ j. cond (nat_lt 0 (times_own v (cell_at v.setup.capacity j))) (get_or values n None) None) (let e : index + 1 + n ≡ index + suc n = omega arith in e)
+    only_at v (index + 1) n values ∙ ap (λ j. cond (nat_lt 0 (times_own v (cell_at v.setup.capacity j))) (get_or values n None) None)
+    (let e : index + 1 + n ≡ index + suc n = omega arith in e)
 
 pub length_only : (v : View) (index : ℕ) (values : List (Option ℕ)) → length (only_own v index values) ≡ length values
 length_only v index [] = refl
@@ -59,17 +64,20 @@ pub known_only : (c : ℕ) (v : View) (values : List (Option ℕ)) (cell : Cell)
     → known (only_own v 0 values) cell ≡ Some value → IsOwn v cell × (known values cell ≡ Some value)
 known_only c v values cell value setup is knows = by_test (nat_lt 0 (times_own v cell)) refl found where
   here : cell_at v.setup.capacity (0 + index_of cell) ≡ cell
-  here = ap (λ n. cell_at n (0 + index_of cell)) setup ∙ ap (cell_at c) (let e : 0 + index_of cell ≡ index_of cell = omega arith in e) ∙ cell_at_index c cell is
+  here = ap (λ n. cell_at n (0 + index_of cell)) setup ∙ ap (cell_at c) (let e : 0 + index_of cell ≡ index_of cell = omega arith in e)
+      ∙ cell_at_index c cell is
 
   found : cond (nat_lt 0 (times_own v cell)) (known values cell) None ≡ Some value
   found = ap (λ x. cond (nat_lt 0 (times_own v x)) (known values cell) None) (sym here) ∙ sym (only_at v 0 (index_of cell) values) ∙ knows
 
-  by_test : (test : Bool) → nat_lt 0 (times_own v cell) ≡ test → cond test (known values cell) None ≡ Some value → IsOwn v cell × (known values cell ≡ Some value)
+  by_test : (test : Bool) → nat_lt 0 (times_own v cell) ≡ test → cond test (known values cell) None ≡ Some value → IsOwn v cell
+      × (known values cell ≡ Some value)
   by_test true own e = (ltb-true 0 (times_own v cell) own, e)
   by_test false own e = absurd (not_there (ap one_if_some e))
 
 -- a snapshot that was cleared, or is of a superblock that is the seat's own as before, is no more stale
-pub stale_cleared : (m : Memory) (v w : View) (from n : ℕ) (s : Option Snapshot) → ((d : ℕ) → (from ≤ d → d < from + n → ⊥) → times_raw d v ≤ times_raw d w) → stale_anchor m w (cleared from n s) ≤ stale_anchor m v s
+pub stale_cleared : (m : Memory) (v w : View) (from n : ℕ) (s : Option Snapshot)
+    → ((d : ℕ) → (from ≤ d → d < from + n → ⊥) → times_raw d v ≤ times_raw d w) → stale_anchor m w (cleared from n s) ≤ stale_anchor m v s
 stale_cleared m v w from n None more = omega arith
 stale_cleared m v w from n (Some s) more = by_test (nat_le from s.of && nat_lt s.of (from + n)) refl where
   less : (a b : ℕ) (test : Bool) → a ≤ b → one_if (nat_eq b 0 && test) ≤ one_if (nat_eq a 0 && test)
@@ -81,7 +89,8 @@ stale_cleared m v w from n (Some s) more = by_test (nat_le from s.of && nat_lt s
   by_test : (test : Bool) → nat_le from s.of && nat_lt s.of (from + n) ≡ test → stale_anchor m w (cond test None (Some s)) ≤ stale_anchor m v (Some s)
   by_test true e = omega arith
   by_test false e = less (times_raw s.of v) (times_raw s.of w) (not (nat_eq s.word (anchor m s.of)))
-      (more s.of (λ low high. true≢false (sym (and_is (nat_le from s.of) (nat_lt s.of (from + n)) (le-leb from s.of low) (lt-ltb s.of (from + n) high)) ∙ e)))
+      (more s.of (λ low high. true≢false (sym (and_is (nat_le from s.of) (nat_lt s.of (from + n)) (le-leb from s.of low)
+      (lt-ltb s.of (from + n) high)) ∙ e)))
 
 -- a snapshot is out of date once at most
 pub differs_most : (s : Option ℕ) (word : ℕ) → differs s word ≤ 1
@@ -101,32 +110,40 @@ stale_anchor_most m v None = omega arith
 stale_anchor_most m v (Some s) = one_at_most (nat_eq (times_raw s.of v) 0 && not (nat_eq s.word (anchor m s.of)))
 
 -- the tickets of a seat that won an exchange
-pub won_tickets : (budget drawn : ℕ) (v w : View) → HasTickets budget drawn v → IsThere v.ticket → w.ticket ≡ None → w.stopped ≡ v.stopped → v.taken ≤ w.taken → w.last_ticket ≡ v.last_ticket → w.used_look ≡ v.used_look → w.head_looks ≡ v.head_looks
-    → w.wins ≡ v.wins + 1 → w.losses ≡ v.losses → w.draws ≡ v.draws → w.cuts ≡ v.cuts → w.gives + w.moves ≤ v.gives + v.moves + 1 → HasTickets budget drawn w
+pub won_tickets : (budget drawn : ℕ) (v w : View) → HasTickets budget drawn v → IsThere v.ticket → w.ticket ≡ None → w.stopped ≡ v.stopped
+    → v.taken ≤ w.taken → w.last_ticket ≡ v.last_ticket → w.used_look ≡ v.used_look → w.head_looks ≡ v.head_looks
+    → w.wins ≡ v.wins + 1 → w.losses ≡ v.losses → w.draws ≡ v.draws → w.cuts ≡ v.cuts → w.gives + w.moves ≤ v.gives + v.moves + 1
+    → HasTickets budget drawn w
 won_tickets budget drawn v w s there none stop more last used_look head_looks wins losses draws cuts gives = record {
   ticket = subst (IsTicketDrawn drawn) (sym none) (none_drawn drawn);
   last = subst (IsTicketDrawn drawn) (sym last) s.last;
   used_look = subst (λ (l : LastLook). IsTicketDrawn drawn l.ticket) (sym used_look) s.used_look;
-  head_looks = λ list is. subst (λ (l : LastLook). IsTicketDrawn drawn l.ticket) (sym (ap₂ (λ looks (l : LastLook). get_or looks list l) head_looks used_look)) (s.head_looks list is);
+  head_looks = λ list is. subst (λ (l : LastLook). IsTicketDrawn drawn l.ticket)
+      (sym (ap₂ (λ looks (l : LastLook). get_or looks list l) head_looks used_look)) (s.head_looks list is);
   counts = let c = s.counts in let n = ap one_if_some none in omega arith;
   state = ticket_given_up budget v w s.state none last stop;
-  looked_then = (let l = s.looked_then in let a = ap (λ (x : LastLook). x.taken) used_look in let b = ap (λ (x : LastLook). x.wins) used_look in let p = l.0 in let q = l.1 in (omega arith, omega arith));
+  looked_then = (let l = s.looked_then in let a = ap (λ (x : LastLook). x.taken) used_look in let b = ap (λ (x : LastLook). x.wins) used_look in
+      let p = l.0 in let q = l.1 in (omega arith, omega arith));
   gives = let c = s.gives in omega arith;
   cuts = let c = s.cuts in omega arith;
 }
 
 -- where a seat has more, what it knows is still right
-pub words_grow : (c : ℕ) (m : Memory) (v w : View) → w.volatile ≡ v.volatile → w.durable ≡ v.durable → ((cell : Cell) → times_own v cell ≤ times_own w cell) → KnowsWords c m v → KnowsWords c m w
+pub words_grow : (c : ℕ) (m : Memory) (v w : View) → w.volatile ≡ v.volatile → w.durable ≡ v.durable
+    → ((cell : Cell) → times_own v cell ≤ times_own w cell) → KnowsWords c m v → KnowsWords c m w
 words_grow c m v w volatile durable more words = record {
-  volatile = λ cell value is knows. let old = words.volatile cell value is (ap (λ values. known values cell) (sym volatile) ∙ knows) in (let e = more cell in let o = old.0 in omega arith, old.1);
-  durable = λ cell value is knows. let old = words.durable cell value is (ap (λ values. known values cell) (sym durable) ∙ knows) in (let e = more cell in let o = old.0 in omega arith, old.1);
+  volatile = λ cell value is knows. let old = words.volatile cell value is (ap (λ values. known values cell) (sym volatile) ∙ knows) in
+      (let e = more cell in let o = old.0 in omega arith, old.1);
+  durable = λ cell value is knows. let old = words.durable cell value is (ap (λ values. known values cell) (sym durable) ∙ knows) in
+      (let e = more cell in let o = old.0 in omega arith, old.1);
 }
 
 -- a snapshot that is still there is of no descriptor of the range
 pub cleared_other : (from n : ℕ) (s : Option Snapshot) → IsThere (cleared from n s) → from ≤ seen_of s → seen_of s < from + n → ⊥
 cleared_other from n None there low high = not_there there
 cleared_other from n (Some s) there low high =
-    not_there (subst IsThere (ap (λ t. cond t None (Some s)) (and_is (nat_le from s.of) (nat_lt s.of (from + n)) (le-leb from s.of low) (lt-ltb s.of (from + n) high))) there)
+    not_there (subst IsThere (ap (λ t. cond t None (Some s)) (and_is (nat_le from s.of) (nat_lt s.of (from + n)) (le-leb from s.of low)
+    (lt-ltb s.of (from + n) high))) there)
 
 -- a view that keeps what it knows of own words alone
 pub words_trimmed : (c : ℕ) (m : Memory) (x : View) → x.setup.capacity ≡ c
@@ -134,21 +151,29 @@ pub words_trimmed : (c : ℕ) (m : Memory) (x : View) → x.setup.capacity ≡ c
     → ((cell : Cell) (value : ℕ) → is_cell c cell ≡ true → IsOwn x cell → known x.durable cell ≡ Some value → m.durable cell ≡ value)
     → KnowsWords c m (trimmed x)
 words_trimmed c m x setup volatile durable = record {
-  volatile = λ cell value is knows. let own = known_only c x x.volatile cell value setup is knows in (subst (λ n. 0 < n) (sym (own_same x (trimmed x) refl cell)) own.0, volatile cell value is own.0 own.1);
-  durable = λ cell value is knows. let own = known_only c x x.durable cell value setup is knows in (subst (λ n. 0 < n) (sym (own_same x (trimmed x) refl cell)) own.0, durable cell value is own.0 own.1);
+  volatile = λ cell value is knows. let own = known_only c x x.volatile cell value setup is knows in
+      (subst (λ n. 0 < n) (sym (own_same x (trimmed x) refl cell)) own.0, volatile cell value is own.0 own.1);
+  durable = λ cell value is knows. let own = known_only c x x.durable cell value setup is knows in
+      (subst (λ n. 0 < n) (sym (own_same x (trimmed x) refl cell)) own.0, durable cell value is own.0 own.1);
 }
 
 -- the same of a seat's view that keeps what was known, in a memory that keeps the seat's own words
 pub words_left : (k : Setup) (m m' : Memory) (v x : View) → v.setup ≡ k → KnowsWords k.capacity m v
     → ((cell : Cell) → IsOwn v cell → m'.volatile cell ≡ m.volatile cell) → ((cell : Cell) → IsOwn v cell → m'.durable cell ≡ m.durable cell)
     → x.setup ≡ v.setup → x.volatile ≡ v.volatile → x.durable ≡ v.durable → KnowsWords k.capacity m' (trimmed x)
-words_left k m m' v x set_up words same_volatile same_durable setup volatile durable = words_trimmed k.capacity m' x (ap (λ (s : Setup). s.capacity) (setup ∙ set_up))
-    (λ cell value is own knows. let old = words.volatile cell value is (ap (λ values. known values cell) (sym volatile) ∙ knows) in same_volatile cell old.0 ∙ old.1)
-    (λ cell value is own knows. let old = words.durable cell value is (ap (λ values. known values cell) (sym durable) ∙ knows) in same_durable cell old.0 ∙ old.1)
+words_left k m m' v x set_up words same_volatile same_durable setup volatile durable =
+    words_trimmed k.capacity m' x (ap (λ (s : Setup). s.capacity) (setup ∙ set_up))
+    (λ cell value is own knows. let old = words.volatile cell value is (ap (λ values. known values cell) (sym volatile) ∙ knows) in
+    same_volatile cell old.0 ∙ old.1)
+    (λ cell value is own knows. let old = words.durable cell value is (ap (λ values. known values cell) (sym durable) ∙ knows) in
+    same_durable cell old.0 ∙ old.1)
 
 -- own words depend on these alone
-pub own_equal : (v w : View) → holdings w ≡ holdings v → ((d : ℕ) → times_raw d w ≡ times_raw d v) → ((d : ℕ) → times_classed d w.classed ≡ times_classed d v.classed) → ((d : ℕ) → times_large d w.large ≡ times_large d v.large)
+pub own_equal : (v w : View) → holdings w ≡ holdings v → ((d : ℕ) → times_raw d w ≡ times_raw d v)
+    → ((d : ℕ) → times_classed d w.classed ≡ times_classed d v.classed) → ((d : ℕ) → times_large d w.large ≡ times_large d v.large)
     → (cell : Cell) → times_own w cell ≡ times_own v cell
 own_equal v w same raw classed large cell =
-    let up = own_grows v w same (λ d. let r = raw d in omega arith) (λ d. let r = raw d in let c = classed d in omega arith) (λ d. let r = raw d in let l = large d in omega arith) cell in
-    let down = own_grows w v (sym same) (λ d. let r = raw d in omega arith) (λ d. let r = raw d in let c = classed d in omega arith) (λ d. let r = raw d in let l = large d in omega arith) cell in omega arith
+    let up = own_grows v w same (λ d. let r = raw d in omega arith) (λ d. let r = raw d in let c = classed d in
+    omega arith) (λ d. let r = raw d in let l = large d in omega arith) cell in
+    let down = own_grows w v (sym same) (λ d. let r = raw d in omega arith) (λ d. let r = raw d in let c = classed d in
+    omega arith) (λ d. let r = raw d in let l = large d in omega arith) cell in omega arith

@@ -21,7 +21,8 @@ pub with_same : (f : Cell → ℕ) (at : Cell) (x : ℕ) (cell : Cell) → cell 
 with_same f at x cell same = ap (with_cell f at x) same ∙ ap (λ t. cond t x (f at)) (same-refl at)
 
 -- what is learned of a word that is the seat's own, where the value is right
-pub learned : (c word x : ℕ) (values : List (Option ℕ)) (f g : Cell → ℕ) (v : View) → length values ≡ image_words c → IsOwn v (cell_at c word) → g (cell_at c word) ≡ x
+pub learned : (c word x : ℕ) (values : List (Option ℕ)) (f g : Cell → ℕ) (v : View) → length values ≡ image_words c → IsOwn v (cell_at c word)
+    → g (cell_at c word) ≡ x
     → ((cell : Cell) → IsOwn v cell → (cell ≡ cell_at c word → ⊥) → g cell ≡ f cell)
     → ((cell : Cell) (value : ℕ) → is_cell c cell ≡ true → known values cell ≡ Some value → IsOwn v cell × (f cell ≡ value))
     → (cell : Cell) (value : ℕ) → is_cell c cell ≡ true → known (learn values word x) cell ≡ Some value → IsOwn v cell × (g cell ≡ value)
@@ -30,7 +31,8 @@ learned c word x values f g v long own here others old cell value is knows = eli
   | inr was ↦ let o = old cell value is was.1 in (o.0, others cell o.0 was.0 ∙ o.1)
 ]
 
-module _ (k : Setup) (m : Memory) (views : List View) (i : ℕ) (v : View) (below_i : i < length views) (at : get_or views i v ≡ v) (good : Good k m views) (word : ℕ) (own : IsOwn v (cell_at v.setup.capacity word)) where
+module _ (k : Setup) (m : Memory) (views : List View) (i : ℕ) (v : View) (below_i : i < length views) (at : get_or views i v ≡ v)
+    (good : Good k m views) (word : ℕ) (own : IsOwn v (cell_at v.setup.capacity word)) where
   seat : IsSeat k m good.shape v
   seat = seat_at k m views good i v below_i at
 
@@ -49,10 +51,27 @@ module _ (k : Setup) (m : Memory) (views : List View) (i : ℕ) (v : View) (belo
   -- a load
   pub load : IsThere v.ticket → Good k m (set views i (record (used_up v) { volatile = learn v.volatile word (m.volatile cell) }))
   load ticket = quiet k m views i v w below_i at good refl refl
-      (let s = seat.set_up in record { setup = s.setup; roots = s.roots; small = s.small; caches = s.caches; looks = s.looks; volatile = length-set v.volatile word (Some (m.volatile cell)) ∙ s.volatile; durable = s.durable })
-      (let s = seat.knows in record { seen_head = s.seen_head; seen_used = s.seen_used; looked = s.looked; seen_anchor = s.seen_anchor; seen_empty = s.seen_empty; floor = s.floor })
+      (let s = seat.set_up in record {
+        setup = s.setup;
+        roots = s.roots;
+        small = s.small;
+        caches = s.caches;
+        looks = s.looks;
+        volatile = length-set v.volatile word (Some (m.volatile cell)) ∙ s.volatile;
+        durable = s.durable;
+      })
+      (let s = seat.knows in record {
+        seen_head = s.seen_head;
+        seen_used = s.seen_used;
+        looked = s.looked;
+        seen_anchor = s.seen_anchor;
+        seen_empty = s.seen_empty;
+        floor = s.floor;
+      })
       (record {
-        volatile = λ x value is knows. let r = learned k.capacity word (m.volatile cell) v.volatile m.volatile m.volatile v seat.set_up.volatile own_k (ap m.volatile same_cells) (λ _ _ _. refl) seat.words.volatile x value is knows in
+        volatile = λ x value is knows. let r = learned k.capacity word
+            (m.volatile cell) v.volatile m.volatile m.volatile v seat.set_up.volatile own_k (ap m.volatile same_cells)
+            (λ _ _ _. refl) seat.words.volatile x value is knows in
             (subst (λ n. 0 < n) (sym (own_same v w refl x)) r.0, r.1);
         durable = λ x value is knows. let r = seat.words.durable x value is knows in (subst (λ n. 0 < n) (sym (own_same v w refl x)) r.0, r.1);
       })
@@ -64,14 +83,41 @@ module _ (k : Setup) (m : Memory) (views : List View) (i : ℕ) (v : View) (belo
   -- what a seat may record of an own word at any time
   pub learns : Good k m (set views i (record v { volatile = learn v.volatile word (m.volatile cell) }))
   learns = quiet k m views i v w below_i at good refl refl
-      (let s = seat.set_up in record { setup = s.setup; roots = s.roots; small = s.small; caches = s.caches; looks = s.looks; volatile = length-set v.volatile word (Some (m.volatile cell)) ∙ s.volatile; durable = s.durable })
-      (let s = seat.knows in record { seen_head = s.seen_head; seen_used = s.seen_used; looked = s.looked; seen_anchor = s.seen_anchor; seen_empty = s.seen_empty; floor = s.floor })
+      (let s = seat.set_up in record {
+        setup = s.setup;
+        roots = s.roots;
+        small = s.small;
+        caches = s.caches;
+        looks = s.looks;
+        volatile = length-set v.volatile word (Some (m.volatile cell)) ∙ s.volatile;
+        durable = s.durable;
+      })
+      (let s = seat.knows in record {
+        seen_head = s.seen_head;
+        seen_used = s.seen_used;
+        looked = s.looked;
+        seen_anchor = s.seen_anchor;
+        seen_empty = s.seen_empty;
+        floor = s.floor;
+      })
       (record {
-        volatile = λ x value is knows. let r = learned k.capacity word (m.volatile cell) v.volatile m.volatile m.volatile v seat.set_up.volatile own_k (ap m.volatile same_cells) (λ _ _ _. refl) seat.words.volatile x value is knows in
+        volatile = λ x value is knows. let r = learned k.capacity word
+            (m.volatile cell) v.volatile m.volatile m.volatile v seat.set_up.volatile own_k (ap m.volatile same_cells)
+            (λ _ _ _. refl) seat.words.volatile x value is knows in
             (subst (λ n. 0 < n) (sym (own_same v w refl x)) r.0, r.1);
         durable = λ x value is knows. let r = seat.words.durable x value is knows in (subst (λ n. 0 < n) (sym (own_same v w refl x)) r.0, r.1);
       })
-      (let t = seat.tickets in record { ticket = t.ticket; last = t.last; used_look = t.used_look; head_looks = t.head_looks; counts = t.counts; state = t.state; looked_then = t.looked_then; gives = t.gives; cuts = t.cuts })
+      (let t = seat.tickets in record {
+        ticket = t.ticket;
+        last = t.last;
+        used_look = t.used_look;
+        head_looks = t.head_looks;
+        counts = t.counts;
+        state = t.state;
+        looked_then = t.looked_then;
+        gives = t.gives;
+        cuts = t.cuts;
+      })
       (omega arith) (omega arith) where
         w : View
         w = record v { volatile = learn v.volatile word (m.volatile cell) }
@@ -89,7 +135,8 @@ module _ (k : Setup) (m : Memory) (views : List View) (i : ℕ) (v : View) (belo
   not_info d none same = let e = ap (times_own v) same in omega (arith, own, e)
 
   raw_alone : (d : ℕ) → 0 < times_cut good.shape (tally_of views) d + (tally_of views).large d → times_raw d v ≡ 0
-  raw_alone d some = let raw = total_at (times_raw d) views i v below_i at in let p = good.shaped.placed.one_place d in let most = one_at_most (nat_lt d (used m)) in omega arith
+  raw_alone d some = let raw = total_at (times_raw d) views i v below_i at in let p = good.shaped.placed.one_place d in
+      let most = one_at_most (nat_lt d (used m)) in omega arith
 
   -- a settling
   abbrev x : ℕ
@@ -129,31 +176,67 @@ module _ (k : Setup) (m : Memory) (views : List View) (i : ℕ) (v : View) (belo
         });
       }))
       (let s = seat.set_up in record {
-        set_up = record { setup = s.setup; roots = s.roots; small = s.small; caches = s.caches; looks = s.looks; volatile = length-set v.volatile word (Some x) ∙ s.volatile; durable = length-set v.durable word (Some x) ∙ s.durable };
+        set_up = record {
+          setup = s.setup;
+          roots = s.roots;
+          small = s.small;
+          caches = s.caches;
+          looks = s.looks;
+          volatile = length-set v.volatile word (Some x) ∙ s.volatile;
+          durable = length-set v.durable word (Some x) ∙ s.durable;
+        };
         claims = seat.claims;
         blocks = seat.blocks;
-        knows = (let n = seat.knows in record { seen_head = n.seen_head; seen_used = n.seen_used; looked = n.looked; seen_anchor = n.seen_anchor; seen_empty = n.seen_empty; floor = (let f = n.floor in let mark = mark_same in omega arith) });
+        knows = (let n = seat.knows in record {
+          seen_head = n.seen_head;
+          seen_used = n.seen_used;
+          looked = n.looked;
+          seen_anchor = n.seen_anchor;
+          seen_empty = n.seen_empty;
+          floor = (let f = n.floor in let mark = mark_same in omega arith);
+        });
         words = record {
-          volatile = λ y value is knows. let r = learned k.capacity word x v.volatile m.volatile m.volatile v seat.set_up.volatile own_k (ap m.volatile same_cells) (λ _ _ _. refl) seat.words.volatile y value is knows in
+          volatile = λ y value is knows. let r = learned k.capacity word x v.volatile m.volatile m.volatile v seat.set_up.volatile own_k
+              (ap m.volatile same_cells) (λ _ _ _. refl) seat.words.volatile y value is knows in
               (subst (λ n. 0 < n) (sym (own_same v settled refl y)) r.0, r.1);
-          durable = λ y value is knows. let r = learned k.capacity word x v.durable m.durable m'.durable v seat.set_up.durable own_k (with_same m.durable cell x (cell_at k.capacity word) same_cells)
+          durable = λ y value is knows. let r = learned k.capacity word x v.durable m.durable m'.durable v seat.set_up.durable own_k
+              (with_same m.durable cell x (cell_at k.capacity word) same_cells)
               (λ z own_z other. with_other m.durable cell x z (λ same. other (same ∙ sym same_cells))) seat.words.durable y value is knows in
               (subst (λ n. 0 < n) (sym (own_same v settled refl y)) r.0, r.1);
         };
-        tickets = (let t = seat.tickets in record { ticket = t.ticket; last = t.last; used_look = t.used_look; head_looks = t.head_looks; counts = t.counts; state = t.state; looked_then = t.looked_then; gives = t.gives; cuts = t.cuts });
+        tickets = (let t = seat.tickets in record {
+          ticket = t.ticket;
+          last = t.last;
+          used_look = t.used_look;
+          head_looks = t.head_looks;
+          counts = t.counts;
+          state = t.state;
+          looked_then = t.looked_then;
+          gives = t.gives;
+          cuts = t.cuts;
+        });
       })
       (λ j u other b a h. record {
         set_up = h.set_up;
         claims = h.claims;
         blocks = h.blocks;
-        knows = (let n = h.knows in record { seen_head = n.seen_head; seen_used = n.seen_used; looked = n.looked; seen_anchor = n.seen_anchor; seen_empty = n.seen_empty; floor = (let f = n.floor in let mark = mark_same in omega arith) });
-        words = words_frame k.capacity m m' u (λ y own_y. refl) (λ y own_y. untouched u m.durable cell x y (one_owner k m views good i j v u other below_i at b a cell own) own_y) h.words;
+        knows = (let n = h.knows in record {
+          seen_head = n.seen_head;
+          seen_used = n.seen_used;
+          looked = n.looked;
+          seen_anchor = n.seen_anchor;
+          seen_empty = n.seen_empty;
+          floor = (let f = n.floor in let mark = mark_same in omega arith);
+        });
+        words = words_frame k.capacity m m' u (λ y own_y. refl) (λ y own_y. untouched u m.durable cell x y
+            (one_owner k m views good i j v u other below_i at b a cell own) own_y) h.words;
         tickets = h.tickets;
       })
       (adds_step k m m' views i v settled below_i at good.adds refl refl refl refl (omega arith) (omega arith))
       (record { mine = omega arith; more = omega arith })
       (λ j u other b a. omega arith)
-      (let old = good.moves in let gives = total_same (λ (u : View). u.gives) views i v settled below_i at refl in let moves = total_same (λ (u : View). u.moves) views i v settled below_i at refl in
+      (let old = good.moves in let gives = total_same (λ (u : View). u.gives) views i v settled below_i at refl in
+      let moves = total_same (λ (u : View). u.moves) views i v settled below_i at refl in
       let empty = ap (λ t. empties k.capacity (anchor m) (times_parked good.shape t)) tally in omega arith) where
         tally : tally_of (set views i settled) ≡ tally_of views
         tally = tally_same views i v settled below_i at refl

@@ -28,18 +28,23 @@ within_most words word b0 [] same = omega arith
 within_most words word b0 (b ∷ bs) same =
     let rest = within_most words word b0 bs (λ c some. same c (omega arith)) in
     let here = by_test (nat_le b word && nat_lt word (b + words)) refl in omega arith where
-      by_test : (test : Bool) → (nat_le b word && nat_lt word (b + words)) ≡ test → one_if (nat_le b word && nat_lt word (b + words)) ≤ one_if (nat_eq b b0)
+      by_test : (test : Bool) → (nat_le b word && nat_lt word (b + words)) ≡ test
+          → one_if (nat_le b word && nat_lt word (b + words)) ≤ one_if (nat_eq b b0)
       by_test true e =
           let both = and_both (nat_le b word) (nat_lt word (b + words)) e in
-          let is = same b (let one = eq-eqb-one b b refl in omega arith) (record { from = leb-true b word both.0; until = ltb-true word (b + words) both.1 }) in
+          let is = same b (let one = eq-eqb-one b b refl in omega arith)
+          (record { from = leb-true b word both.0; until = ltb-true word (b + words) both.1 }) in
           let one = eq-eqb-one b b0 is in let most = one_at_most (nat_le b word && nat_lt word (b + words)) in omega arith
       by_test false e = let none = ap one_if e in omega arith
 
-in_classes_most : (word b0 class : ℕ) (lists : List (List ℕ)) → ((n b : ℕ) → 0 < times b (get_or lists n []) → IsWithin (words_of_class (class + n)) word b → b ≡ b0) → times_in_classes word class lists ≤ total (times b0) lists
+in_classes_most : (word b0 class : ℕ) (lists : List (List ℕ)) → ((n b : ℕ) → 0 < times b (get_or lists n [])
+    → IsWithin (words_of_class (class + n)) word b → b ≡ b0) → times_in_classes word class lists ≤ total (times b0) lists
 in_classes_most word b0 class [] same = omega arith
 in_classes_most word b0 class (bs ∷ lists) same =
-    let here = within_most (words_of_class class) word b0 bs (λ b some within. same 0 b some (subst (λ c. IsWithin (words_of_class c) word b) (let e : class ≡ class + 0 = omega arith in e) within)) in
-    let rest = in_classes_most word b0 (class + 1) lists (λ n b some within. same (suc n) b some (subst (λ c. IsWithin (words_of_class c) word b) (let e : class + 1 + n ≡ class + suc n = omega arith in e) within)) in omega arith
+    let here = within_most (words_of_class class) word b0 bs (λ b some within. same 0 b some
+    (subst (λ c. IsWithin (words_of_class c) word b) (let e : class ≡ class + 0 = omega arith in e) within)) in
+    let rest = in_classes_most word b0 (class + 1) lists (λ n b some within. same (suc n) b some
+    (subst (λ c. IsWithin (words_of_class c) word b) (let e : class + 1 + n ≡ class + suc n = omega arith in e) within)) in omega arith
 
 -- an entry that has the word, where there is one
 record HasWithin (words word : ℕ) (bs : List ℕ) : Type 0 where
@@ -50,10 +55,16 @@ record HasWithin (words word : ℕ) (bs : List ℕ) : Type 0 where
 some_within : (words word : ℕ) (bs : List ℕ) → 0 < times_within words word bs → HasWithin words word bs
 some_within words word [] some = absurd (omega arith)
 some_within words word (b ∷ bs) some = by_test (nat_le b word && nat_lt word (b + words)) refl (λ more. some_within words word bs more) where
-  by_test : (test : Bool) → (nat_le b word && nat_lt word (b + words)) ≡ test → (0 < times_within words word bs → HasWithin words word bs) → HasWithin words word (b ∷ bs)
+  by_test : (test : Bool) → (nat_le b word && nat_lt word (b + words)) ≡ test → (0 < times_within words word bs → HasWithin words word bs)
+      → HasWithin words word (b ∷ bs)
   by_test true e rest = let both = and_both (nat_le b word) (nat_lt word (b + words)) e in
-      record { b = b; there = (let one = eq-eqb-one b b refl in omega arith); within = record { from = leb-true b word both.0; until = ltb-true word (b + words) both.1 } }
-  by_test false e rest = let r = rest (let none = ap one_if e in omega arith) in record { b = r.b; there = (let t = r.there in omega arith); within = r.within }
+      record {
+        b = b;
+        there = (let one = eq-eqb-one b b refl in omega arith);
+        within = record { from = leb-true b word both.0; until = ltb-true word (b + words) both.1 };
+      }
+  by_test false e rest = let r = rest (let none = ap one_if e in omega arith) in
+      record { b = r.b; there = (let t = r.there in omega arith); within = r.within }
 
 record HasWithinClass (word class : ℕ) (lists : List (List ℕ)) : Type 0 where
   n : ℕ
@@ -64,8 +75,22 @@ record HasWithinClass (word class : ℕ) (lists : List (List ℕ)) : Type 0 wher
 some_in_classes : (word class : ℕ) (lists : List (List ℕ)) → 0 < times_in_classes word class lists → HasWithinClass word class lists
 some_in_classes word class [] some = absurd (omega arith)
 some_in_classes word class (bs ∷ lists) some = elim (cases_lt 0 (times_within (words_of_class class) word bs)) [
-  | inl here ↦ let h = some_within (words_of_class class) word bs here in record { n = 0; b = h.b; there = h.there; within = subst (λ c. IsWithin (words_of_class c) word h.b) (let e : class ≡ class + 0 = omega arith in e) h.within }
-  | inr none ↦ let h = some_in_classes word (class + 1) lists (omega arith) in record { n = suc h.n; b = h.b; there = h.there; within = subst (λ c. IsWithin (words_of_class c) word h.b) (let e : class + 1 + h.n ≡ class + suc h.n = omega arith in e) h.within }
+  | inl here ↦ let h = some_within (words_of_class class) word bs here in
+      record {
+        n = 0;
+        b = h.b;
+        there = h.there;
+        within = subst (λ c. IsWithin (words_of_class c) word h.b)
+            (let e : class ≡ class + 0 = omega arith in e) h.within;
+      }
+  | inr none ↦ let h = some_in_classes word (class + 1) lists (omega arith) in
+      record {
+        n = suc h.n;
+        b = h.b;
+        there = h.there;
+        within = subst (λ c. IsWithin (words_of_class c) word h.b)
+            (let e : class + 1 + h.n ≡ class + suc h.n = omega arith in e) h.within;
+      }
 ]
 
 -- a block by class is one of the list
@@ -79,7 +104,8 @@ abbrev pub in_blocks : View → ℕ → ℕ
 in_blocks v word = times_in_classes word 0 v.small + times_in_classes word 0 v.caches + times_within (words_of_class v.batch.class) word v.batch.blocks
 
 -- two blocks of a superblock that have one word are one
-pub same_block : (c class d word b b' : ℕ) → IsCutBlock c class d b → IsCutBlock c class d b' → b ≤ word → word < b + words_of_class class → b' ≤ word → word < b' + words_of_class class → b ≡ b'
+pub same_block : (c class d word b b' : ℕ) → IsCutBlock c class d b → IsCutBlock c class d b' → b ≤ word → word < b + words_of_class class
+    → b' ≤ word → word < b' + words_of_class class → b ≡ b'
 same_block c class d word b b' p q from until from' until' =
     elim (cases_order p.index q.index) as (λ _. b ≡ b') [
       | inl one ↦ p.at ∙ ap (λ n. start_word c d + n * words_of_class class) one ∙ sym q.at
@@ -93,14 +119,20 @@ same_block c class d word b b' p q from until from' until' =
 within_own : (words b : ℕ) (bs : List ℕ) → 0 < words → 0 < times b bs → 0 < times_within words b bs
 within_own words b [] some there = absurd (omega arith)
 within_own words b (x ∷ bs) some there = elim (cases_eq x b) as (λ _. 0 < one_if (nat_le x b && nat_lt b (x + words)) + times_within words b bs) [
-  | inl same ↦ let one : one_if (nat_le x b && nat_lt b (x + words)) ≡ 1 = one_if_true (nat_le x b && nat_lt b (x + words)) (and_is (nat_le x b) (nat_lt b (x + words)) (le-leb x b (omega (arith, same))) (lt-ltb b (x + words) (omega (arith, same)))) in omega arith
+  | inl same ↦ let one : one_if (nat_le x b && nat_lt b (x + words)) ≡ 1 =
+      one_if_true (nat_le x b && nat_lt b (x + words)) (and_is (nat_le x b) (nat_lt b (x + words)) (le-leb x b (omega (arith, same)))
+      (lt-ltb b (x + words) (omega (arith, same)))) in omega arith
   | inr other ↦ let none = ne-eqb-none x b other in let rest = within_own words b bs some (omega arith) in omega arith
 ]
 
-in_classes_own : (b class n : ℕ) (lists : List (List ℕ)) → 0 < words_of_class (class + n) → 0 < times b (get_or lists n []) → 0 < times_in_classes b class lists
+in_classes_own : (b class n : ℕ) (lists : List (List ℕ)) → 0 < words_of_class (class + n) → 0 < times b (get_or lists n [])
+    → 0 < times_in_classes b class lists
 in_classes_own b class n [] some there = absurd (omega arith)
-in_classes_own b class zero (bs ∷ lists) some there = let here = within_own (words_of_class class) b bs (subst (λ c. 0 < words_of_class c) (let e : class + 0 ≡ class = omega arith in e) some) there in omega arith
-in_classes_own b class (suc n) (bs ∷ lists) some there = let rest = in_classes_own b (class + 1) n lists (subst (λ c. 0 < words_of_class c) (let e : class + suc n ≡ class + 1 + n = omega arith in e) some) there in omega arith
+in_classes_own b class zero (bs ∷ lists) some there = let here =
+    within_own (words_of_class class) b bs (subst (λ c. 0 < words_of_class c) (let e : class + 0 ≡ class = omega arith in e) some) there in omega arith
+in_classes_own b class (suc n) (bs ∷ lists) some there = let rest =
+    in_classes_own b (class + 1) n lists (subst (λ c. 0 < words_of_class c) (let e : class + suc n ≡ class + 1 + n = omega arith in e) some)
+    there in omega arith
 
 -- the list that has an entry
 pub record HasClass (b : ℕ) (lists : List (List ℕ)) : Type 0 where
@@ -125,15 +157,18 @@ module _ (k : Setup) (m : Memory) (views : List View) (good : Good k m views) wh
       let s = good.blocks j v below_j at_j in
       elim (cases_lt 0 (total (times b) v.small)) [
         | inl small ↦ let h = which_class b v.small small in
-            let is : IsClass (0 + h.n) = subst IsClass (ap (λ c. info m (superblock_at c b)) (sym cap) ∙ s.held h.n b h.there ∙ (let e : h.n ≡ 0 + h.n = omega arith in e)) is_class in
+            let is : IsClass (0 + h.n) = subst IsClass (ap (λ c. info m (superblock_at c b)) (sym cap) ∙ s.held h.n b h.there
+            ∙ (let e : h.n ≡ 0 + h.n = omega arith in e)) is_class in
             let own = in_classes_own b 0 h.n v.small (let two = two_words (0 + h.n) is in omega arith) h.there in omega arith
         | inr not_small ↦ elim (cases_lt 0 (total (times b) v.caches)) [
           | inl cached ↦ let h = which_class b v.caches cached in
-              let is : IsClass (0 + h.n) = subst IsClass (ap (λ c. info m (superblock_at c b)) (sym cap) ∙ s.cached h.n b h.there ∙ (let e : h.n ≡ 0 + h.n = omega arith in e)) is_class in
+              let is : IsClass (0 + h.n) = subst IsClass (ap (λ c. info m (superblock_at c b)) (sym cap) ∙ s.cached h.n b h.there
+              ∙ (let e : h.n ≡ 0 + h.n = omega arith in e)) is_class in
               let own = in_classes_own b 0 h.n v.caches (let two = two_words (0 + h.n) is in omega arith) h.there in omega arith
           | inr not_cached ↦ let q = s.batched b (omega arith) in
               let is : IsClass v.batch.class = subst IsClass (ap (λ c. info m (superblock_at c b)) (sym cap) ∙ ap (info m) q.0 ∙ q.1) is_class in
-              let own = within_own (words_of_class v.batch.class) b v.batch.blocks (let two = two_words v.batch.class is in omega arith) (omega arith) in omega arith
+              let own = within_own (words_of_class v.batch.class) b v.batch.blocks (let two = two_words v.batch.class is in
+              omega arith) (omega arith) in omega arith
         ]
       ]
 
@@ -147,14 +182,16 @@ module _ (k : Setup) (m : Memory) (views : List View) (good : Good k m views) wh
     pub from : b ≤ word
     pub until : word < b + words_of_class class
 
-  covers : (j : ℕ) (v : View) → j < length views → get_or views j v ≡ v → (class word b : ℕ) → 0 < times_block b v → info m (superblock_at v.setup.capacity b) ≡ class → IsWithin (words_of_class class) word b → Covers v word b
+  covers : (j : ℕ) (v : View) → j < length views → get_or views j v ≡ v → (class word b : ℕ) → 0 < times_block b v
+      → info m (superblock_at v.setup.capacity b) ≡ class → IsWithin (words_of_class class) word b → Covers v word b
   covers j v below_j at_j class word b some info_b within =
       let t = total_at (times_block b) views j v below_j at_j in
       let inside = good.shaped.chained.inside b (omega arith) in
       let cap : v.setup.capacity ≡ k.capacity = ap (λ (s : Setup). s.capacity) (good.set_up j v below_j at_j).setup in
       let info_k : info m (superblock_at k.capacity b) ≡ class = ap (λ c. info m (superblock_at c b)) (sym cap) ∙ info_b in
       let is_class : IsClass class = subst IsClass info_k (good.shaped.chained.is_class (superblock_at k.capacity b) inside.0) in
-      let block : IsCutBlock k.capacity class (superblock_at k.capacity b) b = subst (λ c. IsCutBlock k.capacity c (superblock_at k.capacity b) b) info_k inside.1 in
+      let block : IsCutBlock k.capacity class (superblock_at k.capacity b) b =
+      subst (λ c. IsCutBlock k.capacity c (superblock_at k.capacity b) b) info_k inside.1 in
       let place = inside_of k.capacity class (superblock_at k.capacity b) b is_class block in
       let low = place.0 in let high = place.1 in let f = within.from in let u = within.until in
       let same : superblock_at k.capacity b ≡ superblock_at k.capacity word = by_bounds (superblock_at k.capacity b) low high f u in
@@ -167,41 +204,56 @@ module _ (k : Setup) (m : Memory) (views : List View) (good : Good k m views) wh
         from = within.from;
         until = within.until;
       } where
-        by_bounds : (d : ℕ) → start_word k.capacity d ≤ b → b + words_of_class class ≤ start_word k.capacity (d + 1) → b ≤ word → word < b + words_of_class class → d ≡ superblock_at k.capacity word
+        by_bounds : (d : ℕ) → start_word k.capacity d ≤ b → b + words_of_class class ≤ start_word k.capacity (d + 1) → b ≤ word
+            → word < b + words_of_class class → d ≡ superblock_at k.capacity word
         by_bounds d low high f u = omega arith
 
   -- two such blocks are one
   pub covers_one : (u v : View) (word b c : ℕ) → Covers u word b → Covers v word c → b ≡ c
   covers_one u v word b c p q =
       let same : q.class ≡ p.class = sym q.info_is ∙ p.info_is in
-      same_block k.capacity p.class (superblock_at k.capacity word) word b c p.is (subst (λ n. IsCutBlock k.capacity n (superblock_at k.capacity word) c) same q.is) p.from p.until q.from
+      same_block k.capacity p.class (superblock_at k.capacity word) word b c p.is
+      (subst (λ n. IsCutBlock k.capacity n (superblock_at k.capacity word) c) same q.is) p.from p.until q.from
       (subst (λ n. word < c + words_of_class n) same q.until)
 
   -- a seat that has the word in a block has such a block
   pub covered : (j : ℕ) (v : View) → j < length views → get_or views j v ≡ v → (word : ℕ) → 0 < in_blocks v word → (b : ℕ) × Covers v word b
   covered j v below_j at_j word some = let s = good.blocks j v below_j at_j in
       elim (cases_lt 0 (times_in_classes word 0 v.small)) [
-        | inl in_small ↦ let h = some_in_classes word 0 v.small in_small in
-            (h.b, covers j v below_j at_j (0 + h.n) word h.b (let t = in_lists_total h.b h.n v.small h.there in omega arith) (s.held h.n h.b h.there ∙ (let e : h.n ≡ 0 + h.n = omega arith in e)) h.within)
+        | inl in_small ↦ let h = some_in_classes word 0 v.small in_small in (
+          h.b,
+          covers j v below_j at_j (0 + h.n) word h.b (let t = in_lists_total h.b h.n v.small h.there in
+              omega arith) (s.held h.n h.b h.there ∙ (let e : h.n ≡ 0 + h.n = omega arith in e)) h.within,
+        )
         | inr not_small ↦ elim (cases_lt 0 (times_in_classes word 0 v.caches)) [
-          | inl in_caches ↦ let h = some_in_classes word 0 v.caches in_caches in
-              (h.b, covers j v below_j at_j (0 + h.n) word h.b (let t = in_lists_total h.b h.n v.caches h.there in omega arith) (s.cached h.n h.b h.there ∙ (let e : h.n ≡ 0 + h.n = omega arith in e)) h.within)
-          | inr not_cached ↦ let h = some_within (words_of_class v.batch.class) word v.batch.blocks (omega arith) in
-              (h.b, covers j v below_j at_j v.batch.class word h.b (let t = h.there in omega arith) (let q = s.batched h.b h.there in ap (info m) q.0 ∙ q.1) h.within)
+          | inl in_caches ↦ let h = some_in_classes word 0 v.caches in_caches in (
+            h.b,
+            covers j v below_j at_j (0 + h.n) word h.b (let t = in_lists_total h.b h.n v.caches h.there in
+                omega arith) (s.cached h.n h.b h.there ∙ (let e : h.n ≡ 0 + h.n = omega arith in e)) h.within,
+          )
+          | inr not_cached ↦ let h = some_within (words_of_class v.batch.class) word v.batch.blocks (omega arith) in (
+            h.b,
+            covers j v below_j at_j v.batch.class word h.b (let t = h.there in omega arith) (let q = s.batched h.b h.there in
+                ap (info m) q.0 ∙ q.1) h.within,
+          )
         ]
       ]
 
   -- as often as it has that block
-  pub covered_most : (j : ℕ) (v : View) → j < length views → get_or views j v ≡ v → (u : View) (word b : ℕ) → Covers u word b → in_blocks v word ≤ times_block b v
+  pub covered_most : (j : ℕ) (v : View) → j < length views → get_or views j v ≡ v → (u : View) (word b : ℕ) → Covers u word b
+      → in_blocks v word ≤ times_block b v
   covered_most j v below_j at_j u word b c = let s = good.blocks j v below_j at_j in
       let small = in_classes_most word b 0 v.small (λ n x some within. covers_one v u word x b
-      (covers j v below_j at_j (0 + n) word x (let t = in_lists_total x n v.small some in omega arith) (s.held n x some ∙ (let e : n ≡ 0 + n = omega arith in e)) within) c) in
+      (covers j v below_j at_j (0 + n) word x (let t = in_lists_total x n v.small some in
+      omega arith) (s.held n x some ∙ (let e : n ≡ 0 + n = omega arith in e)) within) c) in
       let caches = in_classes_most word b 0 v.caches (λ n x some within. covers_one v u word x b
-      (covers j v below_j at_j (0 + n) word x (let t = in_lists_total x n v.caches some in omega arith) (s.cached n x some ∙ (let e : n ≡ 0 + n = omega arith in e)) within) c) in
+      (covers j v below_j at_j (0 + n) word x (let t = in_lists_total x n v.caches some in
+      omega arith) (s.cached n x some ∙ (let e : n ≡ 0 + n = omega arith in e)) within) c) in
       let batch = within_most (words_of_class v.batch.class) word b v.batch.blocks (λ x some within. covers_one v u word x b
       (covers j v below_j at_j v.batch.class word x (omega arith) (let q = s.batched x some in ap (info m) q.0 ∙ q.1) within) c) in omega arith
 
-  by_raw : (i j : ℕ) (v u : View) → j ≢ i → i < length views → get_or views i v ≡ v → j < length views → get_or views j u ≡ u → (d : ℕ) → 0 < times_raw d v → times_raw d u ≡ 0
+  by_raw : (i j : ℕ) (v u : View) → j ≢ i → i < length views → get_or views i v ≡ v → j < length views → get_or views j u ≡ u → (d : ℕ)
+      → 0 < times_raw d v → times_raw d u ≡ 0
   by_raw i j v u other below_i at_i below_j at_j d own =
       let two = total_two (times_raw d) views i j v u other below_i at_i below_j at_j in
       let p = good.shaped.placed.one_place d in let most = one_at_most (nat_lt d (used m)) in omega arith
@@ -234,7 +286,8 @@ module _ (k : Setup) (m : Memory) (views : List View) (good : Good k m views) wh
       ]
 
   -- two seats own no word together
-  pub one_owner : (i j : ℕ) (v u : View) → j ≢ i → i < length views → get_or views i v ≡ v → j < length views → get_or views j u ≡ u → (cell : Cell) → IsOwn v cell → times_own u cell ≡ 0
+  pub one_owner : (i j : ℕ) (v u : View) → j ≢ i → i < length views → get_or views i v ≡ v → j < length views → get_or views j u ≡ u
+      → (cell : Cell) → IsOwn v cell → times_own u cell ≡ 0
   one_owner i j v u other below_i at_i below_j at_j used_cell own = refl
   one_owner i j v u other below_i at_i below_j at_j (head_cell list) own = refl
   one_owner i j v u other below_i at_i below_j at_j (info_cell d) own = by_raw i j v u other below_i at_i below_j at_j d own

@@ -20,7 +20,8 @@ use Rattle.core_model.proofs.FreshLemmas.{cleared_same}
 use Rattle.core_model.proofs.ListLemmas.{relist, relist_same, relist_other, IsFirst, first_is, head_parts, lists_set, in_lists_set, in_lists_at, knows_pop, others_at_head, adds_at_head}
 use Rattle.heap_model.proofs.ListLemmas.{follows_small}
 
-module _ (k : Setup) (m : Memory) (views : List View) (i : ℕ) (v : View) (below_i : i < length views) (at : get_or views i v ≡ v) (good : Good k m views)
+module _ (k : Setup) (m : Memory) (views : List View) (i : ℕ) (v : View) (below_i : i < length views) (at : get_or views i v ≡ v)
+    (good : Good k m views)
     (ticket : IsThere v.ticket) (may : MayPop v) (as_seen : head m (seen_of v.seen_head) ≡ seen_word v.seen_head) where
   seat : IsSeat k m good.shape v
   seat = seat_at k m views good i v below_i at
@@ -47,7 +48,9 @@ module _ (k : Setup) (m : Memory) (views : List View) (i : ℕ) (v : View) (belo
   same_pops = ap head_pops (sym as_seen)
 
   first : IsFirst (link m) k.capacity (head_first word) (good.shape.lists l)
-  first = first_is (link m) k.capacity (head_first word) (good.shape.lists l) (subst (λ x. Follows (link m) k.capacity (head_first x) (good.shape.lists l)) as_seen (good.shaped.lists.follows l known_head.is_list)) (known_head.linked may.link).0
+  first = first_is (link m) k.capacity (head_first word) (good.shape.lists l)
+      (subst (λ x. Follows (link m) k.capacity (head_first x) (good.shape.lists l)) as_seen (good.shaped.lists.follows l known_head.is_list))
+      (known_head.linked may.link).0
 
   link_is : link m d ≡ seen v.seen_link
   link_is = (known_head.linked may.link).1 same_pops
@@ -72,7 +75,8 @@ module _ (k : Setup) (m : Memory) (views : List View) (i : ℕ) (v : View) (belo
 
   fewer : (n e : ℕ) → times e (relist good.shape.lists l first.rest n) ≤ times e (good.shape.lists n)
   fewer n e = elim (cases_eq n l) [
-    | inl same ↦ let a = ap (times e) (relist_same good.shape.lists l first.rest n same) in let b = ap (λ x. times e (good.shape.lists x)) same in let c = at_list e in omega arith
+    | inl same ↦ let a = ap (times e) (relist_same good.shape.lists l first.rest n same) in
+        let b = ap (λ x. times e (good.shape.lists x)) same in let c = at_list e in omega arith
     | inr other ↦ let a = ap (times e) (relist_other good.shape.lists l first.rest n other) in omega arith
   ]
 
@@ -86,8 +90,10 @@ module _ (k : Setup) (m : Memory) (views : List View) (i : ℕ) (v : View) (belo
   ]
 
   -- the seat's snapshots
-  knows_after : (w : View) → w.seen_head ≡ None → w.seen_used ≡ v.seen_used → w.used_look ≡ v.used_look → w.taken ≡ v.taken → w.batch ≡ v.batch → w.seen_anchor ≡ cleared d 1 v.seen_anchor
-      → ((e : ℕ) → times_claimed e v ≤ times_claimed e w) → ((e : ℕ) → d ≢ e → times_classed e w.classed ≡ times_classed e v.classed) → w.floor ≡ max v.floor (d + 1)
+  knows_after : (w : View) → w.seen_head ≡ None → w.seen_used ≡ v.seen_used → w.used_look ≡ v.used_look → w.taken ≡ v.taken → w.batch ≡ v.batch
+      → w.seen_anchor ≡ cleared d 1 v.seen_anchor
+      → ((e : ℕ) → times_claimed e v ≤ times_claimed e w) → ((e : ℕ) → d ≢ e → times_classed e w.classed ≡ times_classed e v.classed)
+      → w.floor ≡ max v.floor (d + 1)
       → Knows k.capacity m' g' w
   knows_after w none used_same look_same taken batch anchor_same more classed floor = let s = seat.knows in record {
     seen_head = λ t. absurd (let n = ap one_if_some none in omega arith);
@@ -95,15 +101,19 @@ module _ (k : Setup) (m : Memory) (views : List View) (i : ℕ) (v : View) (belo
     looked = (let l = s.looked in let a = ap (λ (x : LastLook). x.word) look_same in let b = ap (λ (x : LastLook). x.taken) look_same in omega arith);
     seen_anchor = λ t. let same = anchor_same ∙ cleared_same d 1 v.seen_anchor (subst IsThere anchor_same t) in
         subst (λ (x : Option Snapshot). (0 < times_claimed (seen_of x) w) ⊎ ((w.batch.descriptor ≡ seen_of x) × (1 ≤ length w.batch.blocks))) (sym same)
-        (subst (λ (b : Batch). (0 < times_claimed (seen_of v.seen_anchor) w) ⊎ ((b.descriptor ≡ seen_of v.seen_anchor) × (1 ≤ length b.blocks))) (sym batch)
+        (subst (λ (b : Batch). (0 < times_claimed (seen_of v.seen_anchor) w) ⊎ ((b.descriptor ≡ seen_of v.seen_anchor) × (1 ≤ length b.blocks)))
+        (sym batch)
         (elim (s.seen_anchor (subst IsThere same t)) [ inl c ↦ inl (let e = more (seen_of v.seen_anchor) in omega arith) | inr b ↦ inr b ]));
     seen_empty = λ t. let still = subst IsThere anchor_same t in let same = anchor_same ∙ cleared_same d 1 v.seen_anchor still in
-        subst (λ (x : Option Snapshot). 0 < times_classed (seen_of x) w.classed → anchor_state (seen_word x) ≡ empty_state → anchor_state (anchor m (seen_of x)) ≡ empty_state) (sym same)
-        (λ some. s.seen_empty (subst IsThere same t) (let e = classed (seen_of v.seen_anchor) (λ is. cleared_other d 1 v.seen_anchor still (omega (arith, is)) (omega (arith, is))) in omega arith));
+        subst (λ (x : Option Snapshot). 0 < times_classed (seen_of x) w.classed → anchor_state (seen_word x) ≡ empty_state
+        → anchor_state (anchor m (seen_of x)) ≡ empty_state) (sym same)
+        (λ some. s.seen_empty (subst IsThere same t) (let e = classed (seen_of v.seen_anchor)
+        (λ is. cleared_other d 1 v.seen_anchor still (omega (arith, is)) (omega (arith, is))) in omega arith));
     floor = (let f = s.floor in let less = durable_d in omega arith);
   }
 
-  stale_less : (w : View) → w.losses ≡ v.losses → w.seen_head ≡ None → w.seen_used ≡ v.seen_used → w.seen_anchor ≡ cleared d 1 v.seen_anchor → ((e : ℕ) → times_raw e v ≤ times_raw e w)
+  stale_less : (w : View) → w.losses ≡ v.losses → w.seen_head ≡ None → w.seen_used ≡ v.seen_used → w.seen_anchor ≡ cleared d 1 v.seen_anchor
+      → ((e : ℕ) → times_raw e v ≤ times_raw e w)
       → w.losses + stale m' w ≤ v.losses + stale m v
   stale_less w losses none used_same anchor_same more =
       let e = stale_cleared m v w d 1 v.seen_anchor (λ e out. more e) in
@@ -119,7 +129,11 @@ module _ (k : Setup) (m : Memory) (views : List View) (i : ℕ) (v : View) (belo
         lists = lists_set k.capacity (head m) (link m) good.shape.lists l (popped_head v) first.rest s.lists follows;
         placed = record { one_place = λ e. let old = s.placed.one_place e in let a = free_is e in let b = lists_are e in omega arith };
         untaken = record { blank = λ e past below_c. let b = s.untaken.blank e past below_c in record { volatile = b.volatile; durable = b.durable } };
-        listed = record { free = λ e some. s.listed.free e (let f = fewer 0 e in omega arith); in_class = λ class e is_class some. s.listed.in_class class e is_class (let f = fewer class e in omega arith); is_full = s.listed.is_full };
+        listed = record {
+          free = λ e some. s.listed.free e (let f = fewer 0 e in omega arith);
+          in_class = λ class e is_class some. s.listed.in_class class e is_class (let f = fewer class e in omega arith);
+          is_full = s.listed.is_full;
+        };
         chained = subst (λ c. AreChained k.capacity (info m) (anchor m) (next m) good.shape.chains c (tally_of views).blocks) cut_same s.chained;
         durable = (let x = s.durable in record {
           behind = x.behind;
@@ -129,10 +143,19 @@ module _ (k : Setup) (m : Memory) (views : List View) (i : ℕ) (v : View) (belo
         });
       }))
       (let s = seat.set_up in record {
-        set_up = record { setup = s.setup; roots = s.roots; small = s.small; caches = s.caches; looks = s.looks; volatile = s.volatile; durable = s.durable };
+        set_up = record {
+          setup = s.setup;
+          roots = s.roots;
+          small = s.small;
+          caches = s.caches;
+          looks = s.looks;
+          volatile = s.volatile;
+          durable = s.durable;
+        };
         claims = (let c = seat.claims in record {
           is_raw = λ e some. elim (cases_eq d e) as (λ _. anchor_state (anchor m e) ≡ empty_state) [
-            | inl same ↦ subst (λ x. anchor_state (anchor m x) ≡ empty_state) same (good.shaped.listed.free d (let t = there in let z = ap (λ x. times d (good.shape.lists x)) is in omega arith))
+            | inl same ↦ subst (λ x. anchor_state (anchor m x) ≡ empty_state) same
+                (good.shaped.listed.free d (let t = there in let z = ap (λ x. times d (good.shape.lists x)) is in omega arith))
             | inr other ↦ c.is_raw e (let z = ne-eqb-none d e other in omega arith)
           ];
           is_split = c.is_split;
@@ -148,37 +171,45 @@ module _ (k : Setup) (m : Memory) (views : List View) (i : ℕ) (v : View) (belo
             (words_grow k.capacity m v w refl refl (own_grows v w refl (λ e. omega arith) (λ e. omega arith) (λ e. omega arith)) seat.words);
         tickets = won_tickets k.budget m.drawn v w seat.tickets ticket refl refl (omega arith) refl refl refl refl refl refl refl (omega arith);
       })
-      (λ j x other b a. others_at_head k m good.shape l (popped_head v) first.rest (knows_pop k.capacity (head m) (link m) good.shape.lists l (popped_head v) first.rest (let p = one_pop in omega arith)) x)
+      (λ j x other b a. others_at_head k m good.shape l (popped_head v) first.rest
+      (knows_pop k.capacity (head m) (link m) good.shape.lists l (popped_head v) first.rest (let p = one_pop in omega arith)) x)
       (adds_at_head k m views i v w below_i at good.adds l (popped_head v) known_head.is_list (let p = one_pop in omega arith) refl refl refl refl refl)
       (record { mine = stale_less w refl refl refl refl (λ e. omega arith); more = omega arith })
       (λ j x other b a. let e = stale_head_most m' x.seen_head in omega arith)
-      (let old = good.moves in let gives = total_same (λ (x : View). x.gives) views i v w below_i at refl in let moves = total_same (λ (x : View). x.moves) views i v w below_i at refl in
-      let empty = ap (λ (t : Tally). empties k.capacity (anchor m) (times_parked g' t)) tally in let same = ap (empties k.capacity (anchor m)) parked_same in omega arith) where
+      (let old = good.moves in let gives = total_same (λ (x : View). x.gives) views i v w below_i at refl in
+      let moves = total_same (λ (x : View). x.moves) views i v w below_i at refl in
+      let empty = ap (λ (t : Tally). empties k.capacity (anchor m) (times_parked g' t)) tally in
+      let same = ap (empties k.capacity (anchor m)) parked_same in omega arith) where
         w : View
         w = claimed base d 0
 
         tally : tally_of (set views i w) ≡ record (tally_of views) { raw = λ e. total (times_raw e) views + one_if (nat_eq d e) }
         tally = λ j. record {
-          raw = λ e. (let z : total (times_raw e) (set views i w) ≡ total (times_raw e) views + one_if (nat_eq d e) = (let s = total_set (times_raw e) views i v w below_i at in omega arith) in z) j;
+          raw = λ e. (let z : total (times_raw e) (set views i w) ≡ total (times_raw e) views + one_if (nat_eq d e) =
+              (let s = total_set (times_raw e) views i v w below_i at in omega arith) in z) j;
           classed = λ e. (total_same (λ (x : View). times_classed e x.classed) views i v w below_i at refl) j;
           large = λ e. (total_same (λ (x : View). times_large e x.large) views i v w below_i at refl) j;
           blocks = λ b. (total_same (times_block b) views i v w below_i at refl) j;
         }
 
         free_is : (e : ℕ) → times e (relist good.shape.lists l first.rest 0) + one_if (nat_eq d e) ≡ times e (good.shape.lists 0)
-        free_is e = let a = ap (times e) (relist_same good.shape.lists l first.rest 0 (sym is)) in let b = at_list e in let c = ap (λ x. times e (good.shape.lists x)) is in omega arith
+        free_is e = let a = ap (times e) (relist_same good.shape.lists l first.rest 0 (sym is)) in let b = at_list e in
+            let c = ap (λ x. times e (good.shape.lists x)) is in omega arith
 
         list_same : (n e : ℕ) → n ≢ 0 → times e (relist good.shape.lists l first.rest n) ≡ times e (good.shape.lists n)
         list_same n e other = ap (times e) (relist_other good.shape.lists l first.rest n (λ z. other (z ∙ is)))
 
         lists_are : (e : ℕ) → times_in_lists g' e ≡ times_in_lists good.shape e
-        lists_are e = total_unchanged (λ n. times e (good.shape.lists n)) (λ n. times e (relist good.shape.lists l first.rest n)) 0 class_numbers (λ n other. list_same n e other) refl
+        lists_are e = total_unchanged (λ n. times e (good.shape.lists n))
+            (λ n. times e (relist good.shape.lists l first.rest n)) 0 class_numbers (λ n other. list_same n e other) refl
 
         cut_same : times_cut good.shape (tally_of views) ≡ times_cut g' (tally_of views)
-        cut_same = λ j e. (let z : times_cut good.shape (tally_of views) e ≡ times_cut g' (tally_of views) e = (let b = lists_are e in omega arith) in z) j
+        cut_same = λ j e. (let z : times_cut good.shape (tally_of views) e ≡ times_cut g' (tally_of views) e = (let b = lists_are e in
+            omega arith) in z) j
 
         parked_same : times_parked g' (tally_of views) ≡ times_parked good.shape (tally_of views)
-        parked_same = λ j e. (let z : times_parked g' (tally_of views) e ≡ times_parked good.shape (tally_of views) e = (let b = lists_are e in omega arith) in z) j
+        parked_same = λ j e. (let z : times_parked g' (tally_of views) e ≡ times_parked good.shape (tally_of views) e = (let b = lists_are e in
+            omega arith) in z) j
 
   -- from the list of a class it is claimed with the class
   pop_class : (c : ℕ) → l ≡ suc c → Good k m' (set views i (claimed base d (suc c)))
@@ -187,7 +218,11 @@ module _ (k : Setup) (m : Memory) (views : List View) (i : ℕ) (v : View) (belo
         lists = lists_set k.capacity (head m) (link m) good.shape.lists l (popped_head v) first.rest s.lists follows;
         placed = record { one_place = λ e. let old = s.placed.one_place e in let a = free_is e in let b = lists_are e in omega arith };
         untaken = record { blank = λ e past below_c. let b = s.untaken.blank e past below_c in record { volatile = b.volatile; durable = b.durable } };
-        listed = record { free = λ e some. s.listed.free e (let f = fewer 0 e in omega arith); in_class = λ class e is_class some. s.listed.in_class class e is_class (let f = fewer class e in omega arith); is_full = s.listed.is_full };
+        listed = record {
+          free = λ e some. s.listed.free e (let f = fewer 0 e in omega arith);
+          in_class = λ class e is_class some. s.listed.in_class class e is_class (let f = fewer class e in omega arith);
+          is_full = s.listed.is_full;
+        };
         chained = subst (λ x. AreChained k.capacity (info m) (anchor m) (next m) good.shape.chains x (tally_of views).blocks) cut_same s.chained;
         durable = (let x = s.durable in record {
           behind = x.behind;
@@ -197,20 +232,39 @@ module _ (k : Setup) (m : Memory) (views : List View) (i : ℕ) (v : View) (belo
         });
       }))
       (let s = seat.set_up in record {
-        set_up = record { setup = s.setup; roots = s.roots; small = s.small; caches = s.caches; looks = s.looks; volatile = s.volatile; durable = s.durable };
-        claims = (let x = seat.claims in record { is_raw = x.is_raw; is_split = x.is_split; is_cutting = x.is_cutting; is_classed = is_classed; is_large = x.is_large; is_part = x.is_part; some = x.some });
+        set_up = record {
+          setup = s.setup;
+          roots = s.roots;
+          small = s.small;
+          caches = s.caches;
+          looks = s.looks;
+          volatile = s.volatile;
+          durable = s.durable;
+        };
+        claims = (let x = seat.claims in record {
+          is_raw = x.is_raw;
+          is_split = x.is_split;
+          is_cutting = x.is_cutting;
+          is_classed = is_classed;
+          is_large = x.is_large;
+          is_part = x.is_part;
+          some = x.some;
+        });
         blocks = seat.blocks;
         knows = knows_after w refl refl refl refl refl refl (λ e. omega arith) (λ e other. let n = ne-eqb-none d e other in omega arith) refl;
         words = words_frame k.capacity m m' w (λ cell own. untouched w m.volatile (head_cell l) (popped_head v) cell refl own) (λ cell own. refl)
             (words_grow k.capacity m v w refl refl (own_grows v w refl (λ e. omega arith) (λ e. omega arith) (λ e. omega arith)) seat.words);
         tickets = won_tickets k.budget m.drawn v w seat.tickets ticket refl refl (omega arith) refl refl refl refl refl refl refl (omega arith);
       })
-      (λ j x other b a. others_at_head k m good.shape l (popped_head v) first.rest (knows_pop k.capacity (head m) (link m) good.shape.lists l (popped_head v) first.rest (let p = one_pop in omega arith)) x)
+      (λ j x other b a. others_at_head k m good.shape l (popped_head v) first.rest
+      (knows_pop k.capacity (head m) (link m) good.shape.lists l (popped_head v) first.rest (let p = one_pop in omega arith)) x)
       (adds_at_head k m views i v w below_i at good.adds l (popped_head v) known_head.is_list (let p = one_pop in omega arith) refl refl refl refl refl)
       (record { mine = stale_less w refl refl refl refl (λ e. omega arith); more = omega arith })
       (λ j x other b a. let e = stale_head_most m' x.seen_head in omega arith)
-      (let old = good.moves in let gives = total_same (λ (x : View). x.gives) views i v w below_i at refl in let moves = total_same (λ (x : View). x.moves) views i v w below_i at refl in
-      let empty = ap (λ (t : Tally). empties k.capacity (anchor m) (times_parked g' t)) tally in let same = ap (empties k.capacity (anchor m)) parked_same in omega arith) where
+      (let old = good.moves in let gives = total_same (λ (x : View). x.gives) views i v w below_i at refl in
+      let moves = total_same (λ (x : View). x.moves) views i v w below_i at refl in
+      let empty = ap (λ (t : Tally). empties k.capacity (anchor m) (times_parked g' t)) tally in
+      let same = ap (empties k.capacity (anchor m)) parked_same in omega arith) where
         w : View
         w = claimed base d (suc c)
 
@@ -223,7 +277,8 @@ module _ (k : Setup) (m : Memory) (views : List View) (i : ℕ) (v : View) (belo
         tally : tally_of (set views i w) ≡ t'
         tally = λ j. record {
           raw = λ e. (total_same (times_raw e) views i v w below_i at refl) j;
-          classed = λ e. (let z : total (λ (x : View). times_classed e x.classed) (set views i w) ≡ classed' e = (let s = total_set (λ (x : View). times_classed e x.classed) views i v w below_i at in omega arith) in z) j;
+          classed = λ e. (let z : total (λ (x : View). times_classed e x.classed) (set views i w) ≡ classed' e =
+              (let s = total_set (λ (x : View). times_classed e x.classed) views i v w below_i at in omega arith) in z) j;
           large = λ e. (total_same (λ (x : View). times_large e x.large) views i v w below_i at refl) j;
           blocks = λ b. (total_same (times_block b) views i v w below_i at refl) j;
         }
@@ -247,11 +302,14 @@ module _ (k : Setup) (m : Memory) (views : List View) (i : ℕ) (v : View) (belo
         of_class = let small = known_head.is_list in let class : IsClass (suc c) = record { some = omega arith; last = omega arith } in
             let here = good.shaped.listed.in_class (suc c) d class (subst (λ x. 0 < times d (good.shape.lists x)) is there) in (class, here.0, here.1)
 
-        is_classed : (e : ℕ) → 0 < times_classed e w.classed → IsClass (claim_class e w.classed) × (info m e ≡ claim_class e w.classed) × (anchor_state (anchor m e) < full_state)
+        is_classed : (e : ℕ) → 0 < times_classed e w.classed → IsClass (claim_class e w.classed) × (info m e ≡ claim_class e w.classed)
+            × (anchor_state (anchor m e) < full_state)
         is_classed e some = elim (cases_eq d e) [
-          | inl same ↦ subst (λ t. IsClass (cond t (suc c) (claim_class e v.classed)) × (info m e ≡ cond t (suc c) (claim_class e v.classed)) × (anchor_state (anchor m e) < full_state)) (sym (eq-eqb d e same))
+          | inl same ↦ subst (λ t. IsClass (cond t (suc c) (claim_class e v.classed)) × (info m e ≡ cond t (suc c) (claim_class e v.classed))
+              × (anchor_state (anchor m e) < full_state)) (sym (eq-eqb d e same))
               (subst (λ x. IsClass (suc c) × (info m x ≡ suc c) × (anchor_state (anchor m x) < full_state)) same of_class)
-          | inr other ↦ subst (λ t. IsClass (cond t (suc c) (claim_class e v.classed)) × (info m e ≡ cond t (suc c) (claim_class e v.classed)) × (anchor_state (anchor m e) < full_state)) (sym (ne_eqb d e other))
+          | inr other ↦ subst (λ t. IsClass (cond t (suc c) (claim_class e v.classed)) × (info m e ≡ cond t (suc c) (claim_class e v.classed))
+              × (anchor_state (anchor m e) < full_state)) (sym (ne_eqb d e other))
               (seat.claims.is_classed e (let n = ne-eqb-none d e other in omega arith))
         ]
 

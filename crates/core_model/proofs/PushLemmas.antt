@@ -25,7 +25,8 @@ use Rattle.core_model.proofs.PlaceLemmas.{and_is, not-lt}
 use Rattle.core_model.proofs.ListLemmas.{relist, relist_same, relist_other, head_parts, lists_set, in_lists_set, others_at_head, adds_at_head}
 
 -- a push leaves what others saw of the list's head: its pops, and that the descriptor is in the list
-pub knows_push : (capacity : ℕ) (heads links : ℕ → ℕ) (descriptors : ℕ → List ℕ) (at word d : ℕ) → head_pops word ≡ head_pops (heads at) → (list seen_word : ℕ) (next : Option ℕ)
+pub knows_push : (capacity : ℕ) (heads links : ℕ → ℕ) (descriptors : ℕ → List ℕ) (at word d : ℕ) → head_pops word ≡ head_pops (heads at)
+    → (list seen_word : ℕ) (next : Option ℕ)
     → KnowsHead capacity heads links descriptors list seen_word next
     → KnowsHead capacity (λ n. cond (nat_eq n at) word (heads n)) links (relist descriptors at (d ∷ descriptors at)) list seen_word next
 knows_push capacity heads links descriptors at word d same_pops list seen_word next h =
@@ -45,11 +46,13 @@ knows_push capacity heads links descriptors at word d same_pops list seen_word n
 
       grows : (n e : ℕ) → times e (descriptors n) ≤ times e (relist descriptors at (d ∷ descriptors at) n)
       grows n e = elim (cases_eq n at) [
-        | inl same ↦ let a = ap (times e) (relist_same descriptors at (d ∷ descriptors at) n same) in let b = ap (λ x. times e (descriptors x)) same in omega arith
+        | inl same ↦ let a = ap (times e) (relist_same descriptors at (d ∷ descriptors at) n same) in
+            let b = ap (λ x. times e (descriptors x)) same in omega arith
         | inr other ↦ let a = ap (times e) (relist_other descriptors at (d ∷ descriptors at) n other) in omega arith
       ]
 
-module _ (k : Setup) (m : Memory) (views : List View) (i : ℕ) (v : View) (below_i : i < length views) (at : get_or views i v ≡ v) (good : Good k m views)
+module _ (k : Setup) (m : Memory) (views : List View) (i : ℕ) (v : View) (below_i : i < length views) (at : get_or views i v ≡ v)
+    (good : Good k m views)
     (ticket : IsThere v.ticket) (d : ℕ) (may : MayPush m v d) (as_seen : head m (seen_of v.seen_head) ≡ seen_word v.seen_head) where
   seat : IsSeat k m good.shape v
   seat = seat_at k m views good i v below_i at
@@ -73,24 +76,34 @@ module _ (k : Setup) (m : Memory) (views : List View) (i : ℕ) (v : View) (belo
   small_d = let a = may.durable in let b = good.shaped.durable.behind in let c = good.shaped.durable.room in omega arith
 
   parts_of_head : (head_first (pushed_head v d) ≡ d + 1) × (head_pops (pushed_head v d) ≡ head_pops (head m l))
-  parts_of_head = let fits = good.small in let limit = largest_capacity_fits in let less = small_d in let p = head_parts (d + 1) (head_pops word) (omega arith) in (p.0, p.1 ∙ ap head_pops (sym as_seen))
+  parts_of_head = let fits = good.small in let limit = largest_capacity_fits in let less = small_d in
+      let p = head_parts (d + 1) (head_pops word) (omega arith) in (p.0, p.1 ∙ ap head_pops (sym as_seen))
 
   follows : Follows (link m) k.capacity (head_first (pushed_head v d)) (d ∷ good.shape.lists l)
-  follows = (parts_of_head.0, small_d, subst (λ x. Follows (link m) k.capacity x (good.shape.lists l)) (ap head_first as_seen ∙ sym may.linked) (good.shaped.lists.follows l is_list))
+  follows = (
+    parts_of_head.0,
+    small_d,
+    subst (λ x. Follows (link m) k.capacity x (good.shape.lists l)) (ap head_first as_seen ∙ sym may.linked)
+        (good.shaped.lists.follows l is_list),
+  )
 
   -- each list, with one more in the one
   at_list : (n e : ℕ) → n ≡ l → times e (relist good.shape.lists l (d ∷ good.shape.lists l) n) ≡ one_if (nat_eq d e) + times e (good.shape.lists n)
-  at_list n e same = ap (times e) (relist_same good.shape.lists l (d ∷ good.shape.lists l) n same) ∙ ap (λ x. one_if (nat_eq d e) + times e (good.shape.lists x)) (sym same)
+  at_list n e same = ap (times e) (relist_same good.shape.lists l (d ∷ good.shape.lists l) n same)
+      ∙ ap (λ x. one_if (nat_eq d e) + times e (good.shape.lists x)) (sym same)
 
   off_list : (n e : ℕ) → n ≢ l → times e (relist good.shape.lists l (d ∷ good.shape.lists l) n) ≡ times e (good.shape.lists n)
   off_list n e other = ap (times e) (relist_other good.shape.lists l (d ∷ good.shape.lists l) n other)
 
   others : (x : View) → IsSeat k m good.shape x → IsSeat k m' g' x
-  others = others_at_head k m good.shape l (pushed_head v d) (d ∷ good.shape.lists l) (knows_push k.capacity (head m) (link m) good.shape.lists l (pushed_head v d) d parts_of_head.1)
+  others = others_at_head k m good.shape l (pushed_head v d) (d ∷ good.shape.lists l)
+      (knows_push k.capacity (head m) (link m) good.shape.lists l (pushed_head v d) d parts_of_head.1)
 
   -- the seat's snapshots; `w` has the descriptor no more
-  knows_after : (w : View) → w.seen_head ≡ None → w.seen_used ≡ v.seen_used → w.used_look ≡ v.used_look → w.taken ≡ v.taken → w.batch ≡ v.batch → w.seen_anchor ≡ cleared d 1 v.seen_anchor
-      → ((e : ℕ) → d ≢ e → times_claimed e w ≡ times_claimed e v) → ((e : ℕ) → d ≢ e → times_classed e w.classed ≡ times_classed e v.classed) → w.floor ≡ v.floor
+  knows_after : (w : View) → w.seen_head ≡ None → w.seen_used ≡ v.seen_used → w.used_look ≡ v.used_look → w.taken ≡ v.taken → w.batch ≡ v.batch
+      → w.seen_anchor ≡ cleared d 1 v.seen_anchor
+      → ((e : ℕ) → d ≢ e → times_claimed e w ≡ times_claimed e v) → ((e : ℕ) → d ≢ e → times_classed e w.classed ≡ times_classed e v.classed)
+      → w.floor ≡ v.floor
       → Knows k.capacity m' g' w
   knows_after w none used_same look_same taken batch anchor_same same_claims classed floor = let s = seat.knows in record {
     seen_head = λ t. absurd (let n = ap one_if_some none in omega arith);
@@ -98,15 +111,24 @@ module _ (k : Setup) (m : Memory) (views : List View) (i : ℕ) (v : View) (belo
     looked = (let y = s.looked in let a = ap (λ (x : LastLook). x.word) look_same in let b = ap (λ (x : LastLook). x.taken) look_same in omega arith);
     seen_anchor = λ t. let still = subst IsThere anchor_same t in let same = anchor_same ∙ cleared_same d 1 v.seen_anchor still in
         subst (λ (x : Option Snapshot). (0 < times_claimed (seen_of x) w) ⊎ ((w.batch.descriptor ≡ seen_of x) × (1 ≤ length w.batch.blocks))) (sym same)
-        (subst (λ (b : Batch). (0 < times_claimed (seen_of v.seen_anchor) w) ⊎ ((b.descriptor ≡ seen_of v.seen_anchor) × (1 ≤ length b.blocks))) (sym batch)
-        (elim (s.seen_anchor (subst IsThere same t)) [ inl c ↦ inl (let e = same_claims (seen_of v.seen_anchor) (λ is. cleared_other d 1 v.seen_anchor still (omega (arith, is)) (omega (arith, is))) in omega arith) | inr b ↦ inr b ]));
+        (subst (λ (b : Batch). (0 < times_claimed (seen_of v.seen_anchor) w) ⊎ ((b.descriptor ≡ seen_of v.seen_anchor) × (1 ≤ length b.blocks)))
+        (sym batch)
+        (elim (s.seen_anchor (subst IsThere same t)) [
+          | inl c ↦ inl (let e =
+              same_claims (seen_of v.seen_anchor) (λ is. cleared_other d 1 v.seen_anchor still (omega (arith, is)) (omega (arith, is))) in
+              omega arith)
+          | inr b ↦ inr b
+        ]));
     seen_empty = λ t. let still = subst IsThere anchor_same t in let same = anchor_same ∙ cleared_same d 1 v.seen_anchor still in
-        subst (λ (x : Option Snapshot). 0 < times_classed (seen_of x) w.classed → anchor_state (seen_word x) ≡ empty_state → anchor_state (anchor m (seen_of x)) ≡ empty_state) (sym same)
-        (λ some. s.seen_empty (subst IsThere same t) (let e = classed (seen_of v.seen_anchor) (λ is. cleared_other d 1 v.seen_anchor still (omega (arith, is)) (omega (arith, is))) in omega arith));
+        subst (λ (x : Option Snapshot). 0 < times_classed (seen_of x) w.classed → anchor_state (seen_word x) ≡ empty_state
+        → anchor_state (anchor m (seen_of x)) ≡ empty_state) (sym same)
+        (λ some. s.seen_empty (subst IsThere same t) (let e = classed (seen_of v.seen_anchor)
+        (λ is. cleared_other d 1 v.seen_anchor still (omega (arith, is)) (omega (arith, is))) in omega arith));
     floor = (let f = s.floor in omega arith);
   }
 
-  stale_less : (w : View) → w.losses ≡ v.losses → w.seen_head ≡ None → w.seen_used ≡ v.seen_used → w.seen_anchor ≡ cleared d 1 v.seen_anchor → ((e : ℕ) → d ≢ e → times_raw e v ≤ times_raw e w)
+  stale_less : (w : View) → w.losses ≡ v.losses → w.seen_head ≡ None → w.seen_used ≡ v.seen_used → w.seen_anchor ≡ cleared d 1 v.seen_anchor
+      → ((e : ℕ) → d ≢ e → times_raw e v ≤ times_raw e w)
       → w.losses + stale m' w ≤ v.losses + stale m v
   stale_less w losses none used_same anchor_same more =
       let e = stale_cleared m v w d 1 v.seen_anchor (λ e out. more e (λ same. out (omega (arith, same)) (omega (arith, same)))) in
@@ -114,7 +136,8 @@ module _ (k : Setup) (m : Memory) (views : List View) (i : ℕ) (v : View) (belo
 
   -- the claims together are at most one
   one_claim : (e : ℕ) → times_raw e v + times_classed e v.classed + total (λ n. times e (good.shape.lists n)) list_numbers ≤ 1
-  one_claim e = let a = good.shaped.placed.one_place e in let r = total_at (times_raw e) views i v below_i at in let c = total_at (λ (x : View). times_classed e x.classed) views i v below_i at in
+  one_claim e = let a = good.shaped.placed.one_place e in let r = total_at (times_raw e) views i v below_i at in
+      let c = total_at (λ (x : View). times_classed e x.classed) views i v below_i at in
       let limit = below_most e (used m) in omega arith where
         below_most : (n limit : ℕ) → below n limit ≤ 1
         below_most n limit = one_at_most (nat_lt n limit)
@@ -124,14 +147,18 @@ module _ (k : Setup) (m : Memory) (views : List View) (i : ℕ) (v : View) (belo
   push_raw some is empty = good_step k m m' views i v w good g' below_i at
       (subst (IsInShape k.capacity m' g') (sym tally) (let s = good.shaped in record {
         lists = lists_set k.capacity (head m) (link m) good.shape.lists l (pushed_head v d) (d ∷ good.shape.lists l) s.lists follows;
-        placed = record { one_place = λ e. let old = s.placed.one_place e in let a = at_list 0 e (sym is) in let b = lists_are e in let c = raw_are e in omega arith };
+        placed = record {
+          one_place = λ e. let old = s.placed.one_place e in let a = at_list 0 e (sym is) in let b = lists_are e in
+              let c = raw_are e in omega arith;
+        };
         untaken = record { blank = λ e past below_c. let b = s.untaken.blank e past below_c in record { volatile = b.volatile; durable = b.durable } };
         listed = record {
           free = λ e here. elim (cases_eq d e) as (λ _. anchor_state (anchor m e) ≡ empty_state) [
             | inl same ↦ subst (λ x. anchor_state (anchor m x) ≡ empty_state) same empty
             | inr other ↦ s.listed.free e (let a = at_list 0 e (sym is) in let z = ne-eqb-none d e other in omega arith)
           ];
-          in_class = λ class e is_class here. s.listed.in_class class e is_class (let a = off_list class e (λ z. let y = is_class.some in omega (arith, z, is, y)) in omega arith);
+          in_class = λ class e is_class here. s.listed.in_class class e is_class
+              (let a = off_list class e (λ z. let y = is_class.some in omega (arith, z, is, y)) in omega arith);
           is_full = s.listed.is_full;
         };
         chained = subst (λ c. AreChained k.capacity (info m) (anchor m) (next m) good.shape.chains c (tally_of views).blocks) cut_same s.chained;
@@ -157,16 +184,23 @@ module _ (k : Setup) (m : Memory) (views : List View) (i : ℕ) (v : View) (belo
           some = c.some;
         });
         blocks = seat.blocks;
-        knows = knows_after w refl refl refl refl refl refl (λ e other. let z = raw_is e in let n = ne-eqb-none d e other in omega arith) (λ e other. refl) refl;
-        words = words_left k m m' v base seat.set_up.setup seat.words (λ cell own. untouched v m.volatile (head_cell l) (pushed_head v d) cell refl own) (λ cell own. refl) refl refl refl;
+        knows = knows_after w refl refl refl refl refl refl (λ e other. let z = raw_is e in let n = ne-eqb-none d e other in
+            omega arith) (λ e other. refl) refl;
+        words = words_left k m m' v base seat.set_up.setup seat.words
+            (λ cell own. untouched v m.volatile (head_cell l) (pushed_head v d) cell refl own) (λ cell own. refl) refl refl refl;
         tickets = won_tickets k.budget m.drawn v w seat.tickets ticket refl refl (omega arith) refl refl refl refl refl refl refl (omega arith);
       })
       (λ j x other b a. others x)
       (adds_at_head k m views i v w below_i at good.adds l (pushed_head v d) is_list (let p = parts_of_head.1 in omega arith) refl refl refl refl refl)
-      (record { mine = stale_less w refl refl refl refl (λ e other. let z = raw_is e in let n = ne-eqb-none d e other in omega arith); more = omega arith })
+      (record {
+        mine = stale_less w refl refl refl refl (λ e other. let z = raw_is e in let n = ne-eqb-none d e other in omega arith);
+        more = omega arith;
+      })
       (λ j x other b a. let e = stale_head_most m' x.seen_head in omega arith)
-      (let old = good.moves in let gives = total_same (λ (x : View). x.gives) views i v w below_i at refl in let moves = total_same (λ (x : View). x.moves) views i v w below_i at refl in
-      let empty_now = ap (λ (t : Tally). empties k.capacity (anchor m) (times_parked g' t)) tally in let same = ap (empties k.capacity (anchor m)) parked_same in omega arith) where
+      (let old = good.moves in let gives = total_same (λ (x : View). x.gives) views i v w below_i at refl in
+      let moves = total_same (λ (x : View). x.moves) views i v w below_i at refl in
+      let empty_now = ap (λ (t : Tally). empties k.capacity (anchor m) (times_parked g' t)) tally in
+      let same = ap (empties k.capacity (anchor m)) parked_same in omega arith) where
         base : View
         base = record (won v) { raw = without d v.raw; split = without d v.split; seen_head = None; seen_anchor = cleared d 1 v.seen_anchor }
 
@@ -197,7 +231,8 @@ module _ (k : Setup) (m : Memory) (views : List View) (i : ℕ) (v : View) (belo
         }
 
         lists_are : (e : ℕ) → times_in_lists g' e ≡ times_in_lists good.shape e
-        lists_are e = total_unchanged (λ n. times e (good.shape.lists n)) (λ n. times e (relist good.shape.lists l (d ∷ good.shape.lists l) n)) 0 class_numbers (λ n other. off_list n e (λ z. other (z ∙ is))) refl
+        lists_are e = total_unchanged (λ n. times e (good.shape.lists n))
+            (λ n. times e (relist good.shape.lists l (d ∷ good.shape.lists l) n)) 0 class_numbers (λ n other. off_list n e (λ z. other (z ∙ is))) refl
 
         cut_same : times_cut good.shape (tally_of views) ≡ times_cut g' t'
         cut_same = λ j e. (let z : times_cut good.shape (tally_of views) e ≡ times_cut g' t' e = (let b = lists_are e in omega arith) in z) j
@@ -208,7 +243,12 @@ module _ (k : Setup) (m : Memory) (views : List View) (i : ℕ) (v : View) (belo
   -- a superblock of a class is put down
   module _ (claimed : 0 < times_classed d v.classed) where
     abbrev base : View
-    base = record (won v) { classed = without_claim d v.classed; seen_head = None; seen_anchor = cleared d 1 v.seen_anchor; moves = cond (nat_eq l 0) (v.moves + 1) v.moves }
+    base = record (won v) {
+      classed = without_claim d v.classed;
+      seen_head = None;
+      seen_anchor = cleared d 1 v.seen_anchor;
+      moves = cond (nat_eq l 0) (v.moves + 1) v.moves;
+    }
 
     abbrev w : View
     w = pushed_classed v d
@@ -238,8 +278,11 @@ module _ (k : Setup) (m : Memory) (views : List View) (i : ℕ) (v : View) (belo
       set_up = set_up_kept k v w seat.set_up refl refl refl refl refl (length_only base 0 v.volatile) (length_only base 0 v.durable);
       claims = claims_without (info m) (anchor m) v.raw v.split v.cutting v.classed v.large d once seat.claims;
       blocks = seat.blocks;
-      knows = knows_after w refl refl refl refl refl refl (λ e other. let z = times_without_claim e d v.classed claimed in let n = ne-eqb-none d e other in omega arith) (λ e other. let z = times_without_claim e d v.classed claimed in let n = ne-eqb-none d e other in omega arith) refl;
-      words = words_left k m m' v base seat.set_up.setup seat.words (λ cell own. untouched v m.volatile (head_cell l) (pushed_head v d) cell refl own) (λ cell own. refl) refl refl refl;
+      knows = knows_after w refl refl refl refl refl refl (λ e other. let z = times_without_claim e d v.classed claimed in
+          let n = ne-eqb-none d e other in omega arith) (λ e other. let z = times_without_claim e d v.classed claimed in
+          let n = ne-eqb-none d e other in omega arith) refl;
+      words = words_left k m m' v base seat.set_up.setup seat.words (λ cell own. untouched v m.volatile (head_cell l)
+          (pushed_head v d) cell refl own) (λ cell own. refl) refl refl refl;
       tickets = won_tickets k.budget m.drawn v w seat.tickets ticket refl refl (omega arith) refl refl refl refl refl refl refl (moved (nat_eq l 0));
     } where
       moved : (test : Bool) → v.gives + cond test (v.moves + 1) v.moves ≤ v.gives + v.moves + 1
@@ -251,9 +294,19 @@ module _ (k : Setup) (m : Memory) (views : List View) (i : ℕ) (v : View) (belo
     push_class some is = good_step k m m' views i v w good g' below_i at
         (subst (IsInShape k.capacity m' g') (sym tally) (let s = good.shaped in record {
           lists = lists_set k.capacity (head m) (link m) good.shape.lists l (pushed_head v d) (d ∷ good.shape.lists l) s.lists follows;
-          placed = record { one_place = λ e. let old = s.placed.one_place e in let a = off_list 0 e (λ z. some (sym z)) in let b = lists_are e in let c = classed_are e in omega arith };
-          untaken = record { blank = λ e past below_c. let b = s.untaken.blank e past below_c in record { volatile = b.volatile; durable = b.durable } };
-          listed = record { free = λ e here. s.listed.free e (let a = off_list 0 e (λ z. some (sym z)) in omega arith); in_class = in_class; is_full = s.listed.is_full };
+          placed = record {
+            one_place = λ e. let old = s.placed.one_place e in let a = off_list 0 e (λ z. some (sym z)) in
+                let b = lists_are e in let c = classed_are e in omega arith;
+          };
+          untaken = record {
+            blank = λ e past below_c. let b = s.untaken.blank e past below_c in
+                record { volatile = b.volatile; durable = b.durable };
+          };
+          listed = record {
+            free = λ e here. s.listed.free e (let a = off_list 0 e (λ z. some (sym z)) in omega arith);
+            in_class = in_class;
+            is_full = s.listed.is_full;
+          };
           chained = subst (λ c. AreChained k.capacity (info m) (anchor m) (next m) good.shape.chains c (tally_of views).blocks) cut_same s.chained;
           durable = (let x = s.durable in record {
             behind = x.behind;
@@ -262,25 +315,34 @@ module _ (k : Setup) (m : Memory) (views : List View) (i : ℕ) (v : View) (belo
             infos = λ e here. x.infos e (let b = lists_are e in let c = classed_are e in omega arith);
           });
         }))
-        mine (λ j x other b a. others x) (adds_at_head k m views i v w below_i at good.adds l (pushed_head v d) is_list (let p = parts_of_head.1 in omega arith) refl refl refl refl refl)
+        mine (λ j x other b a. others x) (adds_at_head k m views i v w below_i at good.adds l (pushed_head v d) is_list
+        (let p = parts_of_head.1 in omega arith) refl refl refl refl refl)
         (record { mine = stale_less w refl refl refl refl (λ e other. omega arith); more = omega arith })
         (λ j x other b a. let e = stale_head_most m' x.seen_head in omega arith)
         (let old = good.moves in let gives = total_same (λ (x : View). x.gives) views i v w below_i at refl in
         let moves = total_same (λ (x : View). x.moves) views i v w below_i at (ap (λ t. cond t (v.moves + 1) v.moves) (ne_eqb l 0 some)) in
-        let empty = ap (λ (t : Tally). empties k.capacity (anchor m) (times_parked g' t)) tally in let same = ap (empties k.capacity (anchor m)) parked_same in omega arith) where
+        let empty = ap (λ (t : Tally). empties k.capacity (anchor m) (times_parked g' t)) tally in
+        let same = ap (empties k.capacity (anchor m)) parked_same in omega arith) where
           lists_are : (e : ℕ) → times_in_lists g' e ≡ times_in_lists good.shape e + one_if (nat_eq d e)
           lists_are e = let a = in_lists_set e good.shape.lists l (d ∷ good.shape.lists l) is_list some in omega arith
 
           cut_same : times_cut good.shape (tally_of views) ≡ times_cut g' t'
-          cut_same = λ j e. (let z : times_cut good.shape (tally_of views) e ≡ times_cut g' t' e = (let b = lists_are e in let c = classed_are e in omega arith) in z) j
+          cut_same = λ j e. (let z : times_cut good.shape (tally_of views) e ≡ times_cut g' t' e = (let b = lists_are e in
+              let c = classed_are e in omega arith) in z) j
 
           parked_same : times_parked g' t' ≡ times_parked good.shape (tally_of views)
-          parked_same = λ j e. (let z : times_parked g' t' e ≡ times_parked good.shape (tally_of views) e = (let b = lists_are e in let c = classed_are e in omega arith) in z) j
+          parked_same = λ j e. (let z : times_parked g' t' e ≡ times_parked good.shape (tally_of views) e = (let b = lists_are e in
+              let c = classed_are e in omega arith) in z) j
 
-          in_class : (class e : ℕ) → IsClass class → 0 < times e (relist good.shape.lists l (d ∷ good.shape.lists l) class) → (info m e ≡ class) × (anchor_state (anchor m e) < full_state)
+          in_class : (class e : ℕ) → IsClass class → 0 < times e (relist good.shape.lists l (d ∷ good.shape.lists l) class) → (info m e ≡ class)
+              × (anchor_state (anchor m e) < full_state)
           in_class class e is_class here = elim (cases_eq class l) [
             | inl same ↦ elim (cases_eq d e) [
-              | inl it ↦ subst (λ x. (info m x ≡ class) × (anchor_state (anchor m x) < full_state)) it (is ∙ sym same, (seat.claims.is_classed d claimed).2)
+              | inl it ↦ subst (λ x. (info m x ≡ class) × (anchor_state (anchor m x) < full_state)) it (
+                is
+                    ∙ sym same,
+                (seat.claims.is_classed d claimed).2,
+              )
               | inr other ↦ good.shaped.listed.in_class class e is_class (let a = at_list class e same in let n = ne-eqb-none d e other in omega arith)
             ]
             | inr apart ↦ good.shaped.listed.in_class class e is_class (let a = off_list class e apart in omega arith)
@@ -292,7 +354,8 @@ module _ (k : Setup) (m : Memory) (views : List View) (i : ℕ) (v : View) (belo
         let c = good.shaped.chained in
         let cut_d = claimed_is_cut good.shape views i v d below_i at claimed in
         let anchored = c.anchored d cut_d in
-        let one = all_home k.capacity (info m d) d (good.shape.chains d) (c.is_class d cut_d) (anchored.empty.0 empty) (λ x some. c.chained d x cut_d some)
+        let one = all_home k.capacity (info m d) d (good.shape.chains d) (c.is_class d cut_d) (anchored.empty.0 empty)
+        (λ x some. c.chained d x cut_d some)
         (λ x at_x. let o = c.owned d x cut_d at_x in omega arith) b at_b in
         let o = c.owned d b cut_d at_b in omega arith
 
@@ -301,14 +364,21 @@ module _ (k : Setup) (m : Memory) (views : List View) (i : ℕ) (v : View) (belo
     push_moved is empty = good_step k m m' views i v w good g' below_i at
         (subst (IsInShape k.capacity m' g') (sym tally) (let s = good.shaped in record {
           lists = lists_set k.capacity (head m) (link m) good.shape.lists l (pushed_head v d) (d ∷ good.shape.lists l) s.lists follows;
-          placed = record { one_place = λ e. let old = s.placed.one_place e in let a = at_list 0 e (sym is) in let b = lists_are e in let c = classed_are e in omega arith };
-          untaken = record { blank = λ e past below_c. let b = s.untaken.blank e past below_c in record { volatile = b.volatile; durable = b.durable } };
+          placed = record {
+            one_place = λ e. let old = s.placed.one_place e in let a = at_list 0 e (sym is) in let b = lists_are e in
+                let c = classed_are e in omega arith;
+          };
+          untaken = record {
+            blank = λ e past below_c. let b = s.untaken.blank e past below_c in
+                record { volatile = b.volatile; durable = b.durable };
+          };
           listed = record {
             free = λ e here. elim (cases_eq d e) as (λ _. anchor_state (anchor m e) ≡ empty_state) [
               | inl same ↦ subst (λ x. anchor_state (anchor m x) ≡ empty_state) same empty
               | inr other ↦ s.listed.free e (let a = at_list 0 e (sym is) in let z = ne-eqb-none d e other in omega arith)
             ];
-            in_class = λ class e is_class here. s.listed.in_class class e is_class (let a = off_list class e (λ z. let y = is_class.some in omega (arith, z, is, y)) in omega arith);
+            in_class = λ class e is_class here. s.listed.in_class class e is_class
+                (let a = off_list class e (λ z. let y = is_class.some in omega (arith, z, is, y)) in omega arith);
             is_full = s.listed.is_full;
           };
           chained = (let c = s.chained in record {
@@ -319,7 +389,8 @@ module _ (k : Setup) (m : Memory) (views : List View) (i : ℕ) (v : View) (belo
             inside = λ b some. let old = c.inside b some in (
               elim (cases_eq d (superblock_at k.capacity b)) as (λ _. 0 < times_cut g' t' (superblock_at k.capacity b)) [
                 | inl same ↦ absurd (let none = empty_home empty b (subst (λ x. IsCutBlock k.capacity (info m x) x b) (sym same) old.1) in omega arith)
-                | inr other ↦ let f = cut_are (superblock_at k.capacity b) in let z = ne-eqb-none d (superblock_at k.capacity b) other in let o = old.0 in omega arith
+                | inr other ↦ let f = cut_are (superblock_at k.capacity b) in let z = ne-eqb-none d (superblock_at k.capacity b) other in
+                    let o = old.0 in omega arith
               ],
               old.1,
             );
@@ -334,14 +405,16 @@ module _ (k : Setup) (m : Memory) (views : List View) (i : ℕ) (v : View) (belo
             infos = λ e here. x.infos e (let b = cut_are e in omega arith);
           });
         }))
-        mine (λ j x other b a. others x) (adds_at_head k m views i v w below_i at good.adds l (pushed_head v d) is_list (let p = parts_of_head.1 in omega arith) refl refl refl refl refl)
+        mine (λ j x other b a. others x) (adds_at_head k m views i v w below_i at good.adds l (pushed_head v d) is_list
+        (let p = parts_of_head.1 in omega arith) refl refl refl refl refl)
         (record { mine = stale_less w refl refl refl refl (λ e other. omega arith); more = omega arith })
         (λ j x other b a. let e = stale_head_most m' x.seen_head in omega arith)
         (let old = good.moves in let gives = total_same (λ (x : View). x.gives) views i v w below_i at refl in
         let moves = total_set (λ (x : View). x.moves) views i v w below_i at in let one_more = ap (λ t. cond t (v.moves + 1) v.moves) (eq-eqb l 0 is) in
         let now = ap (λ (t : Tally). empties k.capacity (anchor m) (times_parked g' t)) tally in let less = empties_less in omega arith) where
           lists_are : (e : ℕ) → times_in_lists g' e ≡ times_in_lists good.shape e
-          lists_are e = total_unchanged (λ n. times e (good.shape.lists n)) (λ n. times e (relist good.shape.lists l (d ∷ good.shape.lists l) n)) 0 class_numbers (λ n other. off_list n e (λ z. other (z ∙ is))) refl
+          lists_are e = total_unchanged (λ n. times e (good.shape.lists n))
+              (λ n. times e (relist good.shape.lists l (d ∷ good.shape.lists l) n)) 0 class_numbers (λ n other. off_list n e (λ z. other (z ∙ is))) refl
 
           cut_are : (e : ℕ) → times_cut g' t' e + one_if (nat_eq d e) ≡ times_cut good.shape (tally_of views) e
           cut_are e = let b = lists_are e in let c = classed_are e in omega arith
@@ -355,25 +428,36 @@ module _ (k : Setup) (m : Memory) (views : List View) (i : ℕ) (v : View) (belo
           below_limit : (n limit : ℕ) → below n limit ≤ 1
           below_limit n limit = one_at_most (nat_lt n limit)
 
-          empties_less : empties k.capacity (anchor m) (times_parked g' t') + 1 ≡ empties k.capacity (anchor m) (times_parked good.shape (tally_of views))
+          empties_less : empties k.capacity (anchor m) (times_parked g' t') + 1 ≡ empties k.capacity (anchor m)
+              (times_parked good.shape (tally_of views))
           empties_less =
               let step = total_change old_at new_at d (steps 0 1 k.capacity)
-              (λ e other. ap (λ n. one_if (nat_lt 0 n && nat_eq (anchor_state (anchor m e)) empty_state)) (let z : times_parked g' t' e ≡ times_parked good.shape (tally_of views) e = (let b = lists_are e in let c = classed_are e in let n = ne-eqb-none d e (λ q. other (sym q)) in omega arith) in z))
-              (let t = times_steps d 0 k.capacity in let a = below_not d 0 (omega arith) in let b = below_is d (0 + k.capacity) (let z = small_d in omega arith) in omega arith) in
-              let was : old_at d ≡ 1 = one_if_true (nat_lt 0 (times_parked good.shape (tally_of views) d) && nat_eq (anchor_state (anchor m d)) empty_state)
+              (λ e other. ap (λ n. one_if (nat_lt 0 n && nat_eq (anchor_state (anchor m e)) empty_state))
+              (let z : times_parked g' t' e ≡ times_parked good.shape (tally_of views) e = (let b = lists_are e in let c = classed_are e in
+              let n = ne-eqb-none d e (λ q. other (sym q)) in omega arith) in z))
+              (let t = times_steps d 0 k.capacity in let a = below_not d 0 (omega arith) in
+              let b = below_is d (0 + k.capacity) (let z = small_d in omega arith) in omega arith) in
+              let was : old_at d ≡ 1 = one_if_true (nat_lt 0 (times_parked good.shape (tally_of views) d) && nat_eq
+              (anchor_state (anchor m d)) empty_state)
               (and_is (nat_lt 0 (times_parked good.shape (tally_of views) d)) (nat_eq (anchor_state (anchor m d)) empty_state)
-              (lt-ltb 0 (times_parked good.shape (tally_of views) d) (let c = total_at (λ (x : View). times_classed d x.classed) views i v below_i at in omega arith)) (eq-eqb (anchor_state (anchor m d)) empty_state empty)) in
-              let is_none : times_parked g' t' d ≡ 0 = (let a = good.shaped.placed.one_place d in let limit = below_limit d (used m) in let b = lists_are d in let c = classed_are d in let n = eq-eqb-one d d refl in omega arith) in
+              (lt-ltb 0 (times_parked good.shape (tally_of views) d) (let c =
+              total_at (λ (x : View). times_classed d x.classed) views i v below_i at in omega arith))
+              (eq-eqb (anchor_state (anchor m d)) empty_state empty)) in
+              let is_none : times_parked g' t' d ≡ 0 = (let a = good.shaped.placed.one_place d in let limit = below_limit d (used m) in
+              let b = lists_are d in let c = classed_are d in let n = eq-eqb-one d d refl in omega arith) in
               let now : new_at d ≡ 0 = ap (λ n. one_if (nat_lt 0 n && nat_eq (anchor_state (anchor m d)) empty_state)) is_none in omega arith
 
   pub push : Good k m' (set views i (pushed v d))
   push = by_kind l refl may.listed where
     by_kind : (n : ℕ) → n ≡ l → MayList m v d n → Good k m' (set views i (pushed v d))
     by_kind n same (as_free list zero_list claimed empty) = elim (cases_lt 0 (times d v.raw + times d v.split)) [
-      | inl raw ↦ subst (λ t. Good k m' (set views i (cond t (pushed_raw v d) (pushed_classed v d)))) (sym (lt-ltb 0 (times d v.raw + times d v.split) raw)) (push_raw raw (sym same ∙ zero_list) empty)
-      | inr not_raw ↦ subst (λ t. Good k m' (set views i (cond t (pushed_raw v d) (pushed_classed v d)))) (sym (not-lt 0 (times d v.raw + times d v.split) not_raw))
+      | inl raw ↦ subst (λ t. Good k m' (set views i (cond t (pushed_raw v d) (pushed_classed v d))))
+          (sym (lt-ltb 0 (times d v.raw + times d v.split) raw)) (push_raw raw (sym same ∙ zero_list) empty)
+      | inr not_raw ↦ subst (λ t. Good k m' (set views i (cond t (pushed_raw v d) (pushed_classed v d))))
+          (sym (not-lt 0 (times d v.raw + times d v.split) not_raw))
           (push_moved (let c = claimed.claimed in let z = claimed.not_cutting in omega arith) (sym same ∙ zero_list) empty)
     ]
     by_kind n same (of_its_class list some claimed info_is state) =
-        subst (λ t. Good k m' (set views i (cond t (pushed_raw v d) (pushed_classed v d)))) (sym (not-lt 0 (times d v.raw + times d v.split) (let most = one_claim d in omega arith)))
+        subst (λ t. Good k m' (set views i (cond t (pushed_raw v d) (pushed_classed v d))))
+        (sym (not-lt 0 (times d v.raw + times d v.split) (let most = one_claim d in omega arith)))
         (push_class claimed (λ z. some (same ∙ z)) (info_is ∙ same))

@@ -41,7 +41,8 @@ shifted_role m v (Some (Large d n)) = refl
 shifted_role m v (Some (Split block)) = refl
 
 pub role_after : (m : Memory) (v : View) (event : Event) (found : ℕ) → role (view_after m v event found) ≡ role v
-role_after m v (Tick shift) found = either_way (nat_lt found v.setup.budget) (shifted m (drew v found) shift) (stopped v found) (role v) (shifted_role m (drew v found) shift) refl
+role_after m v (Tick shift) found = either_way (nat_lt found v.setup.budget) (shifted m (drew v found) shift) (stopped v found) (role v)
+    (shifted_role m (drew v found) shift) refl
 role_after m v (Load word) found = refl
 role_after m v (Store word value) found = stored_role _ (cell_at v.setup.capacity word) value
 role_after m v (Settle word) found = refl
@@ -51,12 +52,14 @@ role_after m v KeepUsed found = refl
 role_after m v (LookHead list) found = refl
 role_after m v LookLink found = refl
 role_after m v Pop found = either_way (nat_eq found (seen_word v.seen_head)) _ _ (role v) (claimed_role _ _ (seen_of v.seen_head)) refl
-role_after m v (Push d) found = either_way (nat_eq found (seen_word v.seen_head)) (pushed v d) _ (role v) (either_way (nat_lt 0 (times d v.raw + times d v.split)) (pushed_raw v d) (pushed_classed v d) (role v) refl refl) refl
+role_after m v (Push d) found = either_way (nat_eq found (seen_word v.seen_head)) (pushed v d) _ (role v)
+    (either_way (nat_lt 0 (times d v.raw + times d v.split)) (pushed_raw v d) (pushed_classed v d) (role v) refl refl) refl
 role_after m v (LookAnchor d) found = refl
 role_after m v (TakeAll d) found = either_way (nat_eq found (seen_word v.seen_anchor)) _ _ (role v) refl refl
 role_after m v (Give d) found = either_way (nat_eq found (seen_word v.seen_anchor)) (given v d) _ (role v) (given_role v d) refl where
   given_role : (u : View) (e : ℕ) → role (given u e) ≡ role u
   given_role u e = by_test (nat_eq (seen_word u.seen_anchor) full_anchor) where
-    by_test : (test : Bool) → role (cond test (claimed (record (won u) { batch = no_batch; seen_anchor = None; gives = u.gives + 1 }) e u.batch.class) (record (won u) { batch = no_batch; seen_anchor = None; gives = u.gives + 1 })) ≡ role u
+    by_test : (test : Bool) → role (cond test (claimed (record (won u) { batch = no_batch; seen_anchor = None; gives = u.gives + 1 })
+        e u.batch.class) (record (won u) { batch = no_batch; seen_anchor = None; gives = u.gives + 1 })) ≡ role u
     by_test true = claimed_role _ e u.batch.class
     by_test false = refl

@@ -22,9 +22,11 @@ use Rattle.core_model.proofs.OwnerLemmas.{in_blocks}
 
 -- the words of blocks by class, where one list changes
 pub in_classes_set : (word class n : ℕ) (lists : List (List ℕ)) (bs : List ℕ) → n < length lists
-    → times_in_classes word class (set lists n bs) + times_within (words_of_class (class + n)) word (get_or lists n []) ≡ times_in_classes word class lists + times_within (words_of_class (class + n)) word bs
+    → times_in_classes word class (set lists n bs) + times_within (words_of_class (class + n)) word
+    (get_or lists n []) ≡ times_in_classes word class lists + times_within (words_of_class (class + n)) word bs
 in_classes_set word class n [] bs below = absurd (omega arith)
-in_classes_set word class zero (cs ∷ lists) bs below = let same = ap (λ c. times_within (words_of_class c) word cs) (let e : class + 0 ≡ class = omega arith in e) in
+in_classes_set word class zero (cs ∷ lists) bs below = let same =
+    ap (λ c. times_within (words_of_class c) word cs) (let e : class + 0 ≡ class = omega arith in e) in
     let other = ap (λ c. times_within (words_of_class c) word bs) (let e : class + 0 ≡ class = omega arith in e) in omega arith
 in_classes_set word class (suc n) (cs ∷ lists) bs below = let rest = in_classes_set word (class + 1) n lists bs (omega arith) in
     let same = ap (λ c. times_within (words_of_class c) word (get_or lists n [])) (let e : class + 1 + n ≡ class + suc n = omega arith in e) in
@@ -34,42 +36,54 @@ pub within_append : (words word : ℕ) (bs cs : List ℕ) → times_within words
 within_append words word [] cs = omega arith
 within_append words word (b ∷ bs) cs = let rest = within_append words word bs cs in omega arith
 
-pub within_without : (words word b : ℕ) (bs : List ℕ) → 0 < times b bs → times_within words word (without b bs) + one_if (nat_le b word && nat_lt word (b + words)) ≡ times_within words word bs
+pub within_without : (words word b : ℕ) (bs : List ℕ) → 0 < times b bs
+    → times_within words word (without b bs) + one_if (nat_le b word && nat_lt word (b + words)) ≡ times_within words word bs
 within_without words word b [] some = absurd (omega arith)
-within_without words word b (x ∷ bs) some = elim (cases_eq x b) as (λ _. times_within words word (cond (nat_eq x b) bs (x ∷ without b bs)) + one_if (nat_le b word && nat_lt word (b + words)) ≡ one_if (nat_le x word && nat_lt word (x + words)) + times_within words word bs) [
-  | inl here ↦ subst (λ t. times_within words word (cond t bs (x ∷ without b bs)) + one_if (nat_le b word && nat_lt word (b + words)) ≡ one_if (nat_le x word && nat_lt word (x + words)) + times_within words word bs) (sym (eq-eqb x b here))
-      (let same = ap (λ y. one_if (nat_le y word && nat_lt word (y + words))) here in omega arith)
-  | inr other ↦ subst (λ t. times_within words word (cond t bs (x ∷ without b bs)) + one_if (nat_le b word && nat_lt word (b + words)) ≡ one_if (nat_le x word && nat_lt word (x + words)) + times_within words word bs) (sym (ne_eqb x b other))
-      (let none = ne-eqb-none x b other in let rest = within_without words word b bs (omega arith) in omega arith)
-]
+within_without words word b (x ∷ bs) some = elim (cases_eq x b) as
+    (λ _. times_within words word (cond (nat_eq x b) bs (x ∷ without b bs)) + one_if (nat_le b word && nat_lt word (b + words)) ≡ one_if
+    (nat_le x word && nat_lt word (x + words)) + times_within words word bs) [
+      | inl here ↦ subst (λ t. times_within words word (cond t bs (x ∷ without b bs)) + one_if (nat_le b word && nat_lt word (b + words)) ≡ one_if
+          (nat_le x word && nat_lt word (x + words)) + times_within words word bs) (sym (eq-eqb x b here))
+          (let same = ap (λ y. one_if (nat_le y word && nat_lt word (y + words))) here in omega arith)
+      | inr other ↦ subst (λ t. times_within words word (cond t bs (x ∷ without b bs)) + one_if (nat_le b word && nat_lt word (b + words)) ≡ one_if
+          (nat_le x word && nat_lt word (x + words)) + times_within words word bs) (sym (ne_eqb x b other))
+          (let none = ne-eqb-none x b other in let rest = within_without words word b bs (omega arith) in omega arith)
+    ]
 
 pub first_rest : (bs : List ℕ) → 1 ≤ length bs → bs ≡ first_of bs ∷ rest_of bs
 first_rest [] some = absurd (omega arith)
 first_rest (b ∷ bs) some = refl
 
 -- own words, where blocks only go from one place to another
-pub own_moved : (v w : View) → w.setup ≡ v.setup → w.roots ≡ v.roots → w.raw ≡ v.raw → w.split ≡ v.split → w.cutting ≡ v.cutting → w.classed ≡ v.classed → w.large ≡ v.large
+pub own_moved : (v w : View) → w.setup ≡ v.setup → w.roots ≡ v.roots → w.raw ≡ v.raw → w.split ≡ v.split → w.cutting ≡ v.cutting
+    → w.classed ≡ v.classed → w.large ≡ v.large
     → ((word : ℕ) → in_blocks w word ≡ in_blocks v word) → (cell : Cell) → times_own w cell ≡ times_own v cell
 own_moved v w setup roots raw split cutting classed large blocks used_cell = refl
 own_moved v w setup roots raw split cutting classed large blocks (head_cell list) = refl
-own_moved v w setup roots raw split cutting classed large blocks (info_cell d) = let a = ap (times d) raw in let b = ap (times d) split in let c = ap (times d) cutting in omega arith
-own_moved v w setup roots raw split cutting classed large blocks (anchor_cell d) = let a = ap (times d) raw in let b = ap (times d) split in let c = ap (times d) cutting in omega arith
-own_moved v w setup roots raw split cutting classed large blocks (link_cell d) = let a = ap (times d) raw in let b = ap (times d) split in let c = ap (times d) cutting in let e = ap (times_classed d) classed in omega arith
+own_moved v w setup roots raw split cutting classed large blocks (info_cell d) = let a = ap (times d) raw in let b = ap (times d) split in
+    let c = ap (times d) cutting in omega arith
+own_moved v w setup roots raw split cutting classed large blocks (anchor_cell d) = let a = ap (times d) raw in let b = ap (times d) split in
+    let c = ap (times d) cutting in omega arith
+own_moved v w setup roots raw split cutting classed large blocks (link_cell d) = let a = ap (times d) raw in let b = ap (times d) split in
+    let c = ap (times d) cutting in let e = ap (times_classed d) classed in omega arith
 own_moved v w setup roots raw split cutting classed large blocks (root_cell n) = ap (times n) roots
 own_moved v w setup roots raw split cutting classed large blocks (data_cell word) =
     let d = superblock_at v.setup.capacity word in
     let here = ap (λ (s : Setup). times_large (superblock_at s.capacity word) w.large + times_raw (superblock_at s.capacity word) w) setup in
-    let a = ap (times d) raw in let b = ap (times d) split in let c = ap (times d) cutting in let l = ap (times_large d) large in let e = blocks word in omega arith
+    let a = ap (times d) raw in let b = ap (times d) split in let c = ap (times d) cutting in let l = ap (times_large d) large in
+    let e = blocks word in omega arith
 own_moved v w setup roots raw split cutting classed large blocks no_cell = refl
 
-module _ (k : Setup) (m : Memory) (views : List View) (i : ℕ) (v : View) (below_i : i < length views) (at : get_or views i v ≡ v) (good : Good k m views) where
+module _ (k : Setup) (m : Memory) (views : List View) (i : ℕ) (v : View) (below_i : i < length views) (at : get_or views i v ≡ v)
+    (good : Good k m views) where
   seat : IsSeat k m good.shape v
   seat = seat_at k m views good i v below_i at
 
   -- a change of the seat's parts alone
   pub shift_step : (w : View) (g : CoreShape) → g.lists ≡ good.shape.lists → IsInShape k.capacity m g (tally_of (set views i w)) → IsSeat k m g w
       → counts w ≡ counts v → w.ticket ≡ v.ticket → w.roots ≡ v.roots → w.losses ≡ v.losses → stale m w ≤ stale m v
-      → empties k.capacity (anchor m) (times_parked g (tally_of (set views i w))) ≤ empties k.capacity (anchor m) (times_parked good.shape (tally_of views))
+      → empties k.capacity (anchor m) (times_parked g (tally_of (set views i w))) ≤ empties k.capacity (anchor m)
+      (times_parked good.shape (tally_of views))
       → Good k m (set views i w)
   shift_step w g same_lists shaped mine kept ticket roots losses stales empty = good_step k m m views i v w good g below_i at shaped mine
       (λ j u other b a h. record {
@@ -77,7 +91,8 @@ module _ (k : Setup) (m : Memory) (views : List View) (i : ℕ) (v : View) (belo
         claims = h.claims;
         blocks = h.blocks;
         knows = (let s = h.knows in record {
-          seen_head = subst (λ y. IsThere u.seen_head → KnowsHead k.capacity (head m) (link m) y (seen_of u.seen_head) (seen_word u.seen_head) u.seen_link) (sym same_lists) s.seen_head;
+          seen_head = subst (λ y. IsThere u.seen_head → KnowsHead k.capacity (head m) (link m) y (seen_of u.seen_head)
+              (seen_word u.seen_head) u.seen_link) (sym same_lists) s.seen_head;
           seen_used = s.seen_used;
           looked = s.looked;
           seen_anchor = s.seen_anchor;
@@ -87,16 +102,20 @@ module _ (k : Setup) (m : Memory) (views : List View) (i : ℕ) (v : View) (belo
         words = h.words;
         tickets = h.tickets;
       })
-      (adds_step k m m views i v w below_i at good.adds refl (ap (λ (c : Counts). c.draws) kept) (ap (λ (c : Counts). c.stopped) kept) roots (let t = ap one_if_some ticket in omega arith) (let t = ap (λ (c : Counts). c.taken) kept in omega arith))
+      (adds_step k m m views i v w below_i at good.adds refl (ap (λ (c : Counts). c.draws) kept) (ap (λ (c : Counts). c.stopped) kept) roots
+      (let t = ap one_if_some ticket in omega arith) (let t = ap (λ (c : Counts). c.taken) kept in omega arith))
       (record { mine = omega arith; more = let e = ap (λ (c : Counts). c.wins) kept in omega arith })
       (λ j u other b a. let e = ap (λ (c : Counts). c.wins) kept in omega arith)
-      (let old = good.moves in let g = total_same (λ (x : View). x.gives) views i v w below_i at (ap (λ (c : Counts). c.gives) kept) in let n = total_same (λ (x : View). x.moves) views i v w below_i at (ap (λ (c : Counts). c.moves) kept) in omega arith)
+      (let old = good.moves in let g = total_same (λ (x : View). x.gives) views i v w below_i at (ap (λ (c : Counts). c.gives) kept) in
+      let n = total_same (λ (x : View). x.moves) views i v w below_i at (ap (λ (c : Counts). c.moves) kept) in omega arith)
 
   -- blocks go from one place of the seat to another
-  moved : (w : View) → w.setup ≡ v.setup → w.roots ≡ v.roots → w.raw ≡ v.raw → w.split ≡ v.split → w.cutting ≡ v.cutting → w.classed ≡ v.classed → w.large ≡ v.large
+  moved : (w : View) → w.setup ≡ v.setup → w.roots ≡ v.roots → w.raw ≡ v.raw → w.split ≡ v.split → w.cutting ≡ v.cutting → w.classed ≡ v.classed
+      → w.large ≡ v.large
       → ((b : ℕ) → times_block b w ≡ times_block b v) → tally_of (set views i w) ≡ tally_of views
   moved w setup roots raw split cutting classed large blocks = λ j. record {
-    raw = λ d. (total_same (times_raw d) views i v w below_i at (let a = ap (times d) raw in let b = ap (times d) split in let c = ap (times d) cutting in let e : times_raw d w ≡ times_raw d v = omega arith in e)) j;
+    raw = λ d. (total_same (times_raw d) views i v w below_i at (let a = ap (times d) raw in let b = ap (times d) split in
+        let c = ap (times d) cutting in let e : times_raw d w ≡ times_raw d v = omega arith in e)) j;
     classed = λ d. (total_same (λ (x : View). times_classed d x.classed) views i v w below_i at (ap (times_classed d) classed)) j;
     large = λ d. (total_same (λ (x : View). times_large d x.large) views i v w below_i at (ap (times_large d) large)) j;
     blocks = λ b. (total_same (times_block b) views i v w below_i at (blocks b)) j;
@@ -109,12 +128,38 @@ module _ (k : Setup) (m : Memory) (views : List View) (i : ℕ) (v : View) (belo
   pub alloc : (class : ℕ) → MayAlloc v class → Good k m (set views i (after_alloc v class))
   alloc class may = shift_step w good.shape refl (subst (IsInShape k.capacity m good.shape) (sym tally) good.shaped)
       (let s = seat.set_up in record {
-        set_up = record { setup = s.setup; roots = s.roots; small = length-set v.small class (b ∷ of_class v.small class) ∙ s.small; caches = length-set v.caches class (rest_of cs) ∙ s.caches; looks = s.looks; volatile = s.volatile; durable = s.durable };
+        set_up = record {
+          setup = s.setup;
+          roots = s.roots;
+          small = length-set v.small class (b ∷ of_class v.small class) ∙ s.small;
+          caches = length-set v.caches class (rest_of cs) ∙ s.caches;
+          looks = s.looks;
+          volatile = s.volatile;
+          durable = s.durable;
+        };
         claims = seat.claims;
         blocks = blocks_now;
-        knows = (let n = seat.knows in record { seen_head = n.seen_head; seen_used = n.seen_used; looked = n.looked; seen_anchor = n.seen_anchor; seen_empty = n.seen_empty; floor = n.floor });
-        words = words_grow k.capacity m v w refl refl (λ cell. let e = own_moved v w refl refl refl refl refl refl refl in_same cell in omega arith) seat.words;
-        tickets = (let t = seat.tickets in record { ticket = t.ticket; last = t.last; used_look = t.used_look; head_looks = t.head_looks; counts = t.counts; state = t.state; looked_then = t.looked_then; gives = t.gives; cuts = t.cuts });
+        knows = (let n = seat.knows in record {
+          seen_head = n.seen_head;
+          seen_used = n.seen_used;
+          looked = n.looked;
+          seen_anchor = n.seen_anchor;
+          seen_empty = n.seen_empty;
+          floor = n.floor;
+        });
+        words = words_grow k.capacity m v w refl refl (λ cell. let e = own_moved v w refl refl refl refl refl refl refl in_same cell in
+            omega arith) seat.words;
+        tickets = (let t = seat.tickets in record {
+          ticket = t.ticket;
+          last = t.last;
+          used_look = t.used_look;
+          head_looks = t.head_looks;
+          counts = t.counts;
+          state = t.state;
+          looked_then = t.looked_then;
+          gives = t.gives;
+          cuts = t.cuts;
+        });
       })
       refl refl refl refl (omega arith) (let e = ap (λ t. empties k.capacity (anchor m) (times_parked good.shape t)) tally in omega arith) where
         w : View
@@ -133,33 +178,40 @@ module _ (k : Setup) (m : Memory) (views : List View) (i : ℕ) (v : View) (belo
         is_cs = first_rest cs may.cached
 
         blocks_same : (x : ℕ) → times_block x w ≡ times_block x v
-        blocks_same x = let s = total_lists x v.small class (b ∷ of_class v.small class) fits.0 in let c = total_lists x v.caches class (rest_of cs) fits.1 in let e = ap (times x) is_cs in omega arith
+        blocks_same x = let s = total_lists x v.small class (b ∷ of_class v.small class) fits.0 in
+            let c = total_lists x v.caches class (rest_of cs) fits.1 in let e = ap (times x) is_cs in omega arith
 
         in_same : (word : ℕ) → in_blocks w word ≡ in_blocks v word
-        in_same word = let s = in_classes_set word 0 class v.small (b ∷ of_class v.small class) fits.0 in let c = in_classes_set word 0 class v.caches (rest_of cs) fits.1 in
+        in_same word = let s = in_classes_set word 0 class v.small (b ∷ of_class v.small class) fits.0 in
+            let c = in_classes_set word 0 class v.caches (rest_of cs) fits.1 in
             let e = ap (times_within (words_of_class (0 + class)) word) is_cs in omega arith
 
         tally : tally_of (set views i w) ≡ tally_of views
         tally = moved w refl refl refl refl refl refl refl blocks_same
 
-        blocks_now : HasBlocks v.setup.capacity (info m) (next m) (set v.small class (b ∷ of_class v.small class)) (set v.caches class (rest_of cs)) v.batch
+        blocks_now : HasBlocks v.setup.capacity (info m) (next m) (set v.small class (b ∷ of_class v.small class))
+            (set v.caches class (rest_of cs)) v.batch
         blocks_now = let s = seat.blocks in record {
           held = λ n x some. elim (cases_eq n class) as (λ _. info m (superblock_at v.setup.capacity x) ≡ n) [
-            | inl same ↦ let e = ap (times x) (of_class_same v.small class (b ∷ of_class v.small class) n same fits.0) in elim (cases_lt 0 (times x (of_class v.small class))) [
-              | inl old ↦ s.held class x old ∙ sym same
-              | inr new ↦ s.cached class x (let z = ap (times x) is_cs in omega arith) ∙ sym same
-            ]
+            | inl same ↦ let e = ap (times x) (of_class_same v.small class (b ∷ of_class v.small class) n same fits.0) in
+                elim (cases_lt 0 (times x (of_class v.small class))) [
+                  | inl old ↦ s.held class x old ∙ sym same
+                  | inr new ↦ s.cached class x (let z = ap (times x) is_cs in omega arith) ∙ sym same
+                ]
             | inr other ↦ s.held n x (let e = ap (times x) (of_class_other v.small class (b ∷ of_class v.small class) n other) in omega arith)
           ];
           cached = λ n x some. elim (cases_eq n class) as (λ _. info m (superblock_at v.setup.capacity x) ≡ n) [
-            | inl same ↦ s.cached class x (let e = ap (times x) (of_class_same v.caches class (rest_of cs) n same fits.1) in let z = ap (times x) is_cs in omega arith) ∙ sym same
+            | inl same ↦ s.cached class x (let e = ap (times x) (of_class_same v.caches class (rest_of cs) n same fits.1) in
+                let z = ap (times x) is_cs in omega arith) ∙ sym same
             | inr other ↦ s.cached n x (let e = ap (times x) (of_class_other v.caches class (rest_of cs) n other) in omega arith)
           ];
           batched = s.batched;
-          cache_linked = λ n. elim (cases_eq n class) as (λ _. Walks (next m) (first_of (of_class (set v.caches class (rest_of cs)) n)) (of_class (set v.caches class (rest_of cs)) n)) [
-            | inl same ↦ subst (λ bs. Walks (next m) (first_of bs) bs) (sym (of_class_same v.caches class (rest_of cs) n same fits.1)) (rest_walks cs (s.cache_linked class))
-            | inr other ↦ subst (λ bs. Walks (next m) (first_of bs) bs) (sym (of_class_other v.caches class (rest_of cs) n other)) (s.cache_linked n)
-          ];
+          cache_linked = λ n. elim (cases_eq n class) as (λ _. Walks (next m) (first_of (of_class (set v.caches class (rest_of cs)) n))
+              (of_class (set v.caches class (rest_of cs)) n)) [
+                | inl same ↦ subst (λ bs. Walks (next m) (first_of bs) bs) (sym (of_class_same v.caches class (rest_of cs) n same fits.1))
+                    (rest_walks cs (s.cache_linked class))
+                | inr other ↦ subst (λ bs. Walks (next m) (first_of bs) bs) (sym (of_class_other v.caches class (rest_of cs) n other)) (s.cache_linked n)
+              ];
           batch_linked = s.batch_linked;
         } where
           rest_walks : (bs : List ℕ) → Walks (next m) (first_of bs) bs → Walks (next m) (first_of (rest_of bs)) (rest_of bs)
@@ -170,12 +222,38 @@ module _ (k : Setup) (m : Memory) (views : List View) (i : ℕ) (v : View) (belo
   pub free : (block : ℕ) → MayFree m v block → Good k m (set views i (after_free v (info m (superblock_at v.setup.capacity block)) block))
   free block may = shift_step w good.shape refl (subst (IsInShape k.capacity m good.shape) (sym tally) good.shaped)
       (let s = seat.set_up in record {
-        set_up = record { setup = s.setup; roots = s.roots; small = length-set v.small class (without block (of_class v.small class)) ∙ s.small; caches = length-set v.caches class (block ∷ cs) ∙ s.caches; looks = s.looks; volatile = s.volatile; durable = s.durable };
+        set_up = record {
+          setup = s.setup;
+          roots = s.roots;
+          small = length-set v.small class (without block (of_class v.small class)) ∙ s.small;
+          caches = length-set v.caches class (block ∷ cs) ∙ s.caches;
+          looks = s.looks;
+          volatile = s.volatile;
+          durable = s.durable;
+        };
         claims = seat.claims;
         blocks = blocks_now;
-        knows = (let n = seat.knows in record { seen_head = n.seen_head; seen_used = n.seen_used; looked = n.looked; seen_anchor = n.seen_anchor; seen_empty = n.seen_empty; floor = n.floor });
-        words = words_grow k.capacity m v w refl refl (λ cell. let e = own_moved v w refl refl refl refl refl refl refl in_same cell in omega arith) seat.words;
-        tickets = (let t = seat.tickets in record { ticket = t.ticket; last = t.last; used_look = t.used_look; head_looks = t.head_looks; counts = t.counts; state = t.state; looked_then = t.looked_then; gives = t.gives; cuts = t.cuts });
+        knows = (let n = seat.knows in record {
+          seen_head = n.seen_head;
+          seen_used = n.seen_used;
+          looked = n.looked;
+          seen_anchor = n.seen_anchor;
+          seen_empty = n.seen_empty;
+          floor = n.floor;
+        });
+        words = words_grow k.capacity m v w refl refl (λ cell. let e = own_moved v w refl refl refl refl refl refl refl in_same cell in
+            omega arith) seat.words;
+        tickets = (let t = seat.tickets in record {
+          ticket = t.ticket;
+          last = t.last;
+          used_look = t.used_look;
+          head_looks = t.head_looks;
+          counts = t.counts;
+          state = t.state;
+          looked_then = t.looked_then;
+          gives = t.gives;
+          cuts = t.cuts;
+        });
       })
       refl refl refl refl (omega arith) (let e = ap (λ t. empties k.capacity (anchor m) (times_parked good.shape t)) tally in omega arith) where
         class : ℕ
@@ -194,20 +272,25 @@ module _ (k : Setup) (m : Memory) (views : List View) (i : ℕ) (v : View) (belo
         out x = times_without x block (of_class v.small class) may.held
 
         blocks_same : (x : ℕ) → times_block x w ≡ times_block x v
-        blocks_same x = let s = total_lists x v.small class (without block (of_class v.small class)) fits.0 in let c = total_lists x v.caches class (block ∷ cs) fits.1 in let e = out x in omega arith
+        blocks_same x = let s = total_lists x v.small class (without block (of_class v.small class)) fits.0 in
+            let c = total_lists x v.caches class (block ∷ cs) fits.1 in let e = out x in omega arith
 
         in_same : (word : ℕ) → in_blocks w word ≡ in_blocks v word
-        in_same word = let s = in_classes_set word 0 class v.small (without block (of_class v.small class)) fits.0 in let c = in_classes_set word 0 class v.caches (block ∷ cs) fits.1 in
+        in_same word = let s = in_classes_set word 0 class v.small (without block (of_class v.small class)) fits.0 in
+            let c = in_classes_set word 0 class v.caches (block ∷ cs) fits.1 in
             let e = within_without (words_of_class (0 + class)) word block (of_class v.small class) may.held in omega arith
 
         tally : tally_of (set views i w) ≡ tally_of views
         tally = moved w refl refl refl refl refl refl refl blocks_same
 
-        blocks_now : HasBlocks v.setup.capacity (info m) (next m) (set v.small class (without block (of_class v.small class))) (set v.caches class (block ∷ cs)) v.batch
+        blocks_now : HasBlocks v.setup.capacity (info m) (next m) (set v.small class (without block (of_class v.small class)))
+            (set v.caches class (block ∷ cs)) v.batch
         blocks_now = let s = seat.blocks in record {
           held = λ n x some. elim (cases_eq n class) as (λ _. info m (superblock_at v.setup.capacity x) ≡ n) [
-            | inl same ↦ s.held class x (let e = ap (times x) (of_class_same v.small class (without block (of_class v.small class)) n same fits.0) in let o = out x in omega arith) ∙ sym same
-            | inr other ↦ s.held n x (let e = ap (times x) (of_class_other v.small class (without block (of_class v.small class)) n other) in omega arith)
+            | inl same ↦ s.held class x (let e = ap (times x) (of_class_same v.small class
+                (without block (of_class v.small class)) n same fits.0) in let o = out x in omega arith) ∙ sym same
+            | inr other ↦ s.held n x (let e = ap (times x) (of_class_other v.small class (without block (of_class v.small class)) n other) in
+                omega arith)
           ];
           cached = λ n x some. elim (cases_eq n class) as (λ _. info m (superblock_at v.setup.capacity x) ≡ n) [
             | inl same ↦ let e = ap (times x) (of_class_same v.caches class (block ∷ cs) n same fits.1) in elim (cases_eq block x) [
@@ -217,10 +300,12 @@ module _ (k : Setup) (m : Memory) (views : List View) (i : ℕ) (v : View) (belo
             | inr other ↦ s.cached n x (let e = ap (times x) (of_class_other v.caches class (block ∷ cs) n other) in omega arith)
           ];
           batched = s.batched;
-          cache_linked = λ n. elim (cases_eq n class) as (λ _. Walks (next m) (first_of (of_class (set v.caches class (block ∷ cs)) n)) (of_class (set v.caches class (block ∷ cs)) n)) [
-            | inl same ↦ subst (λ bs. Walks (next m) (first_of bs) bs) (sym (of_class_same v.caches class (block ∷ cs) n same fits.1)) (refl, in_front cs may.linked (s.cache_linked class))
-            | inr other ↦ subst (λ bs. Walks (next m) (first_of bs) bs) (sym (of_class_other v.caches class (block ∷ cs) n other)) (s.cache_linked n)
-          ];
+          cache_linked = λ n. elim (cases_eq n class) as (λ _. Walks (next m) (first_of (of_class (set v.caches class (block ∷ cs)) n))
+              (of_class (set v.caches class (block ∷ cs)) n)) [
+                | inl same ↦ subst (λ bs. Walks (next m) (first_of bs) bs) (sym (of_class_same v.caches class (block ∷ cs) n same fits.1))
+                    (refl, in_front cs may.linked (s.cache_linked class))
+                | inr other ↦ subst (λ bs. Walks (next m) (first_of bs) bs) (sym (of_class_other v.caches class (block ∷ cs) n other)) (s.cache_linked n)
+              ];
           batch_linked = s.batch_linked;
         } where
           in_front : (bs : List ℕ) → (1 ≤ length bs → next m block ≡ first_of bs) → Walks (next m) (first_of bs) bs → Walks (next m) (next m block) bs
@@ -231,19 +316,45 @@ module _ (k : Setup) (m : Memory) (views : List View) (i : ℕ) (v : View) (belo
   pub lift : (class : ℕ) → MayLift m v class → Good k m (set views i (after_lift v class))
   lift class may = shift_step w good.shape refl (subst (IsInShape k.capacity m good.shape) (sym tally) good.shaped)
       (let s = seat.set_up in record {
-        set_up = record { setup = s.setup; roots = s.roots; small = s.small; caches = length-set v.caches class (rest_of cs) ∙ s.caches; looks = s.looks; volatile = s.volatile; durable = s.durable };
+        set_up = record {
+          setup = s.setup;
+          roots = s.roots;
+          small = s.small;
+          caches = length-set v.caches class (rest_of cs) ∙ s.caches;
+          looks = s.looks;
+          volatile = s.volatile;
+          durable = s.durable;
+        };
         claims = seat.claims;
         blocks = blocks_now;
         knows = (let n = seat.knows in record {
           seen_head = n.seen_head;
           seen_used = n.seen_used;
           looked = n.looked;
-          seen_anchor = λ there. elim (n.seen_anchor there) [ inl claimed ↦ inl claimed | inr batch ↦ inr (sym (may.behind batch.1).same ∙ batch.0, counts_one v.batch.blocks b) ];
+          seen_anchor = λ there. elim (n.seen_anchor there) [
+            | inl claimed ↦ inl claimed
+            | inr batch ↦ inr (
+              sym (may.behind batch.1).same
+                  ∙ batch.0,
+              counts_one v.batch.blocks b,
+            )
+          ];
           seen_empty = n.seen_empty;
           floor = n.floor;
         });
-        words = words_grow k.capacity m v w refl refl (λ cell. let e = own_moved v w refl refl refl refl refl refl refl in_same cell in omega arith) seat.words;
-        tickets = (let t = seat.tickets in record { ticket = t.ticket; last = t.last; used_look = t.used_look; head_looks = t.head_looks; counts = t.counts; state = t.state; looked_then = t.looked_then; gives = t.gives; cuts = t.cuts });
+        words = words_grow k.capacity m v w refl refl (λ cell. let e = own_moved v w refl refl refl refl refl refl refl in_same cell in
+            omega arith) seat.words;
+        tickets = (let t = seat.tickets in record {
+          ticket = t.ticket;
+          last = t.last;
+          used_look = t.used_look;
+          head_looks = t.head_looks;
+          counts = t.counts;
+          state = t.state;
+          looked_then = t.looked_then;
+          gives = t.gives;
+          cuts = t.cuts;
+        });
       })
       refl refl refl refl (omega arith) (let e = ap (λ t. empties k.capacity (anchor m) (times_parked good.shape t)) tally in omega arith) where
         w : View
@@ -269,14 +380,16 @@ module _ (k : Setup) (m : Memory) (views : List View) (i : ℕ) (v : View) (belo
         info_b = seat.blocks.cached class b (let e = ap (times b) is_cs in let one = eq-eqb-one b b refl in omega arith)
 
         blocks_same : (x : ℕ) → times_block x w ≡ times_block x v
-        blocks_same x = let c = total_lists x v.caches class (rest_of cs) fits.1 in let e = ap (times x) is_cs in let a = times_append x v.batch.blocks (b ∷ []) in omega arith
+        blocks_same x = let c = total_lists x v.caches class (rest_of cs) fits.1 in let e = ap (times x) is_cs in
+            let a = times_append x v.batch.blocks (b ∷ []) in omega arith
 
         -- the batch's own class, where it has blocks
         same_class : 1 ≤ length v.batch.blocks → v.batch.class ≡ class
         same_class some = let behind = may.behind some in let q = seat.blocks.batched (first_of v.batch.blocks) (first_there v.batch.blocks some) in
             sym q.1 ∙ ap (info m) behind.same ∙ info_b
 
-        batch_within : (word : ℕ) → times_within (words_of_class class) word v.batch.blocks ≡ times_within (words_of_class v.batch.class) word v.batch.blocks
+        batch_within : (word : ℕ) → times_within (words_of_class class) word v.batch.blocks ≡ times_within
+            (words_of_class v.batch.class) word v.batch.blocks
         batch_within word = elim (cases_lt 0 (length v.batch.blocks)) [
           | inl some ↦ ap (λ c. times_within (words_of_class c) word v.batch.blocks) (sym (same_class some))
           | inr none ↦ of_none v.batch.blocks none
@@ -286,9 +399,11 @@ module _ (k : Setup) (m : Memory) (views : List View) (i : ℕ) (v : View) (belo
           of_none (x ∷ bs) e = absurd (omega arith)
 
         in_same : (word : ℕ) → in_blocks w word ≡ in_blocks v word
-        in_same word = let c = in_classes_set word 0 class v.caches (rest_of cs) fits.1 in let e = ap (times_within (words_of_class (0 + class)) word) is_cs in
+        in_same word = let c = in_classes_set word 0 class v.caches (rest_of cs) fits.1 in
+            let e = ap (times_within (words_of_class (0 + class)) word) is_cs in
             let a = within_append (words_of_class class) word v.batch.blocks (b ∷ []) in let z = batch_within word in
-            let same = ap (λ n. one_if (nat_le b word && nat_lt word (b + words_of_class n))) (let q : 0 + class ≡ class = omega arith in q) in omega arith
+            let same = ap (λ n. one_if (nat_le b word && nat_lt word (b + words_of_class n))) (let q : 0 + class ≡ class = omega arith in q) in
+            omega arith
 
         tally : tally_of (set views i w) ≡ tally_of views
         tally = moved w refl refl refl refl refl refl refl blocks_same
@@ -297,7 +412,8 @@ module _ (k : Setup) (m : Memory) (views : List View) (i : ℕ) (v : View) (belo
         blocks_now = let s = seat.blocks in record {
           held = s.held;
           cached = λ n x some. elim (cases_eq n class) as (λ _. info m (superblock_at v.setup.capacity x) ≡ n) [
-            | inl same ↦ s.cached class x (let e = ap (times x) (of_class_same v.caches class (rest_of cs) n same fits.1) in let z = ap (times x) is_cs in omega arith) ∙ sym same
+            | inl same ↦ s.cached class x (let e = ap (times x) (of_class_same v.caches class (rest_of cs) n same fits.1) in
+                let z = ap (times x) is_cs in omega arith) ∙ sym same
             | inr other ↦ s.cached n x (let e = ap (times x) (of_class_other v.caches class (rest_of cs) n other) in omega arith)
           ];
           batched = λ x some. (
@@ -307,10 +423,12 @@ module _ (k : Setup) (m : Memory) (views : List View) (i : ℕ) (v : View) (belo
             ],
             info_b,
           );
-          cache_linked = λ n. elim (cases_eq n class) as (λ _. Walks (next m) (first_of (of_class (set v.caches class (rest_of cs)) n)) (of_class (set v.caches class (rest_of cs)) n)) [
-            | inl same ↦ subst (λ bs. Walks (next m) (first_of bs) bs) (sym (of_class_same v.caches class (rest_of cs) n same fits.1)) (rest_walks cs (s.cache_linked class))
-            | inr other ↦ subst (λ bs. Walks (next m) (first_of bs) bs) (sym (of_class_other v.caches class (rest_of cs) n other)) (s.cache_linked n)
-          ];
+          cache_linked = λ n. elim (cases_eq n class) as (λ _. Walks (next m) (first_of (of_class (set v.caches class (rest_of cs)) n))
+              (of_class (set v.caches class (rest_of cs)) n)) [
+                | inl same ↦ subst (λ bs. Walks (next m) (first_of bs) bs) (sym (of_class_same v.caches class (rest_of cs) n same fits.1))
+                    (rest_walks cs (s.cache_linked class))
+                | inr other ↦ subst (λ bs. Walks (next m) (first_of bs) bs) (sym (of_class_other v.caches class (rest_of cs) n other)) (s.cache_linked n)
+              ];
           batch_linked = behind_batch v.batch.blocks (λ some. (may.behind some).linked) s.batch_linked;
         } where
           rest_walks : (bs : List ℕ) → Walks (next m) (first_of bs) bs → Walks (next m) (first_of (rest_of bs)) (rest_of bs)
@@ -324,6 +442,7 @@ module _ (k : Setup) (m : Memory) (views : List View) (i : ℕ) (v : View) (belo
           is_new : (y x : ℕ) → 0 < times x (y ∷ []) → y ≡ x
           is_new y x some = elim (cases_eq y x) [ inl same ↦ same | inr other ↦ absurd (let n = ne-eqb-none y x other in omega arith) ]
 
-          behind_batch : (bs : List ℕ) → (1 ≤ length bs → next m (last_of bs) ≡ b) → Walks (next m) (first_of bs) bs → Walks (next m) (first_of (bs ++ b ∷ [])) (bs ++ b ∷ [])
+          behind_batch : (bs : List ℕ) → (1 ≤ length bs → next m (last_of bs) ≡ b) → Walks (next m) (first_of bs) bs
+              → Walks (next m) (first_of (bs ++ b ∷ [])) (bs ++ b ∷ [])
           behind_batch [] leads walk = (refl, tt)
           behind_batch (x ∷ bs) leads walk = walks_append (next m) x (x ∷ bs) (b ∷ []) walk (after_last (next m) x x bs walk ∙ leads (omega arith), tt)

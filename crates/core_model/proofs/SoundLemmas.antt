@@ -21,7 +21,8 @@ use Rattle.core_model.proofs.PlaceLemmas.{cell_there, index_within}
 use Rattle.core_model.proofs.TableLemmas.{is_place, memory_set, fixed_apart}
 use Rattle.core_model.proofs.KeptLemmas.{kept}
 
-module _ (k : Setup) (m : Memory) (views : List View) (i : ℕ) (v : View) (below_i : i < length views) (at : get_or views i v ≡ v) (good : Good k m views) where
+module _ (k : Setup) (m : Memory) (views : List View) (i : ℕ) (v : View) (below_i : i < length views) (at : get_or views i v ≡ v)
+    (good : Good k m views) where
   cap : v.setup.capacity ≡ k.capacity
   cap = ap (λ (s : Setup). s.capacity) (good.set_up i v below_i at).setup
 
@@ -35,12 +36,14 @@ module _ (k : Setup) (m : Memory) (views : List View) (i : ℕ) (v : View) (belo
   pub taken : (d : ℕ) → 0 < times_raw d v + times_classed d v.classed → d < k.capacity
   taken d some = elim (cases_lt d (used m)) [
     | inl less ↦ let r = good.shaped.durable.room in omega arith
-    | inr past ↦ absurd (let raw = total_at (times_raw d) views i v below_i at in let classed = total_at (λ (u : View). times_classed d u.classed) views i v below_i at in
+    | inr past ↦ absurd (let raw = total_at (times_raw d) views i v below_i at in
+        let classed = total_at (λ (u : View). times_classed d u.classed) views i v below_i at in
         let p = good.shaped.placed.one_place d in let none = below_not d (used m) past in omega arith)
   ]
 
   pub batched : (d : ℕ) → v.batch.descriptor ≡ d → 1 ≤ length v.batch.blocks → d < k.capacity
-  batched d of some = let b = first_of v.batch.blocks in let there = first_there v.batch.blocks some in let t = total_at (times_block b) views i v below_i at in
+  batched d of some = let b = first_of v.batch.blocks in let there = first_there v.batch.blocks some in
+      let t = total_at (times_block b) views i v below_i at in
       let cut = (good.shaped.chained.inside b (omega arith)).0 in
       let here : superblock_at k.capacity b ≡ d = ap (λ c. superblock_at c b) (sym cap) ∙ ((good.blocks i v below_i at).batched b there).0 ∙ of in
       let c = ap (times_cut good.shape (tally_of views)) here in
@@ -57,26 +60,34 @@ module _ (k : Setup) (m : Memory) (views : List View) (i : ℕ) (v : View) (belo
   in_table KeepUsed may = refl
   in_table (LookHead list) may = lt-ltb list lists may.ready
   in_table LookLink may = let h = (good.knows i v below_i at).seen_head may.ready.is_seen in
-      lt-ltb (before (head_first (seen_word v.seen_head))) k.capacity (let s = h.small in let b = before_less (head_first (seen_word v.seen_head)) may.ready.some in omega arith) where
+      lt-ltb (before (head_first (seen_word v.seen_head))) k.capacity (let s = h.small in
+      let b = before_less (head_first (seen_word v.seen_head)) may.ready.some in omega arith) where
         before_less : (n : ℕ) → n ≢ 0 → before n < n
         before_less zero some = absurd (some refl)
         before_less (suc n) some = omega arith
   in_table Pop may = lt-ltb (seen_of v.seen_head) lists ((good.knows i v below_i at).seen_head may.ready.is_seen).is_list
   in_table (Push d) may = lt-ltb (seen_of v.seen_head) lists ((good.knows i v below_i at).seen_head may.ready.is_seen).is_list
-  in_table (LookAnchor d) may = lt-ltb d k.capacity (elim may.ready [ inl claimed ↦ taken d (let c = claimed.claimed in omega arith) | inr batch ↦ batched d batch.0 batch.1 ])
+  in_table (LookAnchor d) may = lt-ltb d k.capacity (elim may.ready [
+    | inl claimed ↦ taken d (let c = claimed.claimed in
+        omega arith)
+    | inr batch ↦ batched d batch.0 batch.1
+  ])
   in_table (TakeAll d) may = lt-ltb d k.capacity (taken d (let c = may.ready.claimed in omega arith))
   in_table (Give d) may = lt-ltb d k.capacity (batched d may.ready.batch may.ready.some)
 
 -- a step of a seat, won or lost, keeps the state sound
-pub sound_step : (k : Setup) (words : List ℕ) (views : List View) (i : ℕ) (v : View) (event : Event) → i < length views → get_or views i v ≡ v → Sound k words views
-    → MayStep (memory_of k.capacity words) v event → Sound k (words_after k words v event) (set views i (seat_after (memory_of k.capacity words) v event))
+pub sound_step : (k : Setup) (words : List ℕ) (views : List View) (i : ℕ) (v : View) (event : Event) → i < length views → get_or views i v ≡ v
+    → Sound k words views
+    → MayStep (memory_of k.capacity words) v event → Sound k (words_after k words v event)
+    (set views i (seat_after (memory_of k.capacity words) v event))
 sound_step k words views i v event below_i at sound may = record {
   some = sound.some;
   capacity = sound.capacity;
   used = sound.used;
   long = length-set words (table_index k.capacity p) x ∙ sound.long;
   fixed = λ word is. let old = sound.fixed word is in (fixed_same p there word is ∙ old.0, fixed_durable p there word is ∙ old.1);
-  good = subst (λ n. Good k n (set views i (seat_after m v event))) (sym (memory_set k.capacity words p x sound.long there)) (kept k m views i v below_i at sound.good event may);
+  good = subst (λ n. Good k n (set views i (seat_after m v event))) (sym (memory_set k.capacity words p x sound.long there))
+      (kept k m views i v below_i at sound.good event may);
 } where
   m : Memory
   m = memory_of k.capacity words
@@ -90,18 +101,27 @@ sound_step k words views i v event below_i at sound may = record {
   there : is_place k.capacity p ≡ true
   there = in_table k m views i v below_i at sound.good event may
 
-  fixed_same : (q : StepPlace) → is_place k.capacity q ≡ true → (word : ℕ) → IsFixed k.capacity word → get_or (set words (table_index k.capacity q) x) word 0 ≡ get_or words word 0
-  fixed_same (volatile_at cell) is word fixed = get_or-set_other words (index_of cell) word x 0 (λ z. (fixed_apart k.capacity word cell fixed is).0 (sym z))
-  fixed_same (durable_at cell) is word fixed = get_or-set_other words (image_words k.capacity + index_of cell) word x 0 (λ z. let w = (fixed_apart k.capacity word cell fixed is).1 in omega (arith, z, w))
-  fixed_same tickets is word fixed = get_or-set_other words (2 * image_words k.capacity) word x 0 (λ z. let w = (fixed_apart k.capacity word used_cell fixed refl).1 in omega (arith, z, w))
+  fixed_same : (q : StepPlace) → is_place k.capacity q ≡ true → (word : ℕ) → IsFixed k.capacity word
+      → get_or (set words (table_index k.capacity q) x) word 0 ≡ get_or words word 0
+  fixed_same (volatile_at cell) is word fixed = get_or-set_other words (index_of cell) word x 0
+      (λ z. (fixed_apart k.capacity word cell fixed is).0 (sym z))
+  fixed_same (durable_at cell) is word fixed = get_or-set_other words (image_words k.capacity + index_of cell) word x 0
+      (λ z. let w = (fixed_apart k.capacity word cell fixed is).1 in omega (arith, z, w))
+  fixed_same tickets is word fixed = get_or-set_other words (2 * image_words k.capacity) word x 0
+      (λ z. let w = (fixed_apart k.capacity word used_cell fixed refl).1 in omega (arith, z, w))
 
-  fixed_durable : (q : StepPlace) → is_place k.capacity q ≡ true → (word : ℕ) → IsFixed k.capacity word → get_or (set words (table_index k.capacity q) x) (image_words k.capacity + word) 0 ≡ get_or words (image_words k.capacity + word) 0
-  fixed_durable (volatile_at cell) is word fixed = get_or-set_other words (index_of cell) (image_words k.capacity + word) x 0 (λ z. let w = index_within k.capacity cell is in omega (arith, z, w))
-  fixed_durable (durable_at cell) is word fixed = get_or-set_other words (image_words k.capacity + index_of cell) (image_words k.capacity + word) x 0 (λ z. (fixed_apart k.capacity word cell fixed is).0 (omega (arith, z)))
-  fixed_durable tickets is word fixed = get_or-set_other words (2 * image_words k.capacity) (image_words k.capacity + word) x 0 (λ z. let w = (fixed_apart k.capacity word used_cell fixed refl).1 in omega (arith, z, w))
+  fixed_durable : (q : StepPlace) → is_place k.capacity q ≡ true → (word : ℕ) → IsFixed k.capacity word
+      → get_or (set words (table_index k.capacity q) x) (image_words k.capacity + word) 0 ≡ get_or words (image_words k.capacity + word) 0
+  fixed_durable (volatile_at cell) is word fixed = get_or-set_other words (index_of cell) (image_words k.capacity + word) x 0
+      (λ z. let w = index_within k.capacity cell is in omega (arith, z, w))
+  fixed_durable (durable_at cell) is word fixed = get_or-set_other words (image_words k.capacity + index_of cell)
+      (image_words k.capacity + word) x 0 (λ z. (fixed_apart k.capacity word cell fixed is).0 (omega (arith, z)))
+  fixed_durable tickets is word fixed = get_or-set_other words (2 * image_words k.capacity) (image_words k.capacity + word) x 0
+      (λ z. let w = (fixed_apart k.capacity word used_cell fixed refl).1 in omega (arith, z, w))
 
 -- and so does every list of events
-pub sound_runs : (k : Setup) (s s' : TableState) (events : List (ℕ × Event)) (answers : List StepAnswer) → Sound k s.words s.views → Runs k s events answers s' → Sound k s'.words s'.views
+pub sound_runs : (k : Setup) (s s' : TableState) (events : List (ℕ × Event)) (answers : List StepAnswer) → Sound k s.words s.views
+    → Runs k s events answers s' → Sound k s'.words s'.views
 sound_runs k s s' [] [] sound runs = subst (λ (x : TableState). Sound k x.words x.views) runs sound
 sound_runs k s s' [] (answer ∷ answers) sound runs = absurd runs
 sound_runs k s s' (e ∷ events) [] sound runs = absurd runs
@@ -113,10 +133,12 @@ sound_runs k s s' (e ∷ events) (answer ∷ answers) sound runs = sound_runs k 
   after_one a next (has_stopped v step at stop) = sound
 
 -- a place of the table has a word there
-pub in_length : (k : Setup) (s : TableState) (i : ℕ) (v : View) (event : Event) → i < length s.views → get_or s.views i v ≡ v → Sound k s.words s.views → MayStep (memory_of k.capacity s.words) v event
+pub in_length : (k : Setup) (s : TableState) (i : ℕ) (v : View) (event : Event) → i < length s.views → get_or s.views i v ≡ v
+    → Sound k s.words s.views → MayStep (memory_of k.capacity s.words) v event
     → table_index k.capacity (place_of v event) < length s.words
-in_length k s i v event below at sound may = by_place (place_of v event) (in_table k (memory_of k.capacity s.words) s.views i v below at sound.good event may) where
-  by_place : (p : StepPlace) → is_place k.capacity p ≡ true → table_index k.capacity p < length s.words
-  by_place (volatile_at cell) is = let w = index_within k.capacity cell is in let l = sound.long in omega arith
-  by_place (durable_at cell) is = let w = index_within k.capacity cell is in let l = sound.long in omega arith
-  by_place tickets is = let l = sound.long in omega arith
+in_length k s i v event below at sound may = by_place (place_of v event)
+    (in_table k (memory_of k.capacity s.words) s.views i v below at sound.good event may) where
+      by_place : (p : StepPlace) → is_place k.capacity p ≡ true → table_index k.capacity p < length s.words
+      by_place (volatile_at cell) is = let w = index_within k.capacity cell is in let l = sound.long in omega arith
+      by_place (durable_at cell) is = let w = index_within k.capacity cell is in let l = sound.long in omega arith
+      by_place tickets is = let l = sound.long in omega arith

@@ -28,23 +28,29 @@ cases_cell cell at = by_test (same_cell cell at) refl where
 
 -- words that begin at an offset, where one is written
 reads : (c offset : ℕ) (words : List ℕ) (at : Cell) (x : ℕ) → is_cell c at ≡ true → offset + image_words c ≤ length words → (cell : Cell)
-    → cond (is_cell c cell) (get_or (set words (offset + index_of at) x) (offset + index_of cell) 0) 0 ≡ with_cell (λ y. cond (is_cell c y) (get_or words (offset + index_of y) 0) 0) at x cell
+    → cond (is_cell c cell) (get_or (set words (offset + index_of at) x) (offset + index_of cell) 0) 0 ≡ with_cell
+    (λ y. cond (is_cell c y) (get_or words (offset + index_of y) 0) 0) at x cell
 reads c offset words at x is long cell = elim (cases_cell cell at) [
   | inl same ↦ pick (is_cell c cell) _ _ (ap (is_cell c) same ∙ is)
-      ∙ get_or-set_at words (offset + index_of at) (offset + index_of cell) x 0 (ap (λ y. offset + index_of y) same) (let w = index_within c at is in omega arith)
+      ∙ get_or-set_at words (offset + index_of at) (offset + index_of cell) x 0 (ap (λ y. offset + index_of y) same)
+      (let w = index_within c at is in omega arith)
       ∙ sym (with_same (λ y. cond (is_cell c y) (get_or words (offset + index_of y) 0) 0) at x cell same)
-  | inr other ↦ by_cell (is_cell c cell) refl other ∙ sym (with_other (λ y. cond (is_cell c y) (get_or words (offset + index_of y) 0) 0) at x cell other)
+  | inr other ↦ by_cell (is_cell c cell) refl other ∙ sym (with_other
+      (λ y. cond (is_cell c y) (get_or words (offset + index_of y) 0) 0) at x cell other)
 ] where
   by_cell : (test : Bool) → is_cell c cell ≡ test → (cell ≡ at → ⊥)
-      → cond (is_cell c cell) (get_or (set words (offset + index_of at) x) (offset + index_of cell) 0) 0 ≡ cond (is_cell c cell) (get_or words (offset + index_of cell) 0) 0
-  by_cell true e other = ap (λ n. cond (is_cell c cell) n 0) (get_or-set_other words (offset + index_of at) (offset + index_of cell) x 0 (λ z. other (index_one c cell at e is (omega (arith, z)))))
+      → cond (is_cell c cell) (get_or (set words (offset + index_of at) x) (offset + index_of cell) 0) 0 ≡ cond (is_cell c cell)
+      (get_or words (offset + index_of cell) 0) 0
+  by_cell true e other = ap (λ n. cond (is_cell c cell) n 0) (get_or-set_other words (offset + index_of at) (offset + index_of cell) x 0
+      (λ z. other (index_one c cell at e is (omega (arith, z)))))
   by_cell false e other = skip (is_cell c cell) _ _ e ∙ sym (skip (is_cell c cell) _ _ e)
 
 -- words that are not written
 unread : (c offset : ℕ) (words : List ℕ) (at x : ℕ) → ((cell : Cell) → is_cell c cell ≡ true → offset + index_of cell ≢ at) → (cell : Cell)
     → cond (is_cell c cell) (get_or (set words at x) (offset + index_of cell) 0) 0 ≡ cond (is_cell c cell) (get_or words (offset + index_of cell) 0) 0
 unread c offset words at x apart cell = by_cell (is_cell c cell) refl where
-  by_cell : (test : Bool) → is_cell c cell ≡ test → cond (is_cell c cell) (get_or (set words at x) (offset + index_of cell) 0) 0 ≡ cond (is_cell c cell) (get_or words (offset + index_of cell) 0) 0
+  by_cell : (test : Bool) → is_cell c cell ≡ test → cond (is_cell c cell) (get_or (set words at x) (offset + index_of cell) 0) 0 ≡ cond
+      (is_cell c cell) (get_or words (offset + index_of cell) 0) 0
   by_cell true e = ap (λ n. cond (is_cell c cell) n 0) (get_or-set_other words at (offset + index_of cell) x 0 (apart cell e))
   by_cell false e = skip (is_cell c cell) _ _ e ∙ sym (skip (is_cell c cell) _ _ e)
 
@@ -52,7 +58,8 @@ zero_plus : (n : ℕ) → 0 + n ≡ n
 zero_plus n = omega arith
 
 -- the memory of a table in which one place is written
-pub memory_set : (c : ℕ) (words : List ℕ) (p : StepPlace) (x : ℕ) → length words ≡ table_length c → is_place c p ≡ true → memory_of c (set words (table_index c p) x) ≡ write (memory_of c words) p x
+pub memory_set : (c : ℕ) (words : List ℕ) (p : StepPlace) (x : ℕ) → length words ≡ table_length c → is_place c p ≡ true
+    → memory_of c (set words (table_index c p) x) ≡ write (memory_of c words) p x
 memory_set c words (volatile_at at) x long is = λ j. record {
   volatile = λ cell. (ap (λ n. cond (is_cell c cell) (get_or (set words n x) (index_of cell) 0) 0) (sym (zero_plus (index_of at)))
       ∙ ap (λ n. cond (is_cell c cell) (get_or (set words (0 + index_of at) x) n 0) 0) (sym (zero_plus (index_of cell)))
@@ -84,23 +91,29 @@ no_cell_at c word (inl first) (info_cell d) e z = omega (arith, z, first)
 no_cell_at c word (inl first) (anchor_cell d) e z = omega (arith, z, first)
 no_cell_at c word (inl first) (link_cell d) e z = omega (arith, z, first)
 no_cell_at c word (inl first) (root_cell n) e z = omega (arith, z, first)
-no_cell_at c word (inl first) (data_cell n) e z = let low : start_word c 0 ≤ n = leb-true (start_word c 0) n (and_both (nat_le (start_word c 0) n) (nat_lt n (superblocks_end c)) e).0 in omega (arith, z, first, low)
+no_cell_at c word (inl first) (data_cell n) e z = let low : start_word c 0 ≤ n =
+    leb-true (start_word c 0) n (and_both (nat_le (start_word c 0) n) (nat_lt n (superblocks_end c)) e).0 in omega (arith, z, first, low)
 no_cell_at c word (inl first) no_cell e z = true≢false (sym e)
 no_cell_at c word (inr (inl (in_header w past before_roots not_used around))) used_cell e z = not_used (sym z)
-no_cell_at c word (inr (inl (in_header w past before_roots not_used around))) (head_cell list) e z = let less : list < lists = ltb-true list lists e in elim around as (λ _. ⊥) [ inl low ↦ omega (arith, z, less, low) | inr high ↦ omega (arith, z, less, high) ]
+no_cell_at c word (inr (inl (in_header w past before_roots not_used around))) (head_cell list) e z = let less : list < lists =
+    ltb-true list lists e in elim around as (λ _. ⊥) [ inl low ↦ omega (arith, z, less, low) | inr high ↦ omega (arith, z, less, high) ]
 no_cell_at c word (inr (inl (in_header w past before_roots not_used around))) (info_cell d) e z = omega (arith, z, before_roots)
 no_cell_at c word (inr (inl (in_header w past before_roots not_used around))) (anchor_cell d) e z = omega (arith, z, before_roots)
 no_cell_at c word (inr (inl (in_header w past before_roots not_used around))) (link_cell d) e z = omega (arith, z, before_roots)
 no_cell_at c word (inr (inl (in_header w past before_roots not_used around))) (root_cell n) e z = omega (arith, z, before_roots)
-no_cell_at c word (inr (inl (in_header w past before_roots not_used around))) (data_cell n) e z = let low : start_word c 0 ≤ n = leb-true (start_word c 0) n (and_both (nat_le (start_word c 0) n) (nat_lt n (superblocks_end c)) e).0 in omega (arith, z, before_roots, low)
+no_cell_at c word (inr (inl (in_header w past before_roots not_used around))) (data_cell n) e z = let low : start_word c 0 ≤ n =
+    leb-true (start_word c 0) n (and_both (nat_le (start_word c 0) n) (nat_lt n (superblocks_end c)) e).0 in omega (arith, z, before_roots, low)
 no_cell_at c word (inr (inl (in_header w past before_roots not_used around))) no_cell e z = true≢false (sym e)
 no_cell_at c word (inr (inl (in_descriptor d at w less low high same))) used_cell e z = omega (arith, z, same)
-no_cell_at c word (inr (inl (in_descriptor d at w less low high same))) (head_cell list) e z = let l : list < lists = ltb-true list lists e in omega (arith, z, same, l)
+no_cell_at c word (inr (inl (in_descriptor d at w less low high same))) (head_cell list) e z = let l : list < lists = ltb-true list lists e in
+    omega (arith, z, same, l)
 no_cell_at c word (inr (inl (in_descriptor d at w less low high same))) (info_cell f) e z = omega (arith, z, same, low, high)
 no_cell_at c word (inr (inl (in_descriptor d at w less low high same))) (anchor_cell f) e z = omega (arith, z, same, low, high)
 no_cell_at c word (inr (inl (in_descriptor d at w less low high same))) (link_cell f) e z = omega (arith, z, same, low, high)
-no_cell_at c word (inr (inl (in_descriptor d at w less low high same))) (root_cell n) e z = let l : n < 1024 = ltb-true n 1024 e in omega (arith, z, same, l)
-no_cell_at c word (inr (inl (in_descriptor d at w less low high same))) (data_cell n) e z = let l : start_word c 0 ≤ n = leb-true (start_word c 0) n (and_both (nat_le (start_word c 0) n) (nat_lt n (superblocks_end c)) e).0 in omega (arith, z, same, l, less, high)
+no_cell_at c word (inr (inl (in_descriptor d at w less low high same))) (root_cell n) e z = let l : n < 1024 = ltb-true n 1024 e in
+    omega (arith, z, same, l)
+no_cell_at c word (inr (inl (in_descriptor d at w less low high same))) (data_cell n) e z = let l : start_word c 0 ≤ n =
+    leb-true (start_word c 0) n (and_both (nat_le (start_word c 0) n) (nat_lt n (superblocks_end c)) e).0 in omega (arith, z, same, l, less, high)
 no_cell_at c word (inr (inl (in_descriptor d at w less low high same))) no_cell e z = true≢false (sym e)
 no_cell_at c word (inr (inr kind)) used_cell e z = let from = kind.from in omega (arith, z)
 no_cell_at c word (inr (inr kind)) (head_cell list) e z = let from = kind.from in let less : list < lists = ltb-true list lists e in omega (arith, z)
@@ -108,7 +121,9 @@ no_cell_at c word (inr (inr kind)) (info_cell d) e z = let from = kind.from in l
 no_cell_at c word (inr (inr kind)) (anchor_cell d) e z = let from = kind.from in let less : d < c = ltb-true d c e in omega (arith, z)
 no_cell_at c word (inr (inr kind)) (link_cell d) e z = let from = kind.from in let less : d < c = ltb-true d c e in omega (arith, z)
 no_cell_at c word (inr (inr kind)) (root_cell n) e z = let from = kind.from in let less : n < 1024 = ltb-true n 1024 e in omega (arith, z)
-no_cell_at c word (inr (inr kind)) (data_cell n) e z = let from = kind.from in let less : n < superblocks_end c = ltb-true n (superblocks_end c) (and_both (nat_le (start_word c 0) n) (nat_lt n (superblocks_end c)) e).1 in omega (arith, z)
+no_cell_at c word (inr (inr kind)) (data_cell n) e z = let from = kind.from in
+    let less : n < superblocks_end c = ltb-true n (superblocks_end c)
+    (and_both (nat_le (start_word c 0) n) (nat_lt n (superblocks_end c)) e).1 in omega (arith, z)
 no_cell_at c word (inr (inr kind)) no_cell e z = true≢false (sym e)
 
 -- and it lies in the image

@@ -15,12 +15,14 @@ pub ne-eqb-none : (n l : ℕ) → n ≢ l → one_if (nat_eq n l) ≡ 0
 ne-eqb-none n l other = one_if_false (nat_eq n l) (λ e. other (eqb-true n l e))
 
 -- the member at an index, and its sum
-pub total_set : {A : Type 0} (f : A → ℕ) (xs : List A) (i : ℕ) (v w : A) → i < length xs → get_or xs i v ≡ v → total f (set xs i w) + f v ≡ total f xs + f w
+pub total_set : {A : Type 0} (f : A → ℕ) (xs : List A) (i : ℕ) (v w : A) → i < length xs → get_or xs i v ≡ v
+    → total f (set xs i w) + f v ≡ total f xs + f w
 total_set f [] i v w below at = absurd (omega arith)
 total_set f (x ∷ xs) zero v w below at = let same = ap f at in omega arith
 total_set f (x ∷ xs) (suc i) v w below at = let rest = total_set f xs i v w (omega arith) at in omega arith
 
-pub total_same : {A : Type 0} (f : A → ℕ) (xs : List A) (i : ℕ) (v w : A) → i < length xs → get_or xs i v ≡ v → f w ≡ f v → total f (set xs i w) ≡ total f xs
+pub total_same : {A : Type 0} (f : A → ℕ) (xs : List A) (i : ℕ) (v w : A) → i < length xs → get_or xs i v ≡ v → f w ≡ f v
+    → total f (set xs i w) ≡ total f xs
 total_same f xs i v w below at same = let step = total_set f xs i v w below at in omega arith
 
 pub total_at : {A : Type 0} (f : A → ℕ) (xs : List A) (i : ℕ) (v : A) → i < length xs → get_or xs i v ≡ v → f v ≤ total f xs
@@ -28,7 +30,8 @@ total_at f [] i v below at = absurd (omega arith)
 total_at f (x ∷ xs) zero v below at = let same = ap f at in omega arith
 total_at f (x ∷ xs) (suc i) v below at = let rest = total_at f xs i v (omega arith) at in omega arith
 
-pub total_two : {A : Type 0} (f : A → ℕ) (xs : List A) (i j : ℕ) (v u : A) → j ≢ i → i < length xs → get_or xs i v ≡ v → j < length xs → get_or xs j u ≡ u → f v + f u ≤ total f xs
+pub total_two : {A : Type 0} (f : A → ℕ) (xs : List A) (i j : ℕ) (v u : A) → j ≢ i → i < length xs → get_or xs i v ≡ v → j < length xs
+    → get_or xs j u ≡ u → f v + f u ≤ total f xs
 total_two f [] i j v u other below at below_j at_j = absurd (omega arith)
 total_two f (x ∷ xs) zero zero v u other below at below_j at_j = absurd (other refl)
 total_two f (x ∷ xs) zero (suc j) v u other below at below_j at_j = let same = ap f at in let rest = total_at f xs j u (omega arith) at_j in omega arith

@@ -8,7 +8,11 @@ use Rattle.core_model.specs.Examples.{idle, large}
 
 -- it knows the first word of each
 abbrev pub two : View
-two = record idle { small = set (replicate 21 []) 20 (1080 ∷ 2872 ∷ []); volatile = set (replicate 2880 None) 1080 (Some 5); durable = set (replicate 2880 None) 1080 (Some 6) }
+two = record idle {
+  small = set (replicate 21 []) 20 (1080 ∷ 2872 ∷ []);
+  volatile = set (replicate 2880 None) 1080 (Some 5);
+  durable = set (replicate 2880 None) 1080 (Some 6);
+}
 
 -- an offer takes the one block out, with its words, and uses the ticket up
 pub offers : of_class (offered two 1080).small 20 ≡ 2872 ∷ []

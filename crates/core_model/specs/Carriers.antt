@@ -1,4 +1,5 @@
--- Blocks between seats: a seat offers a held block to a carrier, and another seat, or the same, accepts it. Each uses up a ticket, and changes no word.
+-- Blocks between seats: a seat offers a held block to a carrier, and another seat, or the same, accepts it. Each uses
+-- up a ticket, and changes no word.
 use Rattle.std.specs.Prelude.{◌≡◌, ◌⊎◌, ℕ, ◌+◌, ◌-◌, false, nat_eq, List, [], ◌∷◌, ◌++◌, Contains, replicate, Option, None, Some}
 use Rattle.heap_model.specs.Counting.{total, one_if}
 use Rattle.heap_model.specs.Geometry.{lists}

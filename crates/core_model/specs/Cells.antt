@@ -2,7 +2,8 @@
 use Rattle.std.specs.Prelude.{ℕ, ◌-◌, ◌/◌, ◌%◌, Bool, true, false, ◌&&◌, cond, nat_eq, nat_lt, nat_le}
 use Rattle.heap_model.specs.Geometry.{lists, roots, fixed_words, used_word, head_word, root_word, info_word, anchor_word, link_word, superblock_words, start_word, superblocks_end}
 
--- a word: the mark of taken superblocks, the head of a list, the info, the anchor or the link of a descriptor, a root, or a word of a superblock by its word index; or none that steps work on
+-- a word: the mark of taken superblocks, the head of a list, the info, the anchor or the link of a descriptor, a root,
+-- or a word of a superblock by its word index; or none that steps work on
 pub data Cell : Type 0 where
   used_cell : Cell
   head_cell : ℕ → Cell

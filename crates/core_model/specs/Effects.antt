@@ -1,4 +1,5 @@
--- What each step does: the word that it works on, what it leaves there, and the seat's view after it. A step that compares says both what it does where the word is as it was seen, and what where it is not.
+-- What each step does: the word that it works on, what it leaves there, and the seat's view after it. A step that
+-- compares says both what it does where the word is as it was seen, and what where it is not.
 use Rattle.std.specs.Prelude.{ℕ, zero, suc, ◌+◌, ◌-◌, ◌*◌, ◌/◌, true, false, cond, ◌&&◌, nat_eq, nat_le, nat_lt, max, List, [], ◌∷◌, ◌++◌, set, Option, None, Some, length}
 use Rattle.heap_model.specs.Geometry.{start_word}
 use Rattle.heap_model.specs.Sizes.{words_of_class, blocks_of}

@@ -311,7 +311,8 @@ counts_give = refl
 pub knows_given : (view_after memory (record batched { floor = 0 }) (Give 0) 2).floor ≡ 1
 knows_given = refl
 
-pub counts_give_behind : (view_after memory (record batched { seen_anchor = Some (record { of = 0; word = 17179869185 }) }) (Give 0) 17179869185).gives ≡ 1
+pub counts_give_behind : (view_after memory (record batched { seen_anchor = Some (record { of = 0; word = 17179869185 }) })
+    (Give 0) 17179869185).gives ≡ 1
 counts_give_behind = refl
 
 pub counts_lost_give : (view_after memory batched (Give 0) 5).losses ≡ 1

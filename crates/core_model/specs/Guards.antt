@@ -1,4 +1,5 @@
--- When a seat may do a step: what its parts and snapshots must be, what the memory must have, and, of a step that compares, that the word is as it was seen.
+-- When a seat may do a step: what its parts and snapshots must be, what the memory must have, and, of a step that
+-- compares, that the word is as it was seen.
 use Rattle.std.specs.Prelude.{◌≡◌, ◌≢◌, ℕ, ◌+◌, ◌*◌, ◌<◌, ◌≤◌, ◌⊎◌, true, [], Option, None, Some, ⊤, length}
 use Rattle.heap_model.specs.Geometry.{lists, start_word}
 use Rattle.heap_model.specs.Sizes.{IsClass, words_of_class}

@@ -1,4 +1,5 @@
--- What an offer and an accept make of a state, and what they answer. A carrier stands behind all views that were there when it was made, and stays when its block was accepted.
+-- What an offer and an accept make of a state, and what they answer. A carrier stands behind all views that were there
+-- when it was made, and stays when its block was accepted.
 use Rattle.std.specs.Prelude.{◌≡◌, ℕ, ◌<◌, List, [], ◌∷◌, ◌++◌, get_or, length, set, None, Some}
 use Rattle.heap_model.specs.declared.block.Block.{Block}
 use Rattle.core_model.specs.declared.answer.StepAnswer.{StepAnswer}

@@ -30,7 +30,8 @@ pub record IsHeldBy (views : List View) (b : Block) : Type 0 where
 abbrev pub AreApart : Block → Block → Type 0
 AreApart a b = (a.first_word + a.words ≤ b.first_word) ⊎ (b.first_word + b.words ≤ a.first_word)
 
--- no block is held twice: each stands once in the lists of one seat; blocks of two seats have no word in common, and those of one seat are one or have none; and each lies in the superblocks of the image
+-- no block is held twice: each stands once in the lists of one seat; blocks of two seats have no word in common, and
+-- those of one seat are one or have none; and each lies in the superblocks of the image
 pub record AreHeldOnce (capacity : ℕ) (views : List View) : Type 0 where
   pub small : (b : ℕ) → total (times_block b) views ≤ 1
   pub large : (d : ℕ) → total (λ (v : View). times_large d v.large) views ≤ 1

@@ -1,4 +1,5 @@
--- A heap at rest as it is opened for some seats: each held block and each root belongs to one seat, nothing is cached, batched or claimed, and all words are durable.
+-- A heap at rest as it is opened for some seats: each held block and each root belongs to one seat, nothing is cached,
+-- batched or claimed, and all words are durable.
 use Rattle.std.specs.Prelude.{◌≡◌, ℕ, zero, suc, ◌+◌, ◌/◌, ◌<◌, Bool, cond, ◌&&◌, nat_eq, nat_lt, List, [], ◌∷◌, ◌++◌, length, map, replicate, slice_index, Contains, None, Some, get_or}
 use Rattle.heap_model.specs.declared.block.Block.{Block}
 use Rattle.heap_model.specs.Geometry.{roots, lists, info_word, head_word, capacity_word, used_word, superblock_words}

@@ -1,4 +1,5 @@
--- What is so of memory and seats between any two steps, as records over no more than each reads. "In exactly one place" is a sum over lists, seats and the superblocks that are full in no list.
+-- What is so of memory and seats between any two steps, as records over no more than each reads. "In exactly one place"
+-- is a sum over lists, seats and the superblocks that are full in no list.
 use Rattle.std.specs.Prelude.{◌≡◌, ◌≢◌, ℕ, ◌+◌, ◌*◌, ◌<◌, ◌≤◌, ◌⊎◌, ◌↔◌, true, not, ◌&&◌, nat_eq, nat_lt, List, length, get_or, Contains, Option, None, Some, slice_index}
 use Rattle.heap_model.specs.Geometry.{lists, roots, start_word, image_words, largest_capacity, capacity_word, used_word, IsFixed}
 use Rattle.std.specs.List.{range_with_len}
@@ -13,7 +14,8 @@ use Rattle.core_model.specs.View.{Setup, View, Claim, Span, Batch, Snapshot, of_
 use Rattle.core_model.specs.Effects.{seen, seen_word, seen_of, claim_class, span_count, first_of, steps, before}
 use Rattle.core_model.specs.Guards.{IsThere, IsOwn}
 
--- the seats' parts of the heap, each added up: how often a superblock is claimed without a class, with one, or part of a held large block; and how often a small block is held, cached or batched
+-- the seats' parts of the heap, each added up: how often a superblock is claimed without a class, with one, or part of
+-- a held large block; and how often a small block is held, cached or batched
 pub record Tally : Type 0 where
   pub raw : ℕ → ℕ
   pub classed : ℕ → ℕ
@@ -181,7 +183,8 @@ pub record Knows (capacity : ℕ) (m : Memory) (g : CoreShape) (v : View) : Type
 pub record IsTicketDrawn (drawn : ℕ) (ticket : Option ℕ) : Type 0 where
   pub is_drawn : IsThere ticket → seen ticket < drawn
 
--- a seat stops at its last ticket, which is not below the budget, and has none in hand then; a ticket in hand is the last one, and below the budget; and so are the tickets of a seat that has not stopped
+-- a seat stops at its last ticket, which is not below the budget, and has none in hand then; a ticket in hand is the
+-- last one, and below the budget; and so are the tickets of a seat that has not stopped
 pub record IsTicketed (budget : ℕ) (ticket last stopped : Option ℕ) : Type 0 where
   pub stopping : (t : ℕ) → stopped ≡ Some t → (budget ≤ t) × (last ≡ Some t) × (ticket ≡ None)
   pub in_hand : IsThere ticket → (last ≡ ticket) × (seen ticket < budget)

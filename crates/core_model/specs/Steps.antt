@@ -42,7 +42,8 @@ state_after k s i v event = record {
   views = set s.views i (seat_after (memory_of k.capacity s.words) v event);
 }
 
--- what a seat's event makes of a state, and what it answers: the step is done, won where it compares; a draw stops the seat; it may not be done now, or the seat has stopped, and nothing changes
+-- what a seat's event makes of a state, and what it answers: the step is done, won where it compares; a draw stops the
+-- seat; it may not be done now, or the seat has stopped, and nothing changes
 pub data StepsTo (k : Setup) (s : TableState) (i : ℕ) (event : Event) : StepAnswer → TableState → Type 0 where
   is_done : (v : View) → get_or s.views i v ≡ v → MayDo (memory_of k.capacity s.words) v event
       → (seat_after (memory_of k.capacity s.words) v event).stopped ≡ None → StepsTo k s i event Done (state_after k s i v event)

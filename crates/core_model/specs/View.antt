@@ -22,7 +22,8 @@ pub record Span : Type 0 where
   pub first : ℕ
   pub count : ℕ
 
--- free blocks of one superblock on their way to its anchor, each linked to the next; `linked` where no store has changed the last one's link since it came from the cache
+-- free blocks of one superblock on their way to its anchor, each linked to the next; `linked` where no store has
+-- changed the last one's link since it came from the cache
 pub record Batch : Type 0 where
   pub descriptor : ℕ
   pub class : ℕ
@@ -51,7 +52,8 @@ pub record View : Type 0 where
   -- free blocks: the cache of each class, and the batch
   pub caches : List (List ℕ)
   pub batch : Batch
-  -- claimed descriptors: without a class; those of a large block that was split, which count as empty; those whose blocks are being made; and of a class
+  -- claimed descriptors: without a class; those of a large block that was split, which count as empty; those whose
+  -- blocks are being made; and of a class
   pub raw : List ℕ
   pub split : List ℕ
   pub cutting : List ℕ
@@ -75,7 +77,8 @@ pub record View : Type 0 where
   pub stopped : Option ℕ
   -- the word that the last lost exchange found; 0 before any
   pub lost_to : ℕ
-  -- counts: superblocks taken, tickets drawn, superblocks cut, exchanges won and lost, batches given, and superblocks of a class put on the list of the free ones
+  -- counts: superblocks taken, tickets drawn, superblocks cut, exchanges won and lost, batches given, and superblocks
+  -- of a class put on the list of the free ones
   pub taken : ℕ
   pub draws : ℕ
   pub cuts : ℕ
@@ -83,7 +86,8 @@ pub record View : Type 0 where
   pub losses : ℕ
   pub gives : ℕ
   pub moves : ℕ
-  -- 1 of a carrier, which holds a block between two seats and takes no step, 2 of one whose block was accepted, else 0; and how many blocks a seat offered and accepted
+  -- 1 of a carrier, which holds a block between two seats and takes no step, 2 of one whose block was accepted, else 0;
+  -- and how many blocks a seat offered and accepted
   pub carries : ℕ
   pub offers : ℕ
   pub accepts : ℕ
@@ -170,7 +174,8 @@ abbrev pub times_in_classes : ℕ → ℕ → List (List ℕ) → ℕ
 times_in_classes word class [] = 0
 times_in_classes word class (blocks ∷ lists) = times_within (words_of_class class) word blocks + times_in_classes word (class + 1) lists
 
--- how often the word is the seat's own: words of held, cached and batched blocks, and of claimed superblocks without a class, whose info and anchor are its own too; owned roots; and the links of all claimed descriptors
+-- how often the word is the seat's own: words of held, cached and batched blocks, and of claimed superblocks without a
+-- class, whose info and anchor are its own too; owned roots; and the links of all claimed descriptors
 abbrev pub times_own : View → Cell → ℕ
 times_own v used_cell = 0
 times_own v (head_cell list) = 0

@@ -34,7 +34,11 @@ module _ (c : CoreState) (j : ℕ) (u : View) (kept : IsKept c j NEW_SEAT u) whe
 
   -- a held block is owned
   owns_held : (b : Block) → IsHeld u b → OwnsSmall c j ⊎ OwnsLarge c j
-  owns_held _ (a_small class b some) = inl (record { block = b; held = let h = (kept.blocks b).held in let t = in_lists_total b class u.small some in omega arith })
+  owns_held _ (a_small class b some) = inl (record {
+    block = b;
+    held = let h = (kept.blocks b).held in
+        let t = in_lists_total b class u.small some in omega arith;
+  })
   owns_held _ (a_large d n some count) = inr (record { first = d; some = let h = (kept.superblocks d).count in omega (arith, h, some, count) })
 
 -- a carrier is there that has a block
@@ -46,19 +50,23 @@ pub record IsCarrierAt (c : CoreState) (s : TableState) (j : ℕ) : Type 0 where
 
 pub carrier_there : (c : CoreState) (k : Setup) (s : TableState) (j : ℕ) → Represents c k s → CarriesBlock c j → IsCarrierAt c s j
 carrier_there c k s j stands carries = elim (cases_lt j (length s.views)) [
-  | inl less ↦ let u = entry_there s.views j less in by_view u.0 less u.1 (stands.order.behind j u.0 (subst (λ n. n ≤ j) (sym stands.keeps.opened) carries.behind) less u.1)
+  | inl less ↦ let u = entry_there s.views j less in by_view u.0 less u.1
+      (stands.order.behind j u.0 (subst (λ n. n ≤ j) (sym stands.keeps.opened) carries.behind) less u.1)
   | inr past ↦ absurd (owns_none (nobody k) (stands.keeps.none j past) (λ b. refl) (λ d. refl) carries.owns)
 ] where
-  owns_none : (u : View) → IsKept c j NEW_SEAT u → ((b : ℕ) → total (times b) u.small ≡ 0) → ((d : ℕ) → span_count d u.large ≡ 0) → OwnsSmall c j ⊎ OwnsLarge c j → ⊥
+  owns_none : (u : View) → IsKept c j NEW_SEAT u → ((b : ℕ) → total (times b) u.small ≡ 0) → ((d : ℕ) → span_count d u.large ≡ 0)
+      → OwnsSmall c j ⊎ OwnsLarge c j → ⊥
   owns_none u kept small large (inl owns) = no_small c j u kept small owns
   owns_none u kept small large (inr owns) = no_large c j u kept large owns
 
   by_view : (u : View) (less : j < length s.views) → get_or s.views j u ≡ u → IsLaden u ⊎ IsEmptied u → IsCarrierAt c s j
   by_view u less at (inl laden) = record { view = u; below = less; at = at; carrier = laden.carrier }
-  by_view u less at (inr empty) = absurd (owns_none u (stands.keeps.carried j u carries.behind less at) (λ b. ap (total (times b)) empty.held.0) (λ d. ap (span_count d) empty.held.1) carries.owns)
+  by_view u less at (inr empty) = absurd (owns_none u (stands.keeps.carried j u carries.behind less at) (λ b. ap (total (times b)) empty.held.0)
+      (λ d. ap (span_count d) empty.held.1) carries.owns)
 
 -- and where the core says that none is there, none is
-pub carrier_not : (c : CoreState) (k : Setup) (s : TableState) (j : ℕ) (v u : View) → Represents c k s → (CarriesBlock c j → ⊥) → MayAccept s.views v j u → ⊥
+pub carrier_not : (c : CoreState) (k : Setup) (s : TableState) (j : ℕ) (v u : View) → Represents c k s → (CarriesBlock c j → ⊥)
+    → MayAccept s.views v j u → ⊥
 carrier_not c k s j v u stands none may = elim (cases_lt j k.seats) [
   | inl seat ↦ let zero_is = stands.order.first j u seat may.at in let one = may.carrier.is_one in omega arith
   | inr past ↦ by_view past (stands.order.behind j u past may.below may.at)
@@ -69,7 +77,8 @@ carrier_not c k s j v u stands none may = elim (cases_lt j k.seats) [
       none (record { behind = behind; owns = owns_held c j u (stands.keeps.carried j u behind may.below may.at) laden.block laden.holds })
 
 pub accept_stopped : (c : CoreState) (i j : ℕ) (t : SeatNotes) (step : ℕ) → IsSeatAt c i t → t.stopped ≡ Some step → Accepts c i j (Stopped step) c
-accept_stopped c i j t step at_t some k s stands = let o = seat_of c k s i t stands at_t in (s, accepts_stopped o.view step o.at (o.kept.notes.stopped ∙ some), stands)
+accept_stopped c i j t step at_t some k s stands = let o = seat_of c k s i t stands at_t in
+    (s, accepts_stopped o.view step o.at (o.kept.notes.stopped ∙ some), stands)
 
 pub accept_no_ticket : (c : CoreState) (i j : ℕ) (t : SeatNotes) → IsSeatAt c i t → t.stopped ≡ None → (IsThere t.ticket → ⊥) → Accepts c i j NotNow c
 accept_no_ticket c i j t at_t going none k s stands = let o = seat_of c k s i t stands at_t in
@@ -88,18 +97,25 @@ accept_done c c' i j t at_t going ticket carries words seats same blocks superbl
   is_accepted o.view u.view o.at may,
   accept_stands c c' k s i j o.view u.view t stands o.at at_t carries.behind may words seats same
       (record {
-        blocks = subst (λ os. HasBlocksOf os i (accepted o.view u.view).small (accepted o.view u.view).caches (accepted o.view u.view).batch.blocks) (sym blocks)
+        blocks = subst (λ os. HasBlocksOf os i (accepted o.view u.view).small (accepted o.view u.view).caches
+            (accepted o.view u.view).batch.blocks) (sym blocks)
             (blocks_taken j i apart some c.blocks.items o.view u.view u.carrier o.kept.blocks carried.blocks);
-        superblocks = subst (λ os. HasSuperblocks os i o.view.raw o.view.split o.view.cutting o.view.classed (accepted o.view u.view).large) (sym superblocks)
-            (superblocks_taken j i apart some c.superblocks.items o.view u.view u.carrier (stands.keeps.sound.good.claims j u.view u.below u.at).some o.kept.superblocks carried.superblocks);
+        superblocks = subst (λ os. HasSuperblocks os i o.view.raw o.view.split o.view.cutting o.view.classed (accepted o.view u.view).large)
+            (sym superblocks)
+            (superblocks_taken j i apart some c.superblocks.items o.view u.view u.carrier
+            (stands.keeps.sound.good.claims j u.view u.below u.at).some o.kept.superblocks carried.superblocks);
       })
       (record {
-        blocks = subst (λ os. HasBlocksOf os j (emptied u.view).small (emptied u.view).caches (emptied u.view).batch.blocks) (sym blocks) (blocks_left j i apart some c.blocks.items u.view u.carrier);
-        superblocks = subst (λ os. HasSuperblocks os j u.view.raw u.view.split u.view.cutting u.view.classed []) (sym superblocks) (superblocks_left j i apart some c.superblocks.items u.view u.carrier);
+        blocks = subst (λ os. HasBlocksOf os j (emptied u.view).small (emptied u.view).caches (emptied u.view).batch.blocks) (sym blocks)
+            (blocks_left j i apart some c.blocks.items u.view u.carrier);
+        superblocks = subst (λ os. HasSuperblocks os j u.view.raw u.view.split u.view.cutting u.view.classed []) (sym superblocks)
+            (superblocks_left j i apart some c.superblocks.items u.view u.carrier);
       })
       (λ e y not_i not_j h. record {
-        blocks = subst (λ os. HasBlocksOf os e y.small y.caches y.batch.blocks) (sym blocks) (blocks_third j i apart some c.blocks.items e y.small y.caches y.batch.blocks not_j not_i h.blocks);
-        superblocks = subst (λ os. HasSuperblocks os e y.raw y.split y.cutting y.classed y.large) (sym superblocks) (superblocks_third j i apart some c.superblocks.items e y.raw y.split y.cutting y.classed y.large not_j not_i h.superblocks);
+        blocks = subst (λ os. HasBlocksOf os e y.small y.caches y.batch.blocks) (sym blocks)
+            (blocks_third j i apart some c.blocks.items e y.small y.caches y.batch.blocks not_j not_i h.blocks);
+        superblocks = subst (λ os. HasSuperblocks os e y.raw y.split y.cutting y.classed y.large) (sym superblocks)
+            (superblocks_third j i apart some c.superblocks.items e y.raw y.split y.cutting y.classed y.large not_j not_i h.superblocks);
       }),
 ) where
   o : IsSeatOf c s i t
@@ -122,4 +138,5 @@ accept_done c c' i j t at_t going ticket carries words seats same blocks superbl
 
 -- the core after an accept stands for a state again
 pub accepted_core : (c new : CoreState) (i j : ℕ) (answer : StepAnswer) → IsStanding c → Accepts c i j answer new → IsStanding new
-accepted_core c new i j answer core accepts = let next = accepts core.setup core.state core.stands in record { setup = core.setup; state = next.0; stands = next.2 }
+accepted_core c new i j answer core accepts = let next = accepts core.setup core.state core.stands in
+    record { setup = core.setup; state = next.0; stands = next.2 }

@@ -17,8 +17,10 @@ use Rattle.crash_core.specs.Standing.{AreInOrder, IsKept, IsSeatAt, KeepsViews, 
 use Rattle.crash_core.proofs.HandSteps.{HasOwn}
 use Rattle.crash_core.proofs.StandingLemmas.{among, IsSameHeap}
 
-module _ (c c' : CoreState) (k : Setup) (s : TableState) (i j : ℕ) (v u : View) (t : SeatNotes) (stands : Represents c k s) (at : get_or s.views i v ≡ v) (at_t : IsSeatAt c i t) (past : length c.seats.items ≤ j) (may : MayAccept s.views v j u)
-    (words : c'.words.items ≡ c.words.items) (seats : c'.seats.items ≡ set c.seats.items i (record t { ticket = None })) (same : IsSameHeap c c') (mine : HasOwn c' i (accepted v u)) (left : HasOwn c' j (emptied u))
+module _ (c c' : CoreState) (k : Setup) (s : TableState) (i j : ℕ) (v u : View) (t : SeatNotes) (stands : Represents c k s)
+    (at : get_or s.views i v ≡ v) (at_t : IsSeatAt c i t) (past : length c.seats.items ≤ j) (may : MayAccept s.views v j u)
+    (words : c'.words.items ≡ c.words.items) (seats : c'.seats.items ≡ set c.seats.items i (record t { ticket = None }))
+    (same : IsSameHeap c c') (mine : HasOwn c' i (accepted v u)) (left : HasOwn c' j (emptied u))
     (others : (e : ℕ) (y : View) → e ≢ i → e ≢ j → HasOwn c e y → HasOwn c' e y) where
   keeps : KeepsViews c k s.views
   keeps = stands.keeps
@@ -65,7 +67,14 @@ module _ (c c' : CoreState) (k : Setup) (s : TableState) (i j : ℕ) (v u : View
 
   kept_mine : IsKept c' i noted a
   kept_mine = let old = keeps.each i t v below at_t at in let n = old.notes in record {
-    notes = record { ticket = refl; stopped = n.stopped; seen_used = n.seen_used; seen_head = n.seen_head; seen_link = n.seen_link; seen_anchor = n.seen_anchor };
+    notes = record {
+      ticket = refl;
+      stopped = n.stopped;
+      seen_used = n.seen_used;
+      seen_head = n.seen_head;
+      seen_link = n.seen_link;
+      seen_anchor = n.seen_anchor;
+    };
     caches = old.caches;
     batch = old.batch;
     blocks = mine.blocks;
@@ -75,7 +84,14 @@ module _ (c c' : CoreState) (k : Setup) (s : TableState) (i j : ℕ) (v u : View
 
   kept_left : IsKept c' j NEW_SEAT b
   kept_left = let old = keeps.carried j u past may.below may.at in let n = old.notes in record {
-    notes = record { ticket = n.ticket; stopped = n.stopped; seen_used = n.seen_used; seen_head = n.seen_head; seen_link = n.seen_link; seen_anchor = n.seen_anchor };
+    notes = record {
+      ticket = n.ticket;
+      stopped = n.stopped;
+      seen_used = n.seen_used;
+      seen_head = n.seen_head;
+      seen_link = n.seen_link;
+      seen_anchor = n.seen_anchor;
+    };
     caches = old.caches;
     batch = old.batch;
     blocks = left.blocks;
@@ -95,7 +111,8 @@ module _ (c c' : CoreState) (k : Setup) (s : TableState) (i j : ℕ) (v u : View
 
   keeps' : KeepsViews c' k views'
   keeps' = record {
-    sound = subst (λ ws. Sound k ws views') (sym words) (accept_sound k s.views i j v u apart below at may.below may.at c.words.items may.carrier keeps.sound);
+    sound = subst (λ ws. Sound k ws views') (sym words) (accept_sound k s.views i j v u apart below at may.below may.at c.words.items
+        may.carrier keeps.sound);
     capacity = keeps.capacity ∙ sym same.capacity;
     budget = keeps.budget ∙ sym same.budget;
     opened = keeps.opened ∙ sym same_seats;
@@ -108,8 +125,10 @@ module _ (c c' : CoreState) (k : Setup) (s : TableState) (i j : ℕ) (v u : View
     each = λ e r y below_e at_r at_y.
         let less : e < length c.seats.items = subst (λ n. e < n) same_seats at_r.less in elim (cases_eq e i) [
           | inl here ↦
-              let is_t : noted ≡ r = sym (get_or-set_same c.seats.items i noted r at_t.less) ∙ subst (λ n. get_or (set c.seats.items i noted) n r ≡ r) here (subst (λ l. get_or l e r ≡ r) seats at_r.at) in
-              subst (λ n. IsKept c' n r y) (sym here) (subst (λ x. IsKept c' i x y) is_t (subst (λ x. IsKept c' i noted x) (seat_is y (subst (λ n. get_or views' n y ≡ y) here at_y)) kept_mine))
+              let is_t : noted ≡ r = sym (get_or-set_same c.seats.items i noted r at_t.less)
+              ∙ subst (λ n. get_or (set c.seats.items i noted) n r ≡ r) here (subst (λ l. get_or l e r ≡ r) seats at_r.at) in
+              subst (λ n. IsKept c' n r y) (sym here) (subst (λ x. IsKept c' i x y) is_t
+              (subst (λ x. IsKept c' i noted x) (seat_is y (subst (λ n. get_or views' n y ≡ y) here at_y)) kept_mine))
           | inr other ↦
               let not_j : e ≢ j = (λ h. omega (arith, h, less, past)) in
               kept_other e r y other not_j (keeps.each e r y (among keeps less)
@@ -118,10 +137,14 @@ module _ (c c' : CoreState) (k : Setup) (s : TableState) (i j : ℕ) (v u : View
         ];
     carried = λ e y past_e below_e at_y.
         let not_i : e ≢ i = (λ h. let p = past_e in let n = same_seats in let l = at_t.less in omega (arith, h, p, n, l)) in elim (cases_eq e j) [
-          | inl here ↦ subst (λ n. IsKept c' n NEW_SEAT y) (sym here) (subst (IsKept c' j NEW_SEAT) (carrier_is y (subst (λ n. get_or views' n y ≡ y) here at_y)) kept_left)
-          | inr other ↦ kept_other e NEW_SEAT y not_i other (keeps.carried e y (subst (λ n. n ≤ e) same_seats past_e) (subst (λ n. e < n) long below_e) (other_is e y not_i other at_y))
+          | inl here ↦ subst (λ n. IsKept c' n NEW_SEAT y) (sym here) (subst (IsKept c' j NEW_SEAT)
+              (carrier_is y (subst (λ n. get_or views' n y ≡ y) here at_y)) kept_left)
+          | inr other ↦ kept_other e NEW_SEAT y not_i other (keeps.carried e y (subst (λ n. n ≤ e) same_seats past_e)
+              (subst (λ n. e < n) long below_e) (other_is e y not_i other at_y))
         ];
-    none = λ e past_e. kept_other e NEW_SEAT (nobody k) (λ h. let l = long in let p = past_e in omega (arith, h, l, p, below)) (λ h. let l = long in let p = past_e in let m = may.below in omega (arith, h, l, p, m)) (keeps.none e (subst (λ n. n ≤ e) long past_e));
+    none = λ e past_e. kept_other e NEW_SEAT (nobody k) (λ h. let l = long in let p = past_e in
+        omega (arith, h, l, p, below)) (λ h. let l = long in let p = past_e in let m = may.below in
+        omega (arith, h, l, p, m)) (keeps.none e (subst (λ n. n ≤ e) long past_e));
   }
 
   seat_below : i < k.seats
@@ -141,7 +164,8 @@ module _ (c c' : CoreState) (k : Setup) (s : TableState) (i j : ℕ) (v u : View
     ];
     behind = λ e y past_e below_e at_y. elim (cases_eq e j) [
       | inl here ↦ inr (subst IsEmptied (carrier_is y (subst (λ n. get_or views' n y ≡ y) here at_y)) (empties_carrier u may.carrier))
-      | inr other ↦ stands.order.behind e y past_e (subst (λ n. e < n) long below_e) (other_is e y (λ h. let l = seat_below in omega (arith, h, past_e, l)) other at_y)
+      | inr other ↦ stands.order.behind e y past_e (subst (λ n. e < n) long below_e)
+          (other_is e y (λ h. let l = seat_below in omega (arith, h, past_e, l)) other at_y)
     ];
   }
 
@@ -151,5 +175,6 @@ module _ (c c' : CoreState) (k : Setup) (s : TableState) (i j : ℕ) (v u : View
     keeps = keeps';
     order = order';
     made = (let l = long in let m = stands.made in let t' = total_set (λ (x : View). one_if_some x.ticket) s.views i v a below at in
-        let b' = total_set (λ (x : View). one_if_some x.ticket) seated j u b below_seated (get_or-set_other s.views i j a u apart ∙ may.at) in omega arith);
+        let b' = total_set (λ (x : View). one_if_some x.ticket) seated j u b below_seated (get_or-set_other s.views i j a u apart ∙ may.at) in
+        omega arith);
   }

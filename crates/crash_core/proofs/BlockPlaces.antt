@@ -30,7 +30,8 @@ pub places_theirs : (owners : List BlockOwner) (i j b : ℕ) (x : BlockPlace) (P
     → (e : ℕ) → P e (place_for j (get_or (set owners b (record { seat = i; place = x })) e no_block))
 places_theirs owners i j b x P less apart none old e = elim (cases_eq e b) [
   | inl same ↦ subst (λ n. P n (place_for j (get_or (set owners b (record { seat = i; place = x })) n no_block))) (sym same)
-      (subst (P b) (none ∙ sym (ap (place_for j) (get_or-set_same owners b (record { seat = i; place = x }) no_block less) ∙ place_theirs i j x apart)) (old b))
+      (subst (P b) (none ∙ sym (ap (place_for j) (get_or-set_same owners b (record { seat = i; place = x }) no_block less)
+      ∙ place_theirs i j x apart)) (old b))
   | inr other ↦ subst (P e) (sym (ap (place_for j) (get_or-set_other owners b e (record { seat = i; place = x }) no_block other))) (old e)
 ]
 

@@ -36,19 +36,25 @@ walk_first f from (x ∷ xs) some walks = sym walks.0
 module _ (c : CoreState) (k : Setup) (views : List View) (keeps : KeepsViews c k views) where
   -- the first word of a block, as it stands in the table
   pub raw_next : (b : ℕ) → start_word k.capacity 0 ≤ b → b < superblocks_end k.capacity → next (memory_in c k) b ≡ get_or c.words.items b 0
-  raw_next b from until = read_is k.capacity c.words.items (volatile_at (data_cell b)) (and_is _ _ (le-leb (start_word k.capacity 0) b from) (lt-ltb b (superblocks_end k.capacity) until))
+  raw_next b from until = read_is k.capacity c.words.items (volatile_at (data_cell b))
+      (and_is _ _ (le-leb (start_word k.capacity 0) b from) (lt-ltb b (superblocks_end k.capacity) until))
 
   -- blocks of a cut superblock that are linked are the chain that the table leads along
-  pub chain_is : (class d from : ℕ) (bs : List ℕ) → IsClass class → d < k.capacity → ((b : ℕ) → 0 < times b bs → IsCutBlock k.capacity class d b) → Walks (next (memory_in c k)) from bs
+  pub chain_is : (class d from : ℕ) (bs : List ℕ) → IsClass class → d < k.capacity
+      → ((b : ℕ) → 0 < times b bs → IsCutBlock k.capacity class d b) → Walks (next (memory_in c k)) from bs
       → chain (λ n. get_or c.words.items n 0) from (length bs) ≡ bs
   chain_is class d from bs is less cut walks = walks_chain (λ n. get_or c.words.items n 0) from bs
-      (walks_other (next (memory_in c k)) (λ n. get_or c.words.items n 0) from bs (λ b some. let r = cut_range k.capacity class d b is less (cut b some) in raw_next b r.0 r.1) walks)
+      (walks_other (next (memory_in c k)) (λ n. get_or c.words.items n 0) from bs
+      (λ b some. let r = cut_range k.capacity class d b is less (cut b some) in raw_next b r.0 r.1) walks)
 
-  pub block_fits : (class d b : ℕ) → IsClass class → d < k.capacity → IsCutBlock k.capacity class d b → (b < length c.blocks.items) × (b < length c.words.items)
-  block_fits class d b is less cut = let r = (cut_range k.capacity class d b is less cut).1 in let n = keeps.blocks in let l = keeps.sound.long in (omega arith, omega arith)
+  pub block_fits : (class d b : ℕ) → IsClass class → d < k.capacity → IsCutBlock k.capacity class d b → (b < length c.blocks.items)
+      × (b < length c.words.items)
+  block_fits class d b is less cut = let r = (cut_range k.capacity class d b is less cut).1 in let n = keeps.blocks in
+      let l = keeps.sound.long in (omega arith, omega arith)
 
 -- blocks that were nobody's come into an empty cache
-module _ (c : CoreState) (k : Setup) (views : List View) (i : ℕ) (v : View) (t : SeatNotes) (keeps : KeepsViews c k views) (below : i < length views) (at : get_or views i v ≡ v)
+module _ (c : CoreState) (k : Setup) (views : List View) (i : ℕ) (v : View) (t : SeatNotes) (keeps : KeepsViews c k views)
+    (below : i < length views) (at : get_or views i v ≡ v)
     (at_t : IsSeatAt c i t) (class : ℕ) (less : class < lists) (bs : List ℕ) (empty : of_class v.caches class ≡ [])
     (free : (b : ℕ) → 0 < times b bs → (times b bs ≡ 1) × (total (times_block b) views ≡ 0)) where
   kept : IsKept c i t v
@@ -57,19 +63,27 @@ module _ (c : CoreState) (k : Setup) (views : List View) (i : ℕ) (v : View) (t
   long_caches : class < length v.caches
   long_caches = let s = (keeps.sound.good.set_up i v below at).caches in let l = less in omega arith
 
-  pub caches_given : (first count : ℕ) → first_of bs ≡ first → length bs ≡ count → HasCaches (set t.caches class (record { first = first; count = count })) (set v.caches class bs)
-  caches_given first count first_is count_is = cache_set t.caches v.caches class bs (record { first = first; count = count }) kept.caches less long_caches (λ some. first_is) count_is
+  pub caches_given : (first count : ℕ) → first_of bs ≡ first → length bs ≡ count
+      → HasCaches (set t.caches class (record { first = first; count = count })) (set v.caches class bs)
+  caches_given first count first_is count_is = cache_set t.caches v.caches class bs
+      (record { first = first; count = count }) kept.caches less long_caches (λ some. first_is) count_is
 
   cached_more : (b : ℕ) → total (times b) (set v.caches class bs) ≡ total (times b) v.caches + times b bs
   cached_more b = let l = total_lists b v.caches class bs long_caches in let none = ap (times b) empty in omega arith
 
-  pub blocks_given : (owners : List BlockOwner) → HasNewOwner c.blocks.items owners bs (record { seat = i; place = place.Cached }) → HasBlocksOf owners i v.small (set v.caches class bs) v.batch.blocks
-  blocks_given owners given = given_mine c.blocks.items owners i bs place.Cached (λ b p. IsPlace b p v.small (set v.caches class bs) v.batch.blocks) given
-      (λ b some. let f = free b some in let one = f.0 in let nobody = f.1 in let mine = total_at (times_block b) views i v below at in let more = cached_more b in record { held = omega arith; cached = omega arith; batched = omega arith })
-      (λ b none. let o = kept.blocks b in let more = cached_more b in record { held = o.held; cached = (let h = o.cached in omega arith); batched = o.batched })
+  pub blocks_given : (owners : List BlockOwner) → HasNewOwner c.blocks.items owners bs (record { seat = i; place = place.Cached })
+      → HasBlocksOf owners i v.small (set v.caches class bs) v.batch.blocks
+  blocks_given owners given = given_mine c.blocks.items owners i bs place.Cached
+      (λ b p. IsPlace b p v.small (set v.caches class bs) v.batch.blocks) given
+      (λ b some. let f = free b some in let one = f.0 in let nobody = f.1 in let mine = total_at (times_block b) views i v below at in
+      let more = cached_more b in record { held = omega arith; cached = omega arith; batched = omega arith })
+      (λ b none. let o = kept.blocks b in let more = cached_more b in
+      record { held = o.held; cached = (let h = o.cached in omega arith); batched = o.batched })
 
   pub blocks_theirs : (owners : List BlockOwner) → HasNewOwner c.blocks.items owners bs (record { seat = i; place = place.Cached })
       → (j : ℕ) (s : SeatNotes) (u : View) → j ≢ i → IsAmong views j u → IsKept c j s u → HasBlocksOf owners j u.small u.caches u.batch.blocks
-  blocks_theirs owners given j s u other most h = given_theirs c.blocks.items owners i j bs place.Cached (λ b p. IsPlace b p u.small u.caches u.batch.blocks) other given
-      (λ b some. no_place b (place_for j (get_or c.blocks.items b no_block)) u.small u.caches u.batch.blocks (h.blocks b) (let nobody = (free b some).1 in let theirs = among_most (times_block b) views j u most (λ none. none.blocks b) in omega arith))
+  blocks_theirs owners given j s u other most h = given_theirs c.blocks.items owners i j bs place.Cached
+      (λ b p. IsPlace b p u.small u.caches u.batch.blocks) other given
+      (λ b some. no_place b (place_for j (get_or c.blocks.items b no_block)) u.small u.caches u.batch.blocks (h.blocks b)
+      (let nobody = (free b some).1 in let theirs = among_most (times_block b) views j u most (λ none. none.blocks b) in omega arith))
       h.blocks

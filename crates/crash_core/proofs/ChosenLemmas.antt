@@ -31,11 +31,13 @@ takes_first d span same some = range_is span.first span.count d (omega (arith, s
 pub no_spans : (d : ℕ) (spans : List Span) → ((span : Span) → Contains spans span → 1 ≤ span.count) → times_large d spans ≡ 0
     → (chosen_spans (λ x. nat_eq x d) spans ≡ []) × (chosen_spans (λ x. not (nat_eq x d)) spans ≡ spans)
 no_spans d [] some none = (refl, refl)
-no_spans d (span ∷ spans) some none = by_test (nat_eq span.first d) refl (no_spans d spans (λ x there. some x (in_rest span x spans there)) (omega (arith, none))) where
-  by_test : (t : Bool) → nat_eq span.first d ≡ t → (chosen_spans (λ x. nat_eq x d) spans ≡ []) × (chosen_spans (λ x. not (nat_eq x d)) spans ≡ spans)
-      → (cond t (span ∷ chosen_spans (λ x. nat_eq x d) spans) (chosen_spans (λ x. nat_eq x d) spans) ≡ []) × (cond (not t) (span ∷ chosen_spans (λ x. not (nat_eq x d)) spans) (chosen_spans (λ x. not (nat_eq x d)) spans) ≡ span ∷ spans)
-  by_test true e rest = absurd (let one = takes_first d span (eqb-true span.first d e) (some span (in_head span spans)) in omega (arith, one, none))
-  by_test false e rest = (rest.0, ap (λ l. span ∷ l) rest.1)
+no_spans d (span ∷ spans) some none = by_test (nat_eq span.first d) refl
+    (no_spans d spans (λ x there. some x (in_rest span x spans there)) (omega (arith, none))) where
+      by_test : (t : Bool) → nat_eq span.first d ≡ t → (chosen_spans (λ x. nat_eq x d) spans ≡ []) × (chosen_spans (λ x. not (nat_eq x d)) spans ≡ spans)
+          → (cond t (span ∷ chosen_spans (λ x. nat_eq x d) spans) (chosen_spans (λ x. nat_eq x d) spans) ≡ [])
+          × (cond (not t) (span ∷ chosen_spans (λ x. not (nat_eq x d)) spans) (chosen_spans (λ x. not (nat_eq x d)) spans) ≡ span ∷ spans)
+      by_test true e rest = absurd (let one = takes_first d span (eqb-true span.first d e) (some span (in_head span spans)) in omega (arith, one, none))
+      by_test false e rest = (rest.0, ap (λ l. span ∷ l) rest.1)
 
 -- of spans of which at most one takes the superblock, the one that begins there
 pub one_span : (d : ℕ) (spans : List Span) → ((span : Span) → Contains spans span → 1 ≤ span.count) → times_large d spans ≤ 1 → 0 < span_count d spans
@@ -45,12 +47,17 @@ one_span d (span ∷ spans) some most there = by_test (nat_eq span.first d) refl
   later : (x : Span) → Contains spans x → 1 ≤ x.count
   later x in_them = some x (in_rest span x spans in_them)
 
-  by_test : (t : Bool) → nat_eq span.first d ≡ t → (0 < span_count d spans → chosen_spans (λ x. nat_eq x d) spans ≡ record { first = d; count = span_count d spans } ∷ [])
-      → cond t (span ∷ chosen_spans (λ x. nat_eq x d) spans) (chosen_spans (λ x. nat_eq x d) spans) ≡ record { first = d; count = cond (nat_eq span.first d) span.count (span_count d spans) } ∷ []
+  by_test : (t : Bool) → nat_eq span.first d ≡ t → (0 < span_count d spans
+      → chosen_spans (λ x. nat_eq x d) spans ≡ record { first = d; count = span_count d spans } ∷ [])
+      → cond t (span ∷ chosen_spans (λ x. nat_eq x d) spans) (chosen_spans (λ x. nat_eq x d) spans) ≡ record {
+        first = d;
+        count = cond (nat_eq span.first d) span.count (span_count d spans);
+      } ∷ []
   by_test true e rest =
       let here = takes_first d span (eqb-true span.first d e) (some span (in_head span spans)) in
       let none = (no_spans d spans later (omega (arith, here, most))).0 in
-      ap (λ l. span ∷ l) none ∙ ap (λ (x : Span). x ∷ []) (λ i. record { first = eqb-true span.first d e i; count = span.count }) ∙ ap (λ t. record { first = d; count = cond t span.count (span_count d spans) } ∷ []) (sym e)
+      ap (λ l. span ∷ l) none ∙ ap (λ (x : Span). x ∷ []) (λ i. record { first = eqb-true span.first d e i; count = span.count })
+      ∙ ap (λ t. record { first = d; count = cond t span.count (span_count d spans) } ∷ []) (sym e)
   by_test false e rest =
       rest (ap_count e) ∙ ap (λ t. record { first = d; count = cond t span.count (span_count d spans) } ∷ []) (sym e) where
         ap_count : nat_eq span.first d ≡ false → 0 < span_count d spans
@@ -60,13 +67,17 @@ one_span d (span ∷ spans) some most there = by_test (nat_eq span.first d) refl
 pub count_left : (d e : ℕ) (spans : List Span) → e ≢ d → span_count e (chosen_spans (λ x. not (nat_eq x d)) spans) ≡ span_count e spans
 count_left d e [] apart = refl
 count_left d e (span ∷ spans) apart = by_test (nat_eq span.first d) refl (count_left d e spans apart) where
-  by_test : (t : Bool) → nat_eq span.first d ≡ t → span_count e (chosen_spans (λ x. not (nat_eq x d)) spans) ≡ span_count e spans → span_count e (cond (not t) (span ∷ chosen_spans (λ x. not (nat_eq x d)) spans) (chosen_spans (λ x. not (nat_eq x d)) spans)) ≡ cond (nat_eq span.first e) span.count (span_count e spans)
-  by_test true same rest = rest ∙ sym (ap (λ t. cond t span.count (span_count e spans)) (not-eq span.first e (λ h. apart (sym h ∙ eqb-true span.first d same))))
+  by_test : (t : Bool) → nat_eq span.first d ≡ t → span_count e (chosen_spans (λ x. not (nat_eq x d)) spans) ≡ span_count e spans
+      → span_count e (cond (not t) (span ∷ chosen_spans (λ x. not (nat_eq x d)) spans) (chosen_spans (λ x. not (nat_eq x d)) spans)) ≡ cond
+      (nat_eq span.first e) span.count (span_count e spans)
+  by_test true same rest = rest ∙ sym (ap (λ t. cond t span.count (span_count e spans))
+      (not-eq span.first e (λ h. apart (sym h ∙ eqb-true span.first d same))))
   by_test false same rest = ap (λ n. cond (nat_eq span.first e) span.count n) rest
 
 pub none_left : (d : ℕ) (spans : List Span) → span_count d (chosen_spans (λ x. not (nat_eq x d)) spans) ≡ 0
 none_left d [] = refl
 none_left d (span ∷ spans) = by_test (nat_eq span.first d) refl (none_left d spans) where
-  by_test : (t : Bool) → nat_eq span.first d ≡ t → span_count d (chosen_spans (λ x. not (nat_eq x d)) spans) ≡ 0 → span_count d (cond (not t) (span ∷ chosen_spans (λ x. not (nat_eq x d)) spans) (chosen_spans (λ x. not (nat_eq x d)) spans)) ≡ 0
+  by_test : (t : Bool) → nat_eq span.first d ≡ t → span_count d (chosen_spans (λ x. not (nat_eq x d)) spans) ≡ 0
+      → span_count d (cond (not t) (span ∷ chosen_spans (λ x. not (nat_eq x d)) spans) (chosen_spans (λ x. not (nat_eq x d)) spans)) ≡ 0
   by_test true same rest = rest
   by_test false same rest = ap (λ t. cond t span.count (span_count d (chosen_spans (λ x. not (nat_eq x d)) spans))) same ∙ rest

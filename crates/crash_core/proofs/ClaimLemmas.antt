@@ -19,13 +19,23 @@ pub use Rattle.heap_model.proofs.ListLemmas.{without_at}
 use Rattle.seat_state.proofs.CountLemmas.{without_off, class_absent}
 
 -- a claim of a superblock that was not the seat's
-pub claimed_kept : (c : CoreState) (i : ℕ) (t : SeatNotes) (base : View) (owners : List SuperblockOwner) (d list : ℕ) (x : SuperblockUsage) → x ≡ listed list
-    → c.superblocks.items ≡ set owners d (record { seat = i; usage = x }) → d < length owners → usage_for i (get_or owners d no_superblock) ≡ usage.Nothing
+pub claimed_kept : (c : CoreState) (i : ℕ) (t : SeatNotes) (base : View) (owners : List SuperblockOwner) (d list : ℕ) (x : SuperblockUsage)
+    → x ≡ listed list
+    → c.superblocks.items ≡ set owners d (record { seat = i; usage = x }) → d < length owners
+    → usage_for i (get_or owners d no_superblock) ≡ usage.Nothing
     → HasSuperblocks owners i base.raw base.split base.cutting base.classed base.large
-    → HasNotes t base → HasCaches t.caches base.caches → HasBatch t.batch base.batch → HasBlocksOf c.blocks.items i base.small base.caches base.batch.blocks → HasRoots c.roots.items i base.roots
+    → HasNotes t base → HasCaches t.caches base.caches → HasBatch t.batch base.batch
+    → HasBlocksOf c.blocks.items i base.small base.caches base.batch.blocks → HasRoots c.roots.items i base.roots
     → IsKept c i t (claimed base d list)
 claimed_kept c i t base owners d zero x is items less none old notes caches batch blocks roots = record {
-  notes = record { ticket = notes.ticket; stopped = notes.stopped; seen_used = notes.seen_used; seen_head = notes.seen_head; seen_link = notes.seen_link; seen_anchor = notes.seen_anchor };
+  notes = record {
+    ticket = notes.ticket;
+    stopped = notes.stopped;
+    seen_used = notes.seen_used;
+    seen_head = notes.seen_head;
+    seen_link = notes.seen_link;
+    seen_anchor = notes.seen_anchor;
+  };
   caches = caches;
   batch = batch;
   blocks = blocks;
@@ -53,7 +63,14 @@ claimed_kept c i t base owners d zero x is items less none old notes caches batc
   roots = roots;
 }
 claimed_kept c i t base owners d (suc class) x is items less none old notes caches batch blocks roots = record {
-  notes = record { ticket = notes.ticket; stopped = notes.stopped; seen_used = notes.seen_used; seen_head = notes.seen_head; seen_link = notes.seen_link; seen_anchor = notes.seen_anchor };
+  notes = record {
+    ticket = notes.ticket;
+    stopped = notes.stopped;
+    seen_used = notes.seen_used;
+    seen_head = notes.seen_head;
+    seen_link = notes.seen_link;
+    seen_anchor = notes.seen_anchor;
+  };
   caches = caches;
   batch = batch;
   blocks = blocks;
@@ -84,11 +101,13 @@ claimed_kept c i t base owners d (suc class) x is items less none old notes cach
   more = record { descriptor = d; class = suc class } ∷ base.classed
 
 -- a claim without a class, or since a split, that is given up
-pub raw_given_up : (owners : List SuperblockOwner) (i d : ℕ) (raw split cutting : List ℕ) (classed : List Claim) (large : List Span) → d < length owners → 0 < times d raw + times d split
+pub raw_given_up : (owners : List SuperblockOwner) (i d : ℕ) (raw split cutting : List ℕ) (classed : List Claim) (large : List Span)
+    → d < length owners → 0 < times d raw + times d split
     → HasSuperblocks owners i raw split cutting classed large
     → HasSuperblocks (set owners d (record { seat = i; usage = usage.Nothing })) i (without d raw) (without d split) cutting classed large
 raw_given_up owners i d raw split cutting classed large less some old =
-    usages_mine owners i d usage.Nothing (λ e y. IsUsage e y (without d raw) (without d split) cutting classed large) less (gone (usage_for i (get_or owners d no_superblock)) (old d))
+    usages_mine owners i d usage.Nothing (λ e y. IsUsage e y (without d raw) (without d split) cutting classed large) less
+    (gone (usage_for i (get_or owners d no_superblock)) (old d))
     (λ e other. let o = old e in record {
       is_raw = without_off e d raw other ∙ o.is_raw;
       is_split = without_off e d split other ∙ o.is_split;
@@ -98,35 +117,64 @@ raw_given_up owners i d raw split cutting classed large less some old =
       is_large = o.is_large;
       count = o.count;
     }) where
-      gone : (x : SuperblockUsage) → IsUsage d x raw split cutting classed large → IsUsage d usage.Nothing (without d raw) (without d split) cutting classed large
+      gone : (x : SuperblockUsage) → IsUsage d x raw split cutting classed large
+          → IsUsage d usage.Nothing (without d raw) (without d split) cutting classed large
       gone usage.Nothing o = absurd (let a = o.is_raw in let b = o.is_split in omega arith)
-      gone usage.Raw o = record { is_raw = without_at d raw (let a = o.is_raw in omega arith); is_split = without_at d split (let a = o.is_split in omega arith); is_cutting = o.is_cutting; is_classed = o.is_classed; class = o.class; is_large = o.is_large; count = o.count }
-      gone usage.Split o = record { is_raw = without_at d raw (let a = o.is_raw in omega arith); is_split = without_at d split (let a = o.is_split in omega arith); is_cutting = o.is_cutting; is_classed = o.is_classed; class = o.class; is_large = o.is_large; count = o.count }
+      gone usage.Raw o = record {
+        is_raw = without_at d raw (let a = o.is_raw in omega arith);
+        is_split = without_at d split (let a = o.is_split in omega arith);
+        is_cutting = o.is_cutting;
+        is_classed = o.is_classed;
+        class = o.class;
+        is_large = o.is_large;
+        count = o.count;
+      }
+      gone usage.Split o = record {
+        is_raw = without_at d raw (let a = o.is_raw in omega arith);
+        is_split = without_at d split (let a = o.is_split in omega arith);
+        is_cutting = o.is_cutting;
+        is_classed = o.is_classed;
+        class = o.class;
+        is_large = o.is_large;
+        count = o.count;
+      }
       gone usage.Cutting o = absurd (let a = o.is_raw in let b = o.is_split in omega arith)
       gone (usage.Classed class) o = absurd (let a = o.is_raw in let b = o.is_split in omega arith)
       gone (usage.Large count) o = absurd (let a = o.is_raw in let b = o.is_split in omega arith)
 
 -- a claim with a class that is given up
-pub class_given_up : (owners : List SuperblockOwner) (i d : ℕ) (raw split cutting : List ℕ) (classed : List Claim) (large : List Span) → d < length owners → 0 < times_classed d classed
+pub class_given_up : (owners : List SuperblockOwner) (i d : ℕ) (raw split cutting : List ℕ) (classed : List Claim) (large : List Span)
+    → d < length owners → 0 < times_classed d classed
     → HasSuperblocks owners i raw split cutting classed large
     → HasSuperblocks (set owners d (record { seat = i; usage = usage.Nothing })) i raw split cutting (without_claim d classed) large
 class_given_up owners i d raw split cutting classed large less some old =
-    usages_mine owners i d usage.Nothing (λ e y. IsUsage e y raw split cutting (without_claim d classed) large) less (gone (usage_for i (get_or owners d no_superblock)) (old d))
+    usages_mine owners i d usage.Nothing (λ e y. IsUsage e y raw split cutting (without_claim d classed) large) less
+    (gone (usage_for i (get_or owners d no_superblock)) (old d))
     (λ e other. let o = old e in record {
       is_raw = o.is_raw;
       is_split = o.is_split;
       is_cutting = o.is_cutting;
-      is_classed = (let n = times_without_claim e d classed some in let zero_here = ne-eqb-none d e (λ h. other (sym h)) in let a = o.is_classed in omega arith);
+      is_classed = (let n = times_without_claim e d classed some in let zero_here = ne-eqb-none d e (λ h. other (sym h)) in
+          let a = o.is_classed in omega arith);
       class = class_without e d classed (λ h. other (sym h)) ∙ o.class;
       is_large = o.is_large;
       count = o.count;
     }) where
-      gone : (x : SuperblockUsage) → IsUsage d x raw split cutting classed large → IsUsage d usage.Nothing raw split cutting (without_claim d classed) large
+      gone : (x : SuperblockUsage) → IsUsage d x raw split cutting classed large
+          → IsUsage d usage.Nothing raw split cutting (without_claim d classed) large
       gone usage.Nothing o = absurd (let a = o.is_classed in omega arith)
       gone usage.Raw o = absurd (let a = o.is_classed in omega arith)
       gone usage.Split o = absurd (let a = o.is_classed in omega arith)
       gone usage.Cutting o = absurd (let a = o.is_classed in omega arith)
       gone (usage.Large count) o = absurd (let a = o.is_classed in omega arith)
-      gone (usage.Classed class) o = record { is_raw = o.is_raw; is_split = o.is_split; is_cutting = o.is_cutting; is_classed = none; class = class_absent d (without_claim d classed) none; is_large = o.is_large; count = o.count } where
+      gone (usage.Classed class) o = record {
+        is_raw = o.is_raw;
+        is_split = o.is_split;
+        is_cutting = o.is_cutting;
+        is_classed = none;
+        class = class_absent d (without_claim d classed) none;
+        is_large = o.is_large;
+        count = o.count;
+      } where
         none : times_classed d (without_claim d classed) ≡ 0
         none = let n = times_without_claim d d classed some in let one = eq-eqb-one d d refl in let a = o.is_classed in omega arith

@@ -18,12 +18,14 @@ module _ (c n : ℕ) (table base items : List ℕ) (none : base ≡ []) (same : 
 
   copied : (i : ℕ) → i < image_words c → get_or items i 0 ≡ get_or table (image_words c + i) 0
   copied i less =
-      ap (λ xs. get_or xs i 0) plain ∙ get_or-take (2 * n - n) (drop n table) i 0 (omega arith) ∙ get_or-drop n table i 0 ∙ ap (λ x. get_or table (x + i) 0) same
+      ap (λ xs. get_or xs i 0) plain ∙ get_or-take (2 * n - n) (drop n table) i 0 (omega arith) ∙ get_or-drop n table i 0
+      ∙ ap (λ x. get_or table (x + i) 0) same
 
   by_place : (word : ℕ) → (word < image_words c) ⊎ (image_words c ≤ word) → get_or items word 0 ≡ durable_image c table word
   by_place word (inl inside) = copied word inside ∙ sym (pick (nat_lt word (image_words c)) _ _ (lt-ltb word (image_words c) inside))
   by_place word (inr past) =
-      get_or-eq_default items 0 {n = word} (let e = copied_long in omega arith) ∙ sym (skip (nat_lt word (image_words c)) _ _ (not-lt word (image_words c) past))
+      get_or-eq_default items 0 {n = word} (let e = copied_long in omega arith)
+      ∙ sym (skip (nat_lt word (image_words c)) _ _ (not-lt word (image_words c) past))
 
   pub copied_image : slice_index items ≡ durable_image c table
   copied_image = λ k word. by_place word (cases_lt word (image_words c)) k

@@ -45,7 +45,8 @@ pub record IsHalfLinked (f : ℕ → ℕ) (start words n block left : ℕ) : Typ
   pub some : 1 ≤ left
 
 pub half_start : (f : ℕ → ℕ) (start words n left : ℕ) → 1 ≤ n → left ≡ n → IsHalfLinked f start words n start left
-half_start f start words n left some is = subst (IsHalfLinked f start words n start) (sym is) (record { linked = (λ w. w, λ w. w); low = omega arith; room = omega arith; some = some })
+half_start f start words n left some is = subst (IsHalfLinked f start words n start) (sym is)
+    (record { linked = (λ w. w, λ w. w); low = omega arith; room = omega arith; some = some })
 
 more_left : (r words : ℕ) → suc r * words ≡ words + r * words
 more_left r words = grind arith
@@ -54,7 +55,8 @@ pub half_room : (f : ℕ → ℕ) (start words n block left : ℕ) → IsHalfLin
 half_room f start words n block zero half some = absurd (omega arith)
 half_room f start words n block (suc r) half some = let m = more_left r words in let h = half.room in omega arith
 
-pub half_step : (f : ℕ → ℕ) (start words n block left left' to : ℕ) → IsHalfLinked f start words n block left → left ≡ suc left' → 0 < left' → f block ≡ block + words → to ≡ block + words → IsHalfLinked f start words n to left'
+pub half_step : (f : ℕ → ℕ) (start words n block left left' to : ℕ) → IsHalfLinked f start words n block left → left ≡ suc left' → 0 < left'
+    → f block ≡ block + words → to ≡ block + words → IsHalfLinked f start words n to left'
 half_step f start words n block left zero to half is some leads to_is = absurd (omega arith)
 half_step f start words n block left (suc r) to half is some leads to_is = subst (λ x. IsHalfLinked f start words n x (suc r)) (sym to_is) (record {
   linked = (λ w. on (h.linked.0 w), λ u. h.linked.1 (back u));
@@ -71,7 +73,8 @@ half_step f start words n block left (suc r) to half is some leads to_is = subst
   back : Walks f (block + words) (steps (block + words) words (suc r)) → Walks f block (steps block words (suc (suc r)))
   back u = (refl, (leads, u.1))
 
-pub half_apart : (f : ℕ → ℕ) (start words n block left left' : ℕ) → IsHalfLinked f start words n block left → left ≡ suc left' → 0 < left' → f block ≢ block + words → Walks f start (steps start words n) → ⊥
+pub half_apart : (f : ℕ → ℕ) (start words n block left left' : ℕ) → IsHalfLinked f start words n block left → left ≡ suc left' → 0 < left'
+    → f block ≢ block + words → Walks f start (steps start words n) → ⊥
 half_apart f start words n block left zero half is some apart w = absurd (omega arith)
 half_apart f start words n block left (suc r) half is some apart w = apart ((subst (IsHalfLinked f start words n block) is half).linked.0 w).1.0
 
@@ -79,11 +82,13 @@ pub half_whole : (f : ℕ → ℕ) (start words n block left : ℕ) → IsHalfLi
 half_whole f start words n block left half is = (subst (IsHalfLinked f start words n block) is half).linked.1 (refl, tt)
 
 -- a superblock whose blocks were made is given up
-cut_given_up : (owners : List SuperblockOwner) (i d : ℕ) (raw split cutting : List ℕ) (classed : List Claim) (large : List Span) → d < length owners → 0 < times d cutting
+cut_given_up : (owners : List SuperblockOwner) (i d : ℕ) (raw split cutting : List ℕ) (classed : List Claim) (large : List Span)
+    → d < length owners → 0 < times d cutting
     → HasSuperblocks owners i raw split cutting classed large
     → HasSuperblocks (set owners d (record { seat = i; usage = usage.Nothing })) i raw split (without d cutting) classed large
 cut_given_up owners i d raw split cutting classed large less some old =
-    usages_mine owners i d usage.Nothing (λ e y. IsUsage e y raw split (without d cutting) classed large) less (gone (usage_for i (get_or owners d no_superblock)) (old d))
+    usages_mine owners i d usage.Nothing (λ e y. IsUsage e y raw split (without d cutting) classed large) less
+    (gone (usage_for i (get_or owners d no_superblock)) (old d))
     (λ e other. let o = old e in record {
       is_raw = o.is_raw;
       is_split = o.is_split;
@@ -97,11 +102,20 @@ cut_given_up owners i d raw split cutting classed large less some old =
       gone usage.Nothing o = absurd (let a = o.is_cutting in omega arith)
       gone usage.Raw o = absurd (let a = o.is_cutting in omega arith)
       gone usage.Split o = absurd (let a = o.is_cutting in omega arith)
-      gone usage.Cutting o = record { is_raw = o.is_raw; is_split = o.is_split; is_cutting = without_at d cutting (let a = o.is_cutting in omega arith); is_classed = o.is_classed; class = o.class; is_large = o.is_large; count = o.count }
+      gone usage.Cutting o = record {
+        is_raw = o.is_raw;
+        is_split = o.is_split;
+        is_cutting = without_at d cutting (let a = o.is_cutting in omega arith);
+        is_classed = o.is_classed;
+        class = o.class;
+        is_large = o.is_large;
+        count = o.count;
+      }
       gone (usage.Classed class) o = absurd (let a = o.is_cutting in omega arith)
       gone (usage.Large count) o = absurd (let a = o.is_cutting in omega arith)
 
-module _ (c : CoreState) (k : Setup) (views : List View) (i : ℕ) (v : View) (t : SeatNotes) (keeps : KeepsViews c k views) (below : i < length views) (at : get_or views i v ≡ v)
+module _ (c : CoreState) (k : Setup) (views : List View) (i : ℕ) (v : View) (t : SeatNotes) (keeps : KeepsViews c k views)
+    (below : i < length views) (at : get_or views i v ≡ v)
     (at_t : IsSeatAt c i t) (d : ℕ) where
   kept : IsKept c i t v
   kept = keeps.each i t v below at_t at
@@ -122,7 +136,8 @@ module _ (c : CoreState) (k : Setup) (views : List View) (i : ℕ) (v : View) (t
   cut_unclaimed none may = let g = may.cutting in let f = s.is_cutting in omega arith
 
   pub cut_undurable : (mark : ℕ) → mark ≡ durable_used (memory_at c) → mark ≤ d → MayCut (memory_in c k) v d → ⊥
-  cut_undurable mark is past may = let less = may.durable in let e : durable_used (memory_in c k) ≡ mark = ap durable_used (sym same) ∙ sym is in omega arith
+  cut_undurable mark is past may = let less = may.durable in let e : durable_used (memory_in c k) ≡ mark = ap durable_used (sym same)
+      ∙ sym is in omega arith
 
   module _ (class : ℕ) (class_is : class ≡ info (memory_at c) d) where
     now : info (memory_in c k) d ≡ class
@@ -145,7 +160,8 @@ module _ (c : CoreState) (k : Setup) (views : List View) (i : ℕ) (v : View) (t
       less = omega arith
 
       count_is : length (of_class v.caches class) ≡ (get_or t.caches class no_cache).count
-      count_is = kept.caches.count class (get_or t.caches class no_cache) (entry_is t.caches class (get_or t.caches class no_cache) no_cache (let l = kept.caches.long in let n = less in omega arith)) less
+      count_is = kept.caches.count class (get_or t.caches class no_cache)
+          (entry_is t.caches class (get_or t.caches class no_cache) no_cache (let l = kept.caches.long in let n = less in omega arith)) less
 
       pub cut_cached : (get_or t.caches class no_cache).count ≢ 0 → MayCut (memory_in c k) v d → ⊥
       cut_cached other may = other (sym count_is ∙ ap length (ap (of_class v.caches) (sym now) ∙ may.uncached))
@@ -155,9 +171,11 @@ module _ (c : CoreState) (k : Setup) (views : List View) (i : ℕ) (v : View) (t
       walks_are = ap₂ (λ m n. Walks (next m) (start_word n d) (class_blocks n class d)) same (sym keeps.capacity ∙ sym cap)
           ∙ ap (λ x. Walks (next (memory_in c k)) (start_word v.setup.capacity d) (class_blocks v.setup.capacity x d)) (sym now)
 
-      pub cut_decided : 0 < cutting_in (usage_for i (get_or c.superblocks.items d no_superblock)) → (mark held : ℕ) → mark ≡ durable_used (memory_at c) → d < mark → held ≡ durable_info (memory_at c) d → held ≡ class
+      pub cut_decided : 0 < cutting_in (usage_for i (get_or c.superblocks.items d no_superblock)) → (mark held : ℕ)
+          → mark ≡ durable_used (memory_at c) → d < mark → held ≡ durable_info (memory_at c) d → held ≡ class
           → (get_or t.caches class no_cache).count ≡ 0 → (answer : Bool)
-          → (answer ≡ true) ↔ Walks (next (memory_at c)) (start_word c.geometry.capacity d) (class_blocks c.geometry.capacity class d) → (answer ≡ true) ↔ MayCut (memory_in c k) v d
+          → (answer ≡ true) ↔ Walks (next (memory_at c)) (start_word c.geometry.capacity d) (class_blocks c.geometry.capacity class d)
+          → (answer ≡ true) ↔ MayCut (memory_in c k) v d
       cut_decided cutting mark held mark_is durable held_is held_same none answer linked = (
         λ e. record {
           cutting = (let f = s.is_cutting in omega arith);
@@ -194,20 +212,27 @@ module _ (c : CoreState) (k : Setup) (views : List View) (i : ℕ) (v : View) (t
       in_block b some = block_of k.capacity class d b some
 
       not_cut : times_cut good.shape (tally_of views) d ≡ 0
-      not_cut = let some = may.cutting in let tot = total_at (times_raw d) views i v below at in let p = good.shaped.placed.one_place d in let most = one_at_most (nat_lt d (used (memory_in c k))) in omega arith
+      not_cut = let some = may.cutting in let tot = total_at (times_raw d) views i v below at in let p = good.shaped.placed.one_place d in
+          let most = one_at_most (nat_lt d (used (memory_in c k))) in omega arith
 
       free : (b : ℕ) → 0 < times b cs → (times b cs ≡ 1) × (total (times_block b) views ≡ 0)
       free b some = (
         block_once k.capacity class d b cut_class (in_block b some),
         elim (cases_lt 0 (total (times_block b) views)) as (λ _. total (times_block b) views ≡ 0) [
-          | inl there ↦ absurd (let x = (good.shaped.chained.inside b there).0 in let n = not_cut in let e = ap (times_cut good.shape (tally_of views)) (superblock_is k.capacity class d b cut_class (in_block b some)) in omega arith)
+          | inl there ↦ absurd (let x = (good.shaped.chained.inside b there).0 in let n = not_cut in
+              let e = ap (times_cut good.shape (tally_of views)) (superblock_is k.capacity class d b cut_class (in_block b some)) in omega arith)
           | inr none ↦ omega arith
         ],
       )
 
       pub whole : (first count : ℕ) → first ≡ start_word c.geometry.capacity d → count ≡ blocks_of class
           → (first ≡ start_word k.capacity d) × (count ≡ length cs) × (chain (λ n. get_or c.words.items n 0) first count ≡ cs)
-      whole first count first_is count_is = (first_from, count_all, ap₂ (chain (λ n. get_or c.words.items n 0)) first_from count_all ∙ chain_is c k views keeps class d (start_word k.capacity d) cs cut_class d_less in_block walks) where
+      whole first count first_is count_is = (
+        first_from,
+        count_all,
+        ap₂ (chain (λ n. get_or c.words.items n 0)) first_from count_all
+            ∙ chain_is c k views keeps class d (start_word k.capacity d) cs cut_class d_less in_block walks,
+      ) where
         first_from : first ≡ start_word k.capacity d
         first_from = first_is ∙ ap (λ n. start_word n d) (sym keeps.capacity)
 
@@ -216,7 +241,8 @@ module _ (c : CoreState) (k : Setup) (views : List View) (i : ℕ) (v : View) (t
 
       pub inside : (first count : ℕ) → first ≡ start_word c.geometry.capacity d → count ≡ blocks_of class
           → (b : ℕ) → 0 < times b (chain (λ n. get_or c.words.items n 0) first count) → (b < length c.blocks.items) × (b < length c.words.items)
-      inside first count first_is count_is b there = block_fits c k views keeps class d b cut_class d_less (in_block b (subst (λ xs. 0 < times b xs) (whole first count first_is count_is).2 there))
+      inside first count first_is count_is b there = block_fits c k views keeps class d b cut_class d_less
+          (in_block b (subst (λ xs. 0 < times b xs) (whole first count first_is count_is).2 there))
 
       pub cut : (first count : ℕ) → first ≡ start_word c.geometry.capacity d → count ≡ blocks_of class → (blocks : Vec BlockOwner Global)
           → HasNewOwner c.blocks.items blocks.items (chain (λ n. get_or c.words.items n 0) first count) (record { seat = i; place = place.Cached })
@@ -239,11 +265,19 @@ module _ (c : CoreState) (k : Setup) (views : List View) (i : ℕ) (v : View) (t
         superblocks = length-set c.superblocks.items d (record { seat = i; usage = usage.Nothing });
         roots = refl;
         mine = record {
-          notes = (let n = kept.notes in record { ticket = n.ticket; stopped = n.stopped; seen_used = n.seen_used; seen_head = n.seen_head; seen_link = n.seen_link; seen_anchor = ap (cleared d 1) n.seen_anchor ∙ sym anchor_is });
+          notes = (let n = kept.notes in record {
+            ticket = n.ticket;
+            stopped = n.stopped;
+            seen_used = n.seen_used;
+            seen_head = n.seen_head;
+            seen_link = n.seen_link;
+            seen_anchor = ap (cleared d 1) n.seen_anchor ∙ sym anchor_is;
+          });
           caches = subst (HasCaches (set t.caches class (record { first = first; count = count }))) (sym caches_are)
               (caches_given c k views i v t keeps below at at_t class less_class cs empty free first count (first_step ∙ sym w.0) (sym w.1));
           batch = kept.batch;
-          blocks = subst (λ l. HasBlocksOf blocks.items i v.small l v.batch.blocks) (sym caches_are) (blocks_given c k views i v t keeps below at at_t class less_class cs empty free blocks.items given_cs);
+          blocks = subst (λ l. HasBlocksOf blocks.items i v.small l v.batch.blocks) (sym caches_are)
+              (blocks_given c k views i v t keeps below at at_t class less_class cs empty free blocks.items given_cs);
           superblocks = cut_given_up c.superblocks.items i d v.raw v.split v.cutting v.classed v.large long may.cutting kept.superblocks;
           roots = kept.roots;
         };
@@ -252,7 +286,9 @@ module _ (c : CoreState) (k : Setup) (views : List View) (i : ℕ) (v : View) (t
           caches = h.caches;
           batch = h.batch;
           blocks = blocks_theirs c k views i v t keeps below at at_t class less_class cs empty free blocks.items given_cs j r u other most h;
-          superblocks = usages_theirs c.superblocks.items i j d usage.Nothing (λ e y. IsUsage e y u.raw u.split u.cutting u.classed u.large) long other (usage_alone i j (get_or c.superblocks.items d no_superblock) other mine_usage) h.superblocks;
+          superblocks = usages_theirs c.superblocks.items i j d usage.Nothing
+              (λ e y. IsUsage e y u.raw u.split u.cutting u.classed u.large) long other
+              (usage_alone i j (get_or c.superblocks.items d no_superblock) other mine_usage) h.superblocks;
           roots = h.roots;
         };
       } where
@@ -275,10 +311,11 @@ module _ (c : CoreState) (k : Setup) (views : List View) (i : ℕ) (v : View) (t
         mine_usage none = let g = may.cutting in let f = s.is_cutting in let z = ap cutting_in none in omega arith
 
         first_step : first_of cs ≡ start_word k.capacity d
-        first_step = first_steps (start_word k.capacity d) (words_of_class class) (blocks_of class) (let four = four_blocks class cut_class in omega arith) where
-          first_steps : (from apart n : ℕ) → 0 < n → first_of (steps from apart n) ≡ from
-          first_steps from apart zero some = absurd (omega arith)
-          first_steps from apart (suc n) some = refl
+        first_step = first_steps (start_word k.capacity d) (words_of_class class) (blocks_of class) (let four = four_blocks class cut_class in
+            omega arith) where
+              first_steps : (from apart n : ℕ) → 0 < n → first_of (steps from apart n) ≡ from
+              first_steps from apart zero some = absurd (omega arith)
+              first_steps from apart (suc n) some = refl
 
 -- what fits when the blocks come into the cache
 pub record CutFits (c : CoreState) (d class : ℕ) : Type 0 where
@@ -292,9 +329,11 @@ cut_below c i d core less decides =
     let below : i < length core.views = among core.keeps less in
     let here = entry_there core.views i below in
     let may = (decides core.setup core.views here.0 core.keeps below here.1).0 refl in
-    let l = may.durable in let q = core.keeps.sound.good.shaped.durable.behind in let r = core.keeps.sound.good.shaped.durable.room in let g = core.keeps.capacity in omega arith
+    let l = may.durable in let q = core.keeps.sound.good.shaped.durable.behind in let r = core.keeps.sound.good.shaped.durable.room in
+    let g = core.keeps.capacity in omega arith
 
-pub cut_fits : (c : CoreState) (i d : ℕ) (t : SeatNotes) (class : ℕ) → IsCore c → i < length c.seats.items → IsSeatAt c i t → Decides c i (λ m v. MayCut m v d) true → class ≡ info (memory_at c) d → CutFits c d class
+pub cut_fits : (c : CoreState) (i d : ℕ) (t : SeatNotes) (class : ℕ) → IsCore c → i < length c.seats.items → IsSeatAt c i t
+    → Decides c i (λ m v. MayCut m v d) true → class ≡ info (memory_at c) d → CutFits c d class
 cut_fits c i d t class core less at_t decides class_is =
     let below : i < length core.views = among core.keeps less in
     let here = entry_there core.views i below in

@@ -64,40 +64,66 @@ record IsOrdered (k : Setup) (s : TableState) : Type 0 where
 in_order : (c : CoreState) (k : Setup) (s : TableState) → KeepsState c k s → IsOrdered k s → Represents c k s
 in_order c k s keeps ordered = record { words = keeps.words; keeps = keeps.keeps; order = ordered.order; made = ordered.made }
 
-after_event : (c : CoreState) (k : Setup) (views : List View) (i : ℕ) (v : View) (event : Event) → KeepsViews c k views → IsOrdered k (state_of c views) → i < k.seats → i < length views → get_or views i v ≡ v
+after_event : (c : CoreState) (k : Setup) (views : List View) (i : ℕ) (v : View) (event : Event) → KeepsViews c k views
+    → IsOrdered k (state_of c views) → i < k.seats → i < length views → get_or views i v ≡ v
     → MayDo (memory_of k.capacity c.words.items) v event → IsOrdered k (state_after k (state_of c views) i v event)
 after_event c k views i v event keeps ordered seat below at may = record {
   order = event_order k (memory_of k.capacity c.words.items) views i v event below at seat ordered.order;
   made = event_made k c.words.items views i v event below at keeps.sound may.may ordered.made;
 }
 
-of_steps : (c new : CoreState) (k : Setup) (views : List View) (i : ℕ) (v : View) (event : Event) (answer : StepAnswer) → KeepsViews c k views → IsOrdered k (state_of c views) → i < k.seats → i < length views → get_or views i v ≡ v → v.stopped ≡ None
+of_steps : (c new : CoreState) (k : Setup) (views : List View) (i : ℕ) (v : View) (event : Event) (answer : StepAnswer) → KeepsViews c k views
+    → IsOrdered k (state_of c views) → i < k.seats → i < length views → get_or views i v ≡ v → v.stopped ≡ None
     → Steps c new k views i v event answer → Next new k (state_of c views) i event answer
-of_steps c new k views i v event Done keeps ordered seat below at going (steps_done may on stands) =
-    (state_after k (state_of c views) i v event, is_done v at may on, in_order new k _ stands (after_event c k views i v event keeps ordered seat below at may))
-of_steps c new k views i v event (Stopped ticket) keeps ordered seat below at going (steps_stopped step may at_end stands) =
-    (state_after k (state_of c views) i v event, stops v step at may at_end, in_order new k _ stands (after_event c k views i v event keeps ordered seat below at may))
-of_steps c new k views i v event NotNow keeps ordered seat below at going (steps_not refused same) =
-    (state_of c views, not_now v at going refused, subst (λ x. Represents x k (state_of c views)) (sym same) (in_order c k (state_of c views) (record { words = refl; keeps = keeps }) ordered))
+of_steps c new k views i v event Done keeps ordered seat below at going (steps_done may on stands) = (
+  state_after k (state_of c views) i v event,
+  is_done v at may on,
+  in_order new k _ stands (after_event c k views i v event keeps ordered seat below at may),
+)
+of_steps c new k views i v event (Stopped ticket) keeps ordered seat below at going (steps_stopped step may at_end stands) = (
+  state_after k (state_of c views) i v event,
+  stops v step at may at_end,
+  in_order new k _ stands (after_event c k views i v event keeps ordered seat below at may),
+)
+of_steps c new k views i v event NotNow keeps ordered seat below at going (steps_not refused same) = (
+  state_of c views,
+  not_now v at going refused,
+  subst (λ x. Represents x k (state_of c views)) (sym same)
+      (in_order c k (state_of c views) (record { words = refl; keeps = keeps }) ordered),
+)
 
 module _ (c : CoreState) (i : ℕ) (t : SeatNotes) (event : Event) (at_t : IsSeatAt c i t) where
-  by_views : (new : CoreState) (answer : StepAnswer) → ((k : Setup) (views : List View) → KeepsViews c k views → IsOrdered k (state_of c views) → Next new k (state_of c views) i event answer) → Follows c i event answer new
-  by_views new answer next = λ k s stands. subst (λ x. Next new k x i event answer) (sym (stated c k s stands)) (next k s.views stands.keeps (record { order = stands.order; made = subst (λ (x : TableState). length s.views + total (λ (v : View). one_if_some v.ticket) s.views ≤ k.seats + (memory_of k.capacity x.words).drawn) (stated c k s stands) stands.made }))
+  by_views : (new : CoreState) (answer : StepAnswer) → ((k : Setup) (views : List View) → KeepsViews c k views → IsOrdered k (state_of c views)
+      → Next new k (state_of c views) i event answer) → Follows c i event answer new
+  by_views new answer next = λ k s stands. subst (λ x. Next new k x i event answer) (sym (stated c k s stands))
+      (next k s.views stands.keeps (record {
+        order = stands.order;
+        made =
+            subst (λ (x : TableState). length s.views + total (λ (v : View). one_if_some v.ticket) s.views ≤ k.seats +
+            (memory_of k.capacity x.words).drawn) (stated c k s stands) stands.made;
+      }))
 
   seat_there : (k : Setup) (views : List View) → KeepsViews c k views → (v : View) × (get_or views i v ≡ v)
   seat_there k views keeps = entry_there views i (among keeps at_t.less)
 
   pub follows_stopped : (step : ℕ) → t.stopped ≡ Some step → Follows c i event (Stopped step) c
   follows_stopped step some = by_views c (Stopped step) (λ k views keeps order.
-      let v = seat_there k views keeps in
-      (state_of c views, has_stopped v.0 step v.1 ((keeps.each i t v.0 (among keeps at_t.less) at_t v.1).notes.stopped ∙ some), in_order c k (state_of c views) (record { words = refl; keeps = keeps }) order))
+      let v = seat_there k views keeps in (
+        state_of c views,
+        has_stopped v.0 step v.1 ((keeps.each i t v.0 (among keeps at_t.less) at_t v.1).notes.stopped ∙ some),
+        in_order c k (state_of c views) (record { words = refl; keeps = keeps }) order,
+      ))
 
   pub follows_not : t.stopped ≡ None → (HasTicketAt t.ticket event → ⊥) → Follows c i event NotNow c
   follows_not going none = by_views c NotNow (λ k views keeps order.
-      let v = seat_there k views keeps in let notes = (keeps.each i t v.0 (among keeps at_t.less) at_t v.1).notes in
-      (state_of c views, not_now v.0 v.1 (notes.stopped ∙ going) (λ may. none (ticket_of v.0 t.ticket event notes.ticket may.may.ticket)), in_order c k (state_of c views) (record { words = refl; keeps = keeps }) order))
+      let v = seat_there k views keeps in let notes = (keeps.each i t v.0 (among keeps at_t.less) at_t v.1).notes in (
+        state_of c views,
+        not_now v.0 v.1 (notes.stopped ∙ going) (λ may. none (ticket_of v.0 t.ticket event notes.ticket may.may.ticket)),
+        in_order c k (state_of c views) (record { words = refl; keeps = keeps }) order,
+      ))
 
-  pub follows_taken : t.stopped ≡ None → HasTicketAt t.ticket event → (new : CoreState) (answer : StepAnswer) → Takes c i event answer new → Follows c i event answer new
+  pub follows_taken : t.stopped ≡ None → HasTicketAt t.ticket event → (new : CoreState) (answer : StepAnswer) → Takes c i event answer new
+      → Follows c i event answer new
   follows_taken going has new answer takes = by_views new answer (λ k views keeps order.
       let v = seat_there k views keeps in let below = among keeps at_t.less in let notes = (keeps.each i t v.0 below at_t v.1).notes in
       of_steps c new k views i v.0 event answer keeps order (subst (λ n. i < n) (sym keeps.opened) at_t.less) below v.1 (notes.stopped ∙ going)
@@ -107,13 +133,17 @@ module _ (c : CoreState) (i : ℕ) (t : SeatNotes) (event : Event) (at_t : IsSea
 pub core_of : (c : CoreState) → IsStanding c → IsCore c
 core_of c core = record { setup = core.setup; views = core.state.views; keeps = core.stands.keeps }
 
-pub seats_after : (c new : CoreState) (i : ℕ) (event : Event) (answer : StepAnswer) → IsStanding c → Follows c i event answer new → length new.seats.items ≡ length c.seats.items
-seats_after c new i event answer core follows = let next = follows core.setup core.state core.stands in sym next.2.keeps.opened ∙ core.stands.keeps.opened
+pub seats_after : (c new : CoreState) (i : ℕ) (event : Event) (answer : StepAnswer) → IsStanding c → Follows c i event answer new
+    → length new.seats.items ≡ length c.seats.items
+seats_after c new i event answer core follows = let next = follows core.setup core.state core.stands in
+    sym next.2.keeps.opened ∙ core.stands.keeps.opened
 
 -- the core after a step stands for a state again
 pub core_after : (c new : CoreState) (i : ℕ) (event : Event) (answer : StepAnswer) → IsStanding c → Follows c i event answer new → IsStanding new
-core_after c new i event answer core follows = let next = follows core.setup core.state core.stands in record { setup = core.setup; state = next.0; stands = next.2 }
+core_after c new i event answer core follows = let next = follows core.setup core.state core.stands in
+    record { setup = core.setup; state = next.0; stands = next.2 }
 
 pub same_ticket : (c : CoreState) (i : ℕ) (t : SeatNotes) (event : Event) → IsSeatAt c i t → i < length c.seats.items → HasTicketAt t.ticket event
     → (s : SeatNotes) → get_or c.seats.items i s ≡ s → HasTicketAt s.ticket event
-same_ticket c i t event at_t less has s at_s = subst (λ (x : SeatNotes). HasTicketAt x.ticket event) (sym at_t.at ∙ entry_is c.seats.items i t s less ∙ at_s) has
+same_ticket c i t event at_t less has s at_s = subst (λ (x : SeatNotes). HasTicketAt x.ticket event) (sym at_t.at
+    ∙ entry_is c.seats.items i t s less ∙ at_s) has

@@ -34,7 +34,8 @@ held_only place.Held some = (refl, refl, refl)
 held_only place.Cached some = absurd (omega arith)
 held_only place.Batched some = absurd (omega arith)
 
-module _ (c : CoreState) (k : Setup) (views : List View) (i : ℕ) (v : View) (t : SeatNotes) (keeps : KeepsViews c k views) (below : i < length views) (at : get_or views i v ≡ v)
+module _ (c : CoreState) (k : Setup) (views : List View) (i : ℕ) (v : View) (t : SeatNotes) (keeps : KeepsViews c k views)
+    (below : i < length views) (at : get_or views i v ≡ v)
     (at_t : IsSeatAt c i t) where
   kept : IsKept c i t v
   kept = keeps.each i t v below at_t at
@@ -60,7 +61,8 @@ module _ (c : CoreState) (k : Setup) (views : List View) (i : ℕ) (v : View) (t
       ])
 
   module _ (block : ℕ) (held : 0 < held_in (place_for i (get_or c.blocks.items block no_block))) where
-    was : (held_in (place_for i (get_or c.blocks.items block no_block)) ≡ 1) × (cached_in (place_for i (get_or c.blocks.items block no_block)) ≡ 0) × (batched_in (place_for i (get_or c.blocks.items block no_block)) ≡ 0)
+    was : (held_in (place_for i (get_or c.blocks.items block no_block)) ≡ 1)
+        × (cached_in (place_for i (get_or c.blocks.items block no_block)) ≡ 0) × (batched_in (place_for i (get_or c.blocks.items block no_block)) ≡ 0)
     was = held_only (place_for i (get_or c.blocks.items block no_block)) held
 
     in_small : 0 < total (times block) v.small
@@ -73,11 +75,14 @@ module _ (c : CoreState) (k : Setup) (views : List View) (i : ℕ) (v : View) (t
     held_range = moves.block_range c k views i v t keeps below at at_t block some_block
 
     pub held_is : IsClass (info (memory_at c) (superblock_at c.geometry.capacity block))
-    held_is = let tot = total_at (times_block block) views i v below at in let s = some_block in let inside = good.shaped.chained.inside block (omega arith) in
-        subst (λ n. IsClass (info (memory_of n c.words.items) (superblock_at n block))) keeps.capacity (good.shaped.chained.is_class (superblock_at k.capacity block) inside.0)
+    held_is = let tot = total_at (times_block block) views i v below at in let s = some_block in
+        let inside = good.shaped.chained.inside block (omega arith) in
+        subst (λ n. IsClass (info (memory_of n c.words.items) (superblock_at n block))) keeps.capacity
+        (good.shaped.chained.is_class (superblock_at k.capacity block) inside.0)
 
     info_v : info (memory_in c k) (superblock_at v.setup.capacity block) ≡ info (memory_at c) (superblock_at c.geometry.capacity block)
-    info_v = ap (λ n. info (memory_in c k) (superblock_at n block)) (seat_capacity c k views i v keeps below at) ∙ ap (λ n. info (memory_of n c.words.items) (superblock_at c.geometry.capacity block)) keeps.capacity
+    info_v = ap (λ n. info (memory_in c k) (superblock_at n block)) (seat_capacity c k views i v keeps below at)
+        ∙ ap (λ n. info (memory_of n c.words.items) (superblock_at c.geometry.capacity block)) keeps.capacity
 
     module _ (class : ℕ) (class_is : class ≡ info (memory_at c) (superblock_at c.geometry.capacity block)) where
       is_class : IsClass class
@@ -103,7 +108,8 @@ module _ (c : CoreState) (k : Setup) (views : List View) (i : ℕ) (v : View) (t
       pub count_short : e.count ≤ superblocks_end c.geometry.capacity
       count_short = let n = count_is in let s = cache_short class in omega arith
 
-      to_may : (1 ≤ length (of_class v.caches class) → next (memory_in c k) block ≡ first_of (of_class v.caches class)) → MayFree (memory_in c k) v block
+      to_may : (1 ≤ length (of_class v.caches class) → next (memory_in c k) block ≡ first_of (of_class v.caches class))
+          → MayFree (memory_in c k) v block
       to_may linked = let here : class ≡ info (memory_in c k) (superblock_at v.setup.capacity block) = class_is ∙ sym info_v in record {
         is_class = subst IsClass here is_class;
         held = subst (λ n. 0 < times block (of_class v.small n)) here in_class;
@@ -115,9 +121,11 @@ module _ (c : CoreState) (k : Setup) (views : List View) (i : ℕ) (v : View) (t
 
       pub free_linked : e.count ≢ 0 → (to : ℕ) → to ≡ next (memory_at c) block → (nat_eq to e.first ≡ true) ↔ MayFree (memory_in c k) v block
       free_linked some to to_is = (
-        λ h. to_may (λ more. ap (λ n. next (memory_of n c.words.items) block) keeps.capacity ∙ sym to_is ∙ eqb-true to e.first h ∙ sym (kept.caches.first class e at_e less more)),
+        λ h. to_may (λ more. ap (λ n. next (memory_of n c.words.items) block) keeps.capacity ∙ sym to_is ∙ eqb-true to e.first h
+            ∙ sym (kept.caches.first class e at_e less more)),
         λ may. eq-eqb to e.first (to_is ∙ ap (λ n. next (memory_of n c.words.items) block) (sym keeps.capacity)
-            ∙ subst (λ n. 1 ≤ length (of_class v.caches n) → next (memory_in c k) block ≡ first_of (of_class v.caches n)) (info_v ∙ sym class_is) may.linked (let n = count_is in omega arith)
+            ∙ subst (λ n. 1 ≤ length (of_class v.caches n) → next (memory_in c k) block ≡ first_of (of_class v.caches n)) (info_v
+            ∙ sym class_is) may.linked (let n = count_is in omega arith)
             ∙ kept.caches.first class e at_e less (let n = count_is in omega arith)),
       )
 
@@ -136,7 +144,10 @@ module _ (c : CoreState) (k : Setup) (views : List View) (i : ℕ) (v : View) (t
       abbrev new : Cache
       new = record { first = block; count = e.count + 1 }
 
-      freed : IsMoved c (record c { blocks = with_item c.blocks block (record { seat = i; place = place.Cached }); seats = with_item c.seats i (record t { caches = set t.caches class new }) }) views i t (after_free v class block)
+      freed : IsMoved c (record c {
+        blocks = with_item c.blocks block (record { seat = i; place = place.Cached });
+        seats = with_item c.seats i (record t { caches = set t.caches class new });
+      }) views i t (after_free v class block)
       freed = record {
         after = record t { caches = set t.caches class new };
         seats = refl;
@@ -150,18 +161,33 @@ module _ (c : CoreState) (k : Setup) (views : List View) (i : ℕ) (v : View) (t
         superblocks = refl;
         roots = refl;
         mine = record {
-          notes = (let n = kept.notes in record { ticket = n.ticket; stopped = n.stopped; seen_used = n.seen_used; seen_head = n.seen_head; seen_link = n.seen_link; seen_anchor = n.seen_anchor });
-          caches = cache_set t.caches v.caches class (block ∷ of_class v.caches class) new kept.caches less long_caches (λ some. refl) (let m = count_is in let z : suc (length (of_class v.caches class)) ≡ e.count + 1 = omega arith in z);
+          notes = (let n = kept.notes in record {
+            ticket = n.ticket;
+            stopped = n.stopped;
+            seen_used = n.seen_used;
+            seen_head = n.seen_head;
+            seen_link = n.seen_link;
+            seen_anchor = n.seen_anchor;
+          });
+          caches = cache_set t.caches v.caches class (block ∷ of_class v.caches class) new kept.caches less long_caches (λ some. refl)
+              (let m = count_is in let z : suc (length (of_class v.caches class)) ≡ e.count + 1 = omega arith in z);
           batch = kept.batch;
-          blocks = places_mine c.blocks.items i block place.Cached (λ y p. IsPlace y p (set v.small class (without block (of_class v.small class))) (set v.caches class (block ∷ of_class v.caches class)) v.batch.blocks) block_long
+          blocks = places_mine c.blocks.items i block place.Cached (λ y p. IsPlace y p
+              (set v.small class (without block (of_class v.small class)))
+              (set v.caches class (block ∷ of_class v.caches class)) v.batch.blocks) block_long
               (let o = kept.blocks block in let w = was in let one = once block in let a = w.0 in let b = w.1 in let f = w.2 in record {
-                held = (let l = total_lists block v.small class (without block (of_class v.small class)) long_small in let h = o.held in let s = in_class in let w0 = without_at block (of_class v.small class) (let l2 = list_at_most block class v.small in omega arith) in let l3 = list_at_most block class v.small in omega arith);
-                cached = (let l = total_lists block v.caches class (block ∷ of_class v.caches class) long_caches in let self = eq-eqb-one block block refl in let h = o.cached in omega arith);
+                held = (let l = total_lists block v.small class (without block (of_class v.small class)) long_small in let h = o.held in
+                    let s = in_class in let w0 = without_at block (of_class v.small class) (let l2 = list_at_most block class v.small in
+                    omega arith) in let l3 = list_at_most block class v.small in omega arith);
+                cached = (let l = total_lists block v.caches class (block ∷ of_class v.caches class) long_caches in
+                    let self = eq-eqb-one block block refl in let h = o.cached in omega arith);
                 batched = (let h = o.batched in omega arith);
               })
               (λ y other. let o = kept.blocks y in record {
-                held = (let l = total_lists y v.small class (without block (of_class v.small class)) long_small in let w0 = without_off y block (of_class v.small class) other in let h = o.held in omega arith);
-                cached = (let l = total_lists y v.caches class (block ∷ of_class v.caches class) long_caches in let none = ne-eqb-none block y (λ h. other (sym h)) in let h = o.cached in omega arith);
+                held = (let l = total_lists y v.small class (without block (of_class v.small class)) long_small in
+                    let w0 = without_off y block (of_class v.small class) other in let h = o.held in omega arith);
+                cached = (let l = total_lists y v.caches class (block ∷ of_class v.caches class) long_caches in
+                    let none = ne-eqb-none block y (λ h. other (sym h)) in let h = o.cached in omega arith);
                 batched = o.batched;
               });
           superblocks = kept.superblocks;
@@ -171,16 +197,24 @@ module _ (c : CoreState) (k : Setup) (views : List View) (i : ℕ) (v : View) (t
           notes = h.notes;
           caches = h.caches;
           batch = h.batch;
-          blocks = places_theirs c.blocks.items i j block place.Cached (λ y p. IsPlace y p u.small u.caches u.batch.blocks) block_long other (place_alone i j (get_or c.blocks.items block no_block) other there) h.blocks;
+          blocks = places_theirs c.blocks.items i j block place.Cached (λ y p. IsPlace y p u.small u.caches u.batch.blocks) block_long other
+              (place_alone i j (get_or c.blocks.items block no_block) other there) h.blocks;
           superblocks = h.superblocks;
           roots = h.roots;
         };
       }
 
-      pub free : IsMoved c (record c { blocks = with_item c.blocks block (record { seat = i; place = place.Cached }); seats = with_item c.seats i (record t { caches = set t.caches class new }) }) views i t
+      pub free : IsMoved c (record c {
+        blocks = with_item c.blocks block (record { seat = i; place = place.Cached });
+        seats = with_item c.seats i (record t { caches = set t.caches class new });
+      }) views i t
           (after_free v (info (memory_in c k) (superblock_at v.setup.capacity block)) block)
-      free = subst (λ n. IsMoved c (record c { blocks = with_item c.blocks block (record { seat = i; place = place.Cached }); seats = with_item c.seats i (record t { caches = set t.caches class new }) }) views i t (after_free v n block))
+      free = subst (λ n. IsMoved c (record c {
+        blocks = with_item c.blocks block (record { seat = i; place = place.Cached });
+        seats = with_item c.seats i (record t { caches = set t.caches class new });
+      }) views i t (after_free v n block))
           (class_is ∙ sym info_v) freed
 
   pub not_held : (block : ℕ) → held_in (place_for i (get_or c.blocks.items block no_block)) ≡ 0 → MayFree (memory_in c k) v block → ⊥
-  not_held block none may = let s = in_lists_total block (info (memory_in c k) (superblock_at v.setup.capacity block)) v.small may.held in let o = (kept.blocks block).held in omega arith
+  not_held block none may = let s = in_lists_total block (info (memory_in c k) (superblock_at v.setup.capacity block)) v.small may.held in
+      let o = (kept.blocks block).held in omega arith

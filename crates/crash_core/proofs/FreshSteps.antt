@@ -29,7 +29,8 @@ use Rattle.seat_state.proofs.UsageLemmas.{no_usage}
 use Rattle.seat_state.proofs.RangeLemmas.{range_mine, range_theirs}
 use Rattle.seat_state.proofs.WordLemmas.{entry_is}
 
-module _ (c : CoreState) (k : Setup) (views : List View) (i : ℕ) (v : View) (t : SeatNotes) (keeps : KeepsViews c k views) (below_i : i < length views) (at : get_or views i v ≡ v)
+module _ (c : CoreState) (k : Setup) (views : List View) (i : ℕ) (v : View) (t : SeatNotes) (keeps : KeepsViews c k views)
+    (below_i : i < length views) (at : get_or views i v ≡ v)
     (at_t : IsSeatAt c i t) where
   kept : IsKept c i t v
   kept = keeps.each i t v below_i at_t at
@@ -57,14 +58,27 @@ module _ (c : CoreState) (k : Setup) (views : List View) (i : ℕ) (v : View) (t
     pub lost_take : (n found : ℕ) → found ≡ get_or c.words.items 8 found → found ≢ mark → Steps c c k views i v (TakeFresh n) NotNow
     lost_take n found is differs = step_not c k views i v (TakeFresh n) (λ may seen_now. differs (sym (now found is) ∙ seen_now ∙ ap seen saw))
 
-    pub take_fresh : v.stopped ≡ None → IsThere v.ticket → (n found word : ℕ) → found ≡ get_or c.words.items 8 found → found ≡ mark → 1 ≤ n → mark + n ≤ k.capacity → word ≡ mark + n
-        → (owners : Vec SuperblockOwner Global) (anchor : Option Seen) → IsRange c.superblocks.items owners.items mark n (record { seat = i; usage = usage.Raw }) → snapshot anchor ≡ cleared mark n (snapshot t.seen_anchor)
-        → Steps c (record c { words = with_item c.words 8 word; superblocks = owners; seats = with_item c.seats i (record t { ticket = None; seen_used = Some word; seen_anchor = anchor }) }) k views i v (TakeFresh n) Done
+    pub take_fresh : v.stopped ≡ None → IsThere v.ticket → (n found word : ℕ) → found ≡ get_or c.words.items 8 found → found ≡ mark → 1 ≤ n
+        → mark + n ≤ k.capacity → word ≡ mark + n
+        → (owners : Vec SuperblockOwner Global) (anchor : Option Seen)
+        → IsRange c.superblocks.items owners.items mark n (record { seat = i; usage = usage.Raw })
+        → snapshot anchor ≡ cleared mark n (snapshot t.seen_anchor)
+        → Steps c (record c {
+          words = with_item c.words 8 word;
+          superblocks = owners;
+          seats = with_item c.seats i (record t { ticket = None; seen_used = Some word; seen_anchor = anchor });
+        }) k views i v (TakeFresh n) Done
     take_fresh going ticket n found word is same some_n room word_is owners anchor range anchor_is =
         step_done c c' k views i v t t' (TakeFresh n) keeps below_i at at_t going ticket
-        (record { is_seen = ap one_if_some saw; some = some_n; room = (let e = ap seen saw in let cap : v.setup.capacity ≡ k.capacity = ap (λ (s : Setup). s.capacity) (good.set_up i v below_i at).setup in omega arith) }) as_seen
+        (record {
+          is_seen = ap one_if_some saw;
+          some = some_n;
+          room = (let e = ap seen saw in
+              let cap : v.setup.capacity ≡ k.capacity = ap (λ (s : Setup). s.capacity) (good.set_up i v below_i at).setup in omega arith);
+        }) as_seen
         (ap (λ (y : View). y.stopped) won_it ∙ going)
-        (ap (λ y. set c.words.items 8 y) (word_is ∙ sym (pick (nat_eq (used (memory_in c k)) (seen v.seen_used)) (used (memory_in c k) + n) (used (memory_in c k)) test ∙ (let e = as_seen in let f = ap seen saw in let z : used (memory_in c k) + n ≡ mark + n = omega arith in z))))
+        (ap (λ y. set c.words.items 8 y) (word_is ∙ sym (pick (nat_eq (used (memory_in c k)) (seen v.seen_used)) (used (memory_in c k) + n)
+        (used (memory_in c k)) test ∙ (let e = as_seen in let f = ap seen saw in let z : used (memory_in c k) + n ≡ mark + n = omega arith in z))))
         refl (record { capacity = refl; budget = refl; carriers = refl; blocks = refl; superblocks = range.long; roots = refl })
         (subst (IsKept c' i t') (sym won_it) (record {
           notes = (let o = kept.notes in record {
@@ -78,9 +92,12 @@ module _ (c : CoreState) (k : Setup) (views : List View) (i : ℕ) (v : View) (t
           caches = kept.caches;
           batch = kept.batch;
           blocks = kept.blocks;
-          superblocks = range_mine c.superblocks.items owners.items i u n usage.Raw (λ d y. IsUsage d y (v.raw ++ steps u 1 n) v.split v.cutting v.classed v.large) range_u
-              (λ d low high. let o = subst (λ y. IsUsage d y v.raw v.split v.cutting v.classed v.large) (fresh d low i t v (inl (below_i, at)) kept) (kept.superblocks d) in record {
-                is_raw = (let a = times_append d v.raw (steps u 1 n) in let b = times_steps d u n in let low_is = below_not d u low in let high_is = below_is d (u + n) high in let r = o.is_raw in omega arith);
+          superblocks = range_mine c.superblocks.items owners.items i u n usage.Raw
+              (λ d y. IsUsage d y (v.raw ++ steps u 1 n) v.split v.cutting v.classed v.large) range_u
+              (λ d low high. let o = subst (λ y. IsUsage d y v.raw v.split v.cutting v.classed v.large)
+              (fresh d low i t v (inl (below_i, at)) kept) (kept.superblocks d) in record {
+                is_raw = (let a = times_append d v.raw (steps u 1 n) in let b = times_steps d u n in let low_is = below_not d u low in
+                    let high_is = below_is d (u + n) high in let r = o.is_raw in omega arith);
                 is_split = o.is_split;
                 is_cutting = o.is_cutting;
                 is_classed = o.is_classed;
@@ -104,7 +121,8 @@ module _ (c : CoreState) (k : Setup) (views : List View) (i : ℕ) (v : View) (t
           caches = h.caches;
           batch = h.batch;
           blocks = h.blocks;
-          superblocks = range_theirs c.superblocks.items owners.items i j u n usage.Raw (λ d y. IsUsage d y w.raw w.split w.cutting w.classed w.large) other range_u (λ d low high. fresh d low j s w most h) h.superblocks;
+          superblocks = range_theirs c.superblocks.items owners.items i j u n usage.Raw
+              (λ d y. IsUsage d y w.raw w.split w.cutting w.classed w.large) other range_u (λ d low high. fresh d low j s w most h) h.superblocks;
           roots = h.roots;
         })
       where
@@ -124,12 +142,18 @@ module _ (c : CoreState) (k : Setup) (views : List View) (i : ℕ) (v : View) (t
         test = eq-eqb (used (memory_in c k)) (seen v.seen_used) as_seen
 
         won_it : seat_after (memory_in c k) v (TakeFresh n) ≡ taken_fresh v n
-        won_it = pick (nat_eq (used (memory_in c k)) (seen v.seen_used)) (taken_fresh v n) (record (lost v (used (memory_in c k))) { seen_used = None }) test
+        won_it = pick (nat_eq (used (memory_in c k)) (seen v.seen_used)) (taken_fresh v n)
+            (record (lost v (used (memory_in c k))) { seen_used = None }) test
 
-        fresh : (d : ℕ) → u ≤ d → (j : ℕ) (s : SeatNotes) (w : View) → IsAmong views j w → IsKept c j s w → usage_for j (get_or c.superblocks.items d no_superblock) ≡ usage.Nothing
-        fresh d low j s w most h = let p = good.shaped.placed.one_place d in let e = as_seen in let none = below_not d (used (memory_in c k)) (omega arith) in
-            let raw = among_most (times_raw d) views j w most (λ none. (none.superblocks d).0) in let classed = among_most (λ (x : View). times_classed d x.classed) views j w most (λ none. (none.superblocks d).1) in let large = among_most (λ (x : View). times_large d x.large) views j w most (λ none. (none.superblocks d).2) in
-            no_usage d (usage_for j (get_or c.superblocks.items d no_superblock)) w.raw w.split w.cutting w.classed w.large (h.superblocks d) (omega arith) (omega arith) (omega arith)
+        fresh : (d : ℕ) → u ≤ d → (j : ℕ) (s : SeatNotes) (w : View) → IsAmong views j w → IsKept c j s w
+            → usage_for j (get_or c.superblocks.items d no_superblock) ≡ usage.Nothing
+        fresh d low j s w most h = let p = good.shaped.placed.one_place d in let e = as_seen in
+            let none = below_not d (used (memory_in c k)) (omega arith) in
+            let raw = among_most (times_raw d) views j w most (λ none. (none.superblocks d).0) in
+            let classed = among_most (λ (x : View). times_classed d x.classed) views j w most (λ none. (none.superblocks d).1) in
+            let large = among_most (λ (x : View). times_large d x.large) views j w most (λ none. (none.superblocks d).2) in
+            no_usage d (usage_for j (get_or c.superblocks.items d no_superblock)) w.raw w.split w.cutting w.classed w.large (h.superblocks d)
+            (omega arith) (omega arith) (omega arith)
 
         none_there : (d : ℕ) → (u ≤ d → d < u + n → ⊥) → times d (steps u 1 n) ≡ 0
         none_there d out = elim (cases_lt d u) [

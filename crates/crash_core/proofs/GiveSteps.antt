@@ -48,7 +48,14 @@ use Rattle.seat_state.proofs.NewSeat.{empty_batch}
 
 trimmed_kept : (c : CoreState) (i : ℕ) (t : SeatNotes) (v : View) → IsKept c i t v → IsKept c i t (trimmed v)
 trimmed_kept c i t v h = record {
-  notes = (let n = h.notes in record { ticket = n.ticket; stopped = n.stopped; seen_used = n.seen_used; seen_head = n.seen_head; seen_link = n.seen_link; seen_anchor = n.seen_anchor });
+  notes = (let n = h.notes in record {
+    ticket = n.ticket;
+    stopped = n.stopped;
+    seen_used = n.seen_used;
+    seen_head = n.seen_head;
+    seen_link = n.seen_link;
+    seen_anchor = n.seen_anchor;
+  });
   caches = h.caches;
   batch = h.batch;
   blocks = h.blocks;
@@ -56,7 +63,8 @@ trimmed_kept c i t v h = record {
   roots = h.roots;
 }
 
-module _ (c : CoreState) (k : Setup) (views : List View) (i : ℕ) (v : View) (t : SeatNotes) (keeps : KeepsViews c k views) (below : i < length views) (at : get_or views i v ≡ v)
+module _ (c : CoreState) (k : Setup) (views : List View) (i : ℕ) (v : View) (t : SeatNotes) (keeps : KeepsViews c k views)
+    (below : i < length views) (at : get_or views i v ≡ v)
     (at_t : IsSeatAt c i t) where
   kept : IsKept c i t v
   kept = keeps.each i t v below at_t at
@@ -76,11 +84,13 @@ module _ (c : CoreState) (k : Setup) (views : List View) (i : ℕ) (v : View) (t
       let there = first_there v.batch.blocks some_length in let s = (good.blocks i v below at).batched (first_of v.batch.blocks) there in
       let tot = total_at (times_block (first_of v.batch.blocks)) views i v below at in
       let inside = good.shaped.chained.inside (first_of v.batch.blocks) (omega arith) in
-      subst IsClass (ap (λ n. info (memory_in c k) (superblock_at n (first_of v.batch.blocks))) (sym cap) ∙ ap (info (memory_in c k)) s.0 ∙ s.1 ∙ kept.batch.class)
+      subst IsClass (ap (λ n. info (memory_in c k) (superblock_at n (first_of v.batch.blocks))) (sym cap) ∙ ap (info (memory_in c k)) s.0 ∙ s.1
+      ∙ kept.batch.class)
       (good.shaped.chained.is_class (superblock_at k.capacity (first_of v.batch.blocks)) inside.0)
 
   pub batch_below : t.batch.count ≢ 0 → t.batch.descriptor < c.geometry.capacity
-  batch_below some = let b = batched k (memory_in c k) views i v below at good t.batch.descriptor kept.batch.descriptor (let n = kept.batch.count in omega arith) in let g = keeps.capacity in omega arith
+  batch_below some = let b = batched k (memory_in c k) views i v below at good t.batch.descriptor kept.batch.descriptor
+      (let n = kept.batch.count in omega arith) in let g = keeps.capacity in omega arith
 
   module _ (d : ℕ) where
     pub give_none : t.batch.count ≡ 0 → MayGive (memory_in c k) v d → ⊥
@@ -97,7 +107,8 @@ module _ (c : CoreState) (k : Setup) (views : List View) (i : ℕ) (v : View) (t
       give_other other may = other (sym (ap seen_of saw) ∙ may.of)
 
       to_may : t.batch.count ≢ 0 → t.batch.descriptor ≡ d → word.of ≡ d
-          → (anchor_count (seen_word v.seen_anchor) ≢ 0 → next (memory_in c k) (last_of v.batch.blocks) ≡ start_word v.setup.capacity d + anchor_first (seen_word v.seen_anchor) * words_of_class v.batch.class)
+          → (anchor_count (seen_word v.seen_anchor) ≢ 0 → next (memory_in c k)
+          (last_of v.batch.blocks) ≡ start_word v.setup.capacity d + anchor_first (seen_word v.seen_anchor) * words_of_class v.batch.class)
           → MayGive (memory_in c k) v d
       to_may some_count of_batch of linked = record {
         batch = kept.batch.descriptor ∙ of_batch;
@@ -108,10 +119,13 @@ module _ (c : CoreState) (k : Setup) (views : List View) (i : ℕ) (v : View) (t
       }
 
       pub give_full_one : t.batch.count ≢ 0 → t.batch.descriptor ≡ d → word.of ≡ d → anchor_count word.word ≡ 0 → MayGive (memory_in c k) v d
-      give_full_one some_count of_batch of none = to_may some_count of_batch of (λ more. absurd (more (ap (λ x. anchor_count (seen_word x)) saw ∙ none)))
+      give_full_one some_count of_batch of none = to_may some_count of_batch of
+          (λ more. absurd (more (ap (λ x. anchor_count (seen_word x)) saw ∙ none)))
 
-      pub give_linked : t.batch.count ≢ 0 → t.batch.descriptor ≡ d → word.of ≡ d → anchor_count word.word ≢ 0 → (to free : ℕ) → to ≡ next (memory_at c) t.batch.last
-          → free ≡ start_word c.geometry.capacity d + anchor_first word.word * words_of_class t.batch.class → (nat_eq to free ≡ true) ↔ MayGive (memory_in c k) v d
+      pub give_linked : t.batch.count ≢ 0 → t.batch.descriptor ≡ d → word.of ≡ d → anchor_count word.word ≢ 0 → (to free : ℕ)
+          → to ≡ next (memory_at c) t.batch.last
+          → free ≡ start_word c.geometry.capacity d + anchor_first word.word * words_of_class t.batch.class
+          → (nat_eq to free ≡ true) ↔ MayGive (memory_in c k) v d
       give_linked some_count of_batch of more to free to_is free_is = (
         λ e. to_may some_count of_batch of (λ _. now ∙ eqb-true to free e ∙ first),
         λ may. eq-eqb to free (sym now ∙ may.linked (λ none. more (sym (ap (λ x. anchor_count (seen_word x)) saw) ∙ none)) ∙ sym first),
@@ -154,9 +168,11 @@ module _ (c : CoreState) (k : Setup) (views : List View) (i : ℕ) (v : View) (t
 
           -- what the core gives up is the batch
           whole : chain (λ n. get_or c.words.items n 0) t.batch.first t.batch.count ≡ bs
-          whole = ap₂ (chain (λ n. get_or c.words.items n 0)) (sym kept.batch.first) (sym kept.batch.count) ∙ chain_is c k views keeps class d (first_of bs) bs is_class d_less in_batch (good.blocks i v below at).batch_linked
+          whole = ap₂ (chain (λ n. get_or c.words.items n 0)) (sym kept.batch.first) (sym kept.batch.count)
+              ∙ chain_is c k views keeps class d (first_of bs) bs is_class d_less in_batch (good.blocks i v below at).batch_linked
 
-          pub inside : (b : ℕ) → 0 < times b (chain (λ n. get_or c.words.items n 0) t.batch.first t.batch.count) → (b < length c.blocks.items) × (b < length c.words.items)
+          pub inside : (b : ℕ) → 0 < times b (chain (λ n. get_or c.words.items n 0) t.batch.first t.batch.count) → (b < length c.blocks.items)
+              × (b < length c.words.items)
           inside b there = block_fits c k views keeps class d b is_class d_less (in_batch b (subst (λ xs. 0 < times b xs) whole there))
 
           anchored_states : anchor_state (anchor (memory_in c k) d) < 3
@@ -168,27 +184,35 @@ module _ (c : CoreState) (k : Setup) (views : List View) (i : ℕ) (v : View) (t
           first_is : (first : ℕ) → first ≡ start_word c.geometry.capacity d → (first ≡ start_word v.setup.capacity d) × (first ≤ t.batch.first)
           first_is first is = (
             is ∙ ap (λ n. start_word n d) (sym keeps.capacity ∙ sym cap),
-            (let b = (gives.first_block k (memory_in c k) views i v below at good ticket d may as_seen).at in let e = kept.batch.first in let g = keeps.capacity in omega arith),
+            (let b = (gives.first_block k (memory_in c k) views i v below at good ticket d may as_seen).at in let e = kept.batch.first in
+                let g = keeps.capacity in omega arith),
           )
 
           pub first_low : start_word c.geometry.capacity d ≤ t.batch.first
           first_low = (first_is (start_word c.geometry.capacity d) refl).1
 
-          index_of_first : (start_word c.geometry.capacity d ≡ start_word v.setup.capacity d) → (t.batch.first - start_word c.geometry.capacity d) / words_of_class t.batch.class ≡ (first_of bs - start_word v.setup.capacity d) / words_of_class class
-          index_of_first same_start = ap₂ (λ a n. (a - start_word c.geometry.capacity d) / words_of_class n) (sym kept.batch.first) (sym kept.batch.class) ∙ ap (λ n. (first_of bs - n) / words_of_class class) same_start
+          index_of_first : (start_word c.geometry.capacity d ≡ start_word v.setup.capacity d)
+              → (t.batch.first - start_word c.geometry.capacity d) / words_of_class t.batch.class ≡
+              (first_of bs - start_word v.setup.capacity d) / words_of_class class
+          index_of_first same_start = ap₂ (λ a n. (a - start_word c.geometry.capacity d) / words_of_class n) (sym kept.batch.first)
+              (sym kept.batch.class) ∙ ap (λ n. (first_of bs - n) / words_of_class class) same_start
 
           pub index_small : (t.batch.first - start_word c.geometry.capacity d) / words_of_class t.batch.class < 2147483648
-          index_small = let e = index_of_first (first_is (start_word c.geometry.capacity d) refl).0 in let x = gives.index_is k (memory_in c k) views i v below at good ticket d may as_seen in
-              let l = (gives.first_block k (memory_in c k) views i v below at good ticket d may as_seen).below in let few = few_blocks class is_class in omega arith
+          index_small = let e = index_of_first (first_is (start_word c.geometry.capacity d) refl).0 in
+              let x = gives.index_is k (memory_in c k) views i v below at good ticket d may as_seen in
+              let l = (gives.first_block k (memory_in c k) views i v below at good ticket d may as_seen).below in
+              let few = few_blocks class is_class in omega arith
 
           pub state_fits : anchor_state found ≢ 3
           state_fits three = let a = anchored_states in let e = ap anchor_state now in omega arith
 
           pub count_fits : t.batch.count + anchor_count found ≤ blocks_of t.batch.class
-          count_fits = let n = kept.batch.count in let e = ap anchor_count as_seen in let z = ap anchor_count now in let all = gives.count_is k (memory_in c k) views i v below at good ticket d may as_seen in let m = no_more in
+          count_fits = let n = kept.batch.count in let e = ap anchor_count as_seen in let z = ap anchor_count now in
+              let all = gives.count_is k (memory_in c k) views i v below at good ticket d may as_seen in let m = no_more in
               let b = ap blocks_of kept.batch.class in omega arith
 
-          module _ (blocks : Vec BlockOwner Global) (given_chain : HasNewOwner c.blocks.items blocks.items (chain (λ n. get_or c.words.items n 0) t.batch.first t.batch.count) (record { seat = i; place = place.Nowhere })) where
+          module _ (blocks : Vec BlockOwner Global) (given_chain : HasNewOwner c.blocks.items blocks.items
+              (chain (λ n. get_or c.words.items n 0) t.batch.first t.batch.count) (record { seat = i; place = place.Nowhere })) where
             given_bs : HasNewOwner c.blocks.items blocks.items bs (record { seat = i; place = place.Nowhere })
             given_bs = subst (λ xs. HasNewOwner c.blocks.items blocks.items xs (record { seat = i; place = place.Nowhere })) whole given_chain
 
@@ -198,13 +222,17 @@ module _ (c : CoreState) (k : Setup) (views : List View) (i : ℕ) (v : View) (t
                 (λ b none. let o = kept.blocks b in record { held = o.held; cached = o.cached; batched = (let h = o.batched in omega arith) })
 
             blocks_theirs : (j : ℕ) (s : SeatNotes) (u : View) → j ≢ i → IsKept c j s u → HasBlocksOf blocks.items j u.small u.caches u.batch.blocks
-            blocks_theirs j s u other h = given_theirs c.blocks.items blocks.items i j bs place.Nowhere (λ b p. IsPlace b p u.small u.caches u.batch.blocks) other given_bs
-                (λ b there. place_alone i j (get_or c.blocks.items b no_block) other (λ none. let o = (kept.blocks b).batched in let z = ap batched_in none in omega arith)) h.blocks
+            blocks_theirs j s u other h = given_theirs c.blocks.items blocks.items i j bs place.Nowhere
+                (λ b p. IsPlace b p u.small u.caches u.batch.blocks) other given_bs
+                (λ b there. place_alone i j (get_or c.blocks.items b no_block) other (λ none. let o = (kept.blocks b).batched in
+                let z = ap batched_in none in omega arith)) h.blocks
 
             abbrev w0 : View
             w0 = record (won v) { batch = no_batch; seen_anchor = None; gives = v.gives + 1 }
 
-            module _ (at_word left : ℕ) (here : at_word ≡ anchor_word d) (left_is : left ≡ given_anchor found ((t.batch.first - start_word c.geometry.capacity d) / words_of_class t.batch.class) t.batch.count (blocks_of t.batch.class)) where
+            module _ (at_word left : ℕ) (here : at_word ≡ anchor_word d)
+                (left_is : left ≡ given_anchor found ((t.batch.first - start_word c.geometry.capacity d) / words_of_class t.batch.class)
+                t.batch.count (blocks_of t.batch.class)) where
               abbrev t' : SeatNotes
               t' = record t { ticket = None; seen_anchor = None; batch = empty_batch }
 
@@ -212,67 +240,127 @@ module _ (c : CoreState) (k : Setup) (views : List View) (i : ℕ) (v : View) (t
               test = eq-eqb (anchor (memory_in c k) d) (seen_word v.seen_anchor) as_seen
 
               seat_is : seat_after (memory_in c k) v (Give d) ≡ given v d
-              seat_is = pick (nat_eq (anchor (memory_in c k) d) (seen_word v.seen_anchor)) (given v d) (record (lost v (anchor (memory_in c k) d)) { seen_anchor = None }) test
+              seat_is = pick (nat_eq (anchor (memory_in c k) d) (seen_word v.seen_anchor)) (given v d)
+                  (record (lost v (anchor (memory_in c k) d)) { seen_anchor = None }) test
 
               anchor_is : left ≡ batch_anchor v d
-              anchor_is = left_is ∙ ap₂ (λ a n. given_anchor a n t.batch.count (blocks_of t.batch.class)) (sym now ∙ as_seen) (index_of_first (first_is (start_word c.geometry.capacity d) refl).0)
-                  ∙ ap₂ (λ n x. given_anchor (seen_word v.seen_anchor) ((first_of bs - start_word v.setup.capacity d) / words_of_class class) n (blocks_of x)) (sym kept.batch.count) (sym kept.batch.class)
+              anchor_is = left_is ∙ ap₂ (λ a n. given_anchor a n t.batch.count (blocks_of t.batch.class)) (sym now ∙ as_seen)
+                  (index_of_first (first_is (start_word c.geometry.capacity d) refl).0)
+                  ∙ ap₂ (λ n x. given_anchor (seen_word v.seen_anchor) ((first_of bs - start_word v.setup.capacity d) / words_of_class class) n
+                  (blocks_of x)) (sym kept.batch.count) (sym kept.batch.class)
 
-              words_are : set c.words.items at_word left ≡ set c.words.items (anchor_word d) (cond (nat_eq (anchor (memory_in c k) d) (seen_word v.seen_anchor)) (batch_anchor v d) (anchor (memory_in c k) d))
-              words_are = ap₂ (set c.words.items) here (anchor_is ∙ sym (pick (nat_eq (anchor (memory_in c k) d) (seen_word v.seen_anchor)) (batch_anchor v d) (anchor (memory_in c k) d) test))
+              words_are : set c.words.items at_word left ≡ set c.words.items (anchor_word d)
+                  (cond (nat_eq (anchor (memory_in c k) d) (seen_word v.seen_anchor)) (batch_anchor v d) (anchor (memory_in c k) d))
+              words_are = ap₂ (set c.words.items) here (anchor_is ∙ sym (pick (nat_eq (anchor (memory_in c k) d) (seen_word v.seen_anchor))
+                  (batch_anchor v d) (anchor (memory_in c k) d) test))
 
               -- a superblock that had free blocks keeps its place
               pub give_kept : v.stopped ≡ None → found ≢ full_anchor
-                  → Steps c (record c { words = with_item c.words at_word left; blocks = blocks; seats = with_item c.seats i (record t { ticket = None; seen_anchor = None; batch = empty_batch }) }) k views i v (Give d) Done
-              give_kept going part = step_done c c' k views i v t t' (Give d) keeps below at at_t going ticket may as_seen (ap (λ (y : View). y.stopped) is ∙ going) words_are
+                  → Steps c (record c {
+                    words = with_item c.words at_word left;
+                    blocks = blocks;
+                    seats = with_item c.seats i (record t { ticket = None; seen_anchor = None; batch = empty_batch });
+                  }) k views i v (Give d) Done
+              give_kept going part = step_done c c' k views i v t t' (Give d) keeps below at at_t going ticket may as_seen
+                  (ap (λ (y : View). y.stopped) is ∙ going) words_are
                   refl (record { capacity = refl; budget = refl; carriers = refl; blocks = given_chain.long; superblocks = refl; roots = refl })
                   (subst (IsKept c' i t') (sym is) (trimmed_kept c' i t' w0 (record {
-                    notes = (let n = kept.notes in record { ticket = refl; stopped = n.stopped; seen_used = n.seen_used; seen_head = n.seen_head; seen_link = n.seen_link; seen_anchor = refl });
+                    notes = (let n = kept.notes in record {
+                      ticket = refl;
+                      stopped = n.stopped;
+                      seen_used = n.seen_used;
+                      seen_head = n.seen_head;
+                      seen_link = n.seen_link;
+                      seen_anchor = refl;
+                    });
                     caches = kept.caches;
                     batch = record { descriptor = refl; class = refl; first = refl; last = refl; count = refl; linked = refl };
                     blocks = blocks_mine;
                     superblocks = kept.superblocks;
                     roots = kept.roots;
                   })))
-                  (λ j s u other most h. record { notes = h.notes; caches = h.caches; batch = h.batch; blocks = blocks_theirs j s u other h; superblocks = h.superblocks; roots = h.roots }) where
-                    c' : CoreState
-                    c' = record c { words = with_item c.words at_word left; blocks = blocks; seats = with_item c.seats i t' }
-
-                    is : seat_after (memory_in c k) v (Give d) ≡ trimmed w0
-                    is = seat_is ∙ ap (λ x. trimmed (cond x (claimed w0 d class) w0)) (ne_eqb (seen_word v.seen_anchor) full_anchor (λ e. part (sym now ∙ as_seen ∙ e)))
-
-              -- one that was full comes into the hand
-              pub give_full : v.stopped ≡ None → found ≡ full_anchor → (x : SuperblockUsage) → x ≡ listed t.batch.class
-                  → Steps c (record c { words = with_item c.words at_word left; blocks = blocks; superblocks = with_item c.superblocks d (record { seat = i; usage = x }); seats = with_item c.seats i (record t { ticket = None; seen_anchor = None; batch = empty_batch }) }) k views i v (Give d) Done
-              give_full going full x x_is = step_done c c' k views i v t t' (Give d) keeps below at at_t going ticket may as_seen (ap (λ (y : View). y.stopped) is ∙ claimed_going w0 d class ∙ going) words_are
-                  refl (record { capacity = refl; budget = refl; carriers = refl; blocks = given_chain.long; superblocks = length-set c.superblocks.items d (record { seat = i; usage = x }); roots = refl })
-                  (subst (IsKept c' i t') (sym is) (trimmed_kept c' i t' (claimed w0 d class)
-                  (claimed_kept c' i t' w0 c.superblocks.items d class x (x_is ∙ ap listed (sym kept.batch.class)) refl long (nothing i t v (inl (below, at)) kept) kept.superblocks
-                  (let n = kept.notes in record { ticket = refl; stopped = n.stopped; seen_used = n.seen_used; seen_head = n.seen_head; seen_link = n.seen_link; seen_anchor = refl })
-                  kept.caches (record { descriptor = refl; class = refl; first = refl; last = refl; count = refl; linked = refl }) blocks_mine kept.roots)))
                   (λ j s u other most h. record {
                     notes = h.notes;
                     caches = h.caches;
                     batch = h.batch;
                     blocks = blocks_theirs j s u other h;
-                    superblocks = usages_theirs c.superblocks.items i j d x (λ e y. IsUsage e y u.raw u.split u.cutting u.classed u.large) long other (nothing j s u most h) h.superblocks;
+                    superblocks = h.superblocks;
                     roots = h.roots;
                   }) where
                     c' : CoreState
-                    c' = record c { words = with_item c.words at_word left; blocks = blocks; superblocks = with_item c.superblocks d (record { seat = i; usage = x }); seats = with_item c.seats i t' }
+                    c' = record c { words = with_item c.words at_word left; blocks = blocks; seats = with_item c.seats i t' }
+
+                    is : seat_after (memory_in c k) v (Give d) ≡ trimmed w0
+                    is = seat_is ∙ ap (λ x. trimmed (cond x (claimed w0 d class) w0))
+                        (ne_eqb (seen_word v.seen_anchor) full_anchor (λ e. part (sym now ∙ as_seen ∙ e)))
+
+              -- one that was full comes into the hand
+              pub give_full : v.stopped ≡ None → found ≡ full_anchor → (x : SuperblockUsage) → x ≡ listed t.batch.class
+                  → Steps c (record c {
+                    words = with_item c.words at_word left;
+                    blocks = blocks;
+                    superblocks = with_item c.superblocks d (record { seat = i; usage = x });
+                    seats = with_item c.seats i (record t { ticket = None; seen_anchor = None; batch = empty_batch });
+                  }) k views i v (Give d) Done
+              give_full going full x x_is = step_done c c' k views i v t t' (Give d) keeps below at at_t going ticket may as_seen
+                  (ap (λ (y : View). y.stopped) is ∙ claimed_going w0 d class ∙ going) words_are
+                  refl (record {
+                    capacity = refl;
+                    budget = refl;
+                    carriers = refl;
+                    blocks = given_chain.long;
+                    superblocks = length-set c.superblocks.items d (record { seat = i; usage = x });
+                    roots = refl;
+                  })
+                  (subst (IsKept c' i t') (sym is) (trimmed_kept c' i t' (claimed w0 d class)
+                  (claimed_kept c' i t' w0 c.superblocks.items d class x (x_is ∙ ap listed (sym kept.batch.class)) refl long
+                  (nothing i t v (inl (below, at)) kept) kept.superblocks
+                  (let n = kept.notes in record {
+                    ticket = refl;
+                    stopped = n.stopped;
+                    seen_used = n.seen_used;
+                    seen_head = n.seen_head;
+                    seen_link = n.seen_link;
+                    seen_anchor = refl;
+                  })
+                  kept.caches (record { descriptor = refl; class = refl; first = refl; last = refl; count = refl; linked = refl })
+                  blocks_mine kept.roots)))
+                  (λ j s u other most h. record {
+                    notes = h.notes;
+                    caches = h.caches;
+                    batch = h.batch;
+                    blocks = blocks_theirs j s u other h;
+                    superblocks = usages_theirs c.superblocks.items i j d x
+                        (λ e y. IsUsage e y u.raw u.split u.cutting u.classed u.large) long other (nothing j s u most h) h.superblocks;
+                    roots = h.roots;
+                  }) where
+                    c' : CoreState
+                    c' = record c {
+                      words = with_item c.words at_word left;
+                      blocks = blocks;
+                      superblocks = with_item c.superblocks d (record { seat = i; usage = x });
+                      seats = with_item c.seats i t';
+                    }
 
                     is : seat_after (memory_in c k) v (Give d) ≡ trimmed (claimed w0 d class)
-                    is = seat_is ∙ ap (λ y. trimmed (cond y (claimed w0 d class) w0)) (eq-eqb (seen_word v.seen_anchor) full_anchor (sym as_seen ∙ now ∙ full))
+                    is = seat_is ∙ ap (λ y. trimmed (cond y (claimed w0 d class) w0))
+                        (eq-eqb (seen_word v.seen_anchor) full_anchor (sym as_seen ∙ now ∙ full))
 
                     long : d < length c.superblocks.items
                     long = let l = d_less in let n = keeps.superblocks in omega arith
 
-                    nothing : (j : ℕ) (s : SeatNotes) (u : View) → IsAmong views j u → IsKept c j s u → usage_for j (get_or c.superblocks.items d no_superblock) ≡ usage.Nothing
-                    nothing j s u (inr none) h = let z = none.superblocks d in no_usage d (usage_for j (get_or c.superblocks.items d no_superblock)) u.raw u.split u.cutting u.classed u.large (h.superblocks d) (let r = z.0 in omega arith) z.1 z.2
-                    nothing j s u (inl (b, a)) h = let none = on_anchor.not_here k (memory_in c k) views i v below at good d (batch_anchor v d) cut_d j u b a in
-                        no_usage d (usage_for j (get_or c.superblocks.items d no_superblock)) u.raw u.split u.cutting u.classed u.large (h.superblocks d) (let z = none.0 in omega arith)
+                    nothing : (j : ℕ) (s : SeatNotes) (u : View) → IsAmong views j u → IsKept c j s u
+                        → usage_for j (get_or c.superblocks.items d no_superblock) ≡ usage.Nothing
+                    nothing j s u (inr none) h = let z = none.superblocks d in
+                        no_usage d (usage_for j (get_or c.superblocks.items d no_superblock)) u.raw u.split u.cutting u.classed u.large
+                        (h.superblocks d) (let r = z.0 in omega arith) z.1 z.2
+                    nothing j s u (inl (b, a)) h = let none = on_anchor.not_here k (memory_in c k) views i v below at good d
+                        (batch_anchor v d) cut_d j u b a in
+                        no_usage d (usage_for j (get_or c.superblocks.items d no_superblock)) u.raw u.split u.cutting u.classed u.large
+                        (h.superblocks d) (let z = none.0 in omega arith)
                         (elim (cases_lt 0 (times_classed d u.classed)) [
-                          | inl claimed_it ↦ absurd (let l = ((good.claims j u b a).is_classed d claimed_it).2 in let e = ap anchor_state (now ∙ full) in let two : anchor_state 2 ≡ 2 = refl in omega arith)
+                          | inl claimed_it ↦ absurd (let l = ((good.claims j u b a).is_classed d claimed_it).2 in
+                              let e = ap anchor_state (now ∙ full) in let two : anchor_state 2 ≡ 2 = refl in omega arith)
                           | inr not_claimed ↦ omega arith
                         ]) none.1
 
@@ -284,18 +372,22 @@ pub record GiveFits (c : CoreState) (t : SeatNotes) (d found : ℕ) : Type 0 whe
   pub index : (t.batch.first - start_word c.geometry.capacity d) / words_of_class t.batch.class < 2147483648
   pub state : anchor_state found ≢ 3
   pub count : t.batch.count + anchor_count found ≤ blocks_of t.batch.class
-  pub inside : (b : ℕ) → 0 < times b (chain (λ n. get_or c.words.items n 0) t.batch.first t.batch.count) → (b < length c.blocks.items) × (b < length c.words.items)
+  pub inside : (b : ℕ) → 0 < times b (chain (λ n. get_or c.words.items n 0) t.batch.first t.batch.count) → (b < length c.blocks.items)
+      × (b < length c.words.items)
 
-pub give_fits : (c : CoreState) (i d : ℕ) (t : SeatNotes) (word : Seen) (found : ℕ) → IsCore c → i < length c.seats.items → IsSeatAt c i t → IsThere t.ticket → t.seen_anchor ≡ Some word → Decides c i (λ m v. MayGive m v d) true
+pub give_fits : (c : CoreState) (i d : ℕ) (t : SeatNotes) (word : Seen) (found : ℕ) → IsCore c → i < length c.seats.items → IsSeatAt c i t
+    → IsThere t.ticket → t.seen_anchor ≡ Some word → Decides c i (λ m v. MayGive m v d) true
     → found ≡ anchor (memory_at c) d → found ≡ word.word → GiveFits c t d found
 give_fits c i d t word found core less at_t ticket some decides found_is as_it_was =
     let below : i < length core.views = among core.keeps less in
     let here = entry_there core.views i below in
     let may = (decides core.setup core.views here.0 core.keeps below here.1).0 refl in
     let its : IsThere here.0.ticket = ap one_if_some (core.keeps.each i t here.0 below at_t here.1).notes.ticket ∙ ticket in
-    let some_count : t.batch.count ≢ 0 = (λ none. let s = may.some in let n = (core.keeps.each i t here.0 below at_t here.1).batch.count in omega arith) in record {
+    let some_count : t.batch.count ≢ 0 = (λ none. let s = may.some in let n = (core.keeps.each i t here.0 below at_t here.1).batch.count in
+    omega arith) in record {
       is_class = batch_class c core.setup core.views i here.0 t core.keeps below here.1 at_t some_count;
-      below = (let b = batch_below c core.setup core.views i here.0 t core.keeps below here.1 at_t some_count in let e = may.batch in let f = (core.keeps.each i t here.0 below at_t here.1).batch.descriptor in omega arith);
+      below = (let b = batch_below c core.setup core.views i here.0 t core.keeps below here.1 at_t some_count in let e = may.batch in
+          let f = (core.keeps.each i t here.0 below at_t here.1).batch.descriptor in omega arith);
       low = first_low c core.setup core.views i here.0 t core.keeps below here.1 at_t d word some may found found_is its as_it_was;
       index = index_small c core.setup core.views i here.0 t core.keeps below here.1 at_t d word some may found found_is its as_it_was;
       state = state_fits c core.setup core.views i here.0 t core.keeps below here.1 at_t d word some may found found_is its as_it_was;
@@ -323,4 +415,5 @@ give_below c i d core less decides =
     let below : i < length core.views = among core.keeps less in
     let here = entry_there core.views i below in
     let may = (decides core.setup core.views here.0 core.keeps below here.1).0 refl in
-    let b = batched core.setup (memory_in c core.setup) core.views i here.0 below here.1 core.keeps.sound.good d may.batch may.some in let g = core.keeps.capacity in omega arith
+    let b = batched core.setup (memory_in c core.setup) core.views i here.0 below here.1 core.keeps.sound.good d may.batch may.some in
+    let g = core.keeps.capacity in omega arith

@@ -23,31 +23,38 @@ pub record IsPartGiven (next : ℕ → ℕ) (old new : List BlockOwner) (first c
   pub outside : (b : ℕ) → times b (chain next first count) ≡ 0 → get_or new b no_block ≡ get_or old b no_block
   pub members : (b : ℕ) → 0 < times b (chain next block left) → 0 < times b (chain next first count)
 
-pub part_start : (next : ℕ → ℕ) (owners : List BlockOwner) (first count : ℕ) (owner : BlockOwner) → IsPartGiven next owners owners first count first count owner
+pub part_start : (next : ℕ → ℕ) (owners : List BlockOwner) (first count : ℕ) (owner : BlockOwner)
+    → IsPartGiven next owners owners first count first count owner
 part_start next owners first count owner = record { long = refl; inside = λ b some. inr some; outside = λ b none. refl; members = λ b some. some }
 
-part_step : (next : ℕ → ℕ) (old new : List BlockOwner) (first count block left : ℕ) (owner : BlockOwner) → IsPartGiven next old new first count block (suc left) owner
+part_step : (next : ℕ → ℕ) (old new : List BlockOwner) (first count block left : ℕ) (owner : BlockOwner)
+    → IsPartGiven next old new first count block (suc left) owner
     → block < length new → IsPartGiven next old (set new block owner) first count (next block) left owner
 part_step next old new first count block left owner p less = record {
   long = length-set new block owner ∙ p.long;
-  inside = λ b some. elim (cases_eq b block) as (λ _. (get_or (set new block owner) b no_block ≡ owner) ⊎ (0 < times b (chain next (next block) left))) [
-    | inl here ↦ inl (ap (λ n. get_or (set new block owner) n no_block) here ∙ get_or-set_same new block owner no_block less)
-    | inr other ↦ elim (p.inside b some) as (λ _. (get_or (set new block owner) b no_block ≡ owner) ⊎ (0 < times b (chain next (next block) left))) [
-      | inl done ↦ inl (get_or-set_other new block b owner no_block other ∙ done)
-      | inr more ↦ inr (let none = ne-eqb-none block b (λ h. other (sym h)) in omega arith)
-    ]
-  ];
+  inside = λ b some. elim (cases_eq b block) as (λ _. (get_or (set new block owner) b no_block ≡ owner) ⊎
+      (0 < times b (chain next (next block) left))) [
+        | inl here ↦ inl (ap (λ n. get_or (set new block owner) n no_block) here ∙ get_or-set_same new block owner no_block less)
+        | inr other ↦ elim (p.inside b some) as (λ _. (get_or (set new block owner) b no_block ≡ owner) ⊎ (0 < times b (chain next (next block) left))) [
+          | inl done ↦ inl (get_or-set_other new block b owner no_block other ∙ done)
+          | inr more ↦ inr (let none = ne-eqb-none block b (λ h. other (sym h)) in omega arith)
+        ]
+      ];
   outside = λ b none. get_or-set_other new block b owner no_block
-      (λ here. let m = p.members block (let one = eq-eqb-one block block refl in omega arith) in let z = ap (λ n. times n (chain next first count)) here in omega arith) ∙ p.outside b none;
+      (λ here. let m = p.members block (let one = eq-eqb-one block block refl in omega arith) in
+      let z = ap (λ n. times n (chain next first count)) here in omega arith) ∙ p.outside b none;
   members = λ b some. p.members b (omega arith);
 }
 
-pub part_next : (next : ℕ → ℕ) (old new : List BlockOwner) (first count block left left' to : ℕ) (owner : BlockOwner) → IsPartGiven next old new first count block left owner
+pub part_next : (next : ℕ → ℕ) (old new : List BlockOwner) (first count block left left' to : ℕ) (owner : BlockOwner)
+    → IsPartGiven next old new first count block left owner
     → left ≡ suc left' → block < length new → to ≡ next block → IsPartGiven next old (set new block owner) first count to left' owner
-part_next next old new first count block left left' to owner p is less to_is = subst (λ n. IsPartGiven next old (set new block owner) first count n left' owner) (sym to_is)
+part_next next old new first count block left left' to owner p is less to_is =
+    subst (λ n. IsPartGiven next old (set new block owner) first count n left' owner) (sym to_is)
     (part_step next old new first count block left' owner (subst (λ n. IsPartGiven next old new first count block n owner) is p) less)
 
-pub part_whole : (next : ℕ → ℕ) (old new : List BlockOwner) (first count block left : ℕ) (owner : BlockOwner) → IsPartGiven next old new first count block left owner
+pub part_whole : (next : ℕ → ℕ) (old new : List BlockOwner) (first count block left : ℕ) (owner : BlockOwner)
+    → IsPartGiven next old new first count block left owner
     → left ≡ 0 → HasNewOwner old new (chain next first count) owner
 part_whole next old new first count block left owner p none = record {
   long = p.long;
@@ -59,7 +66,8 @@ part_whole next old new first count block left owner p none = record {
 }
 
 -- whose a block is then, for the new owner and for another
-pub given_mine : (old new : List BlockOwner) (i : ℕ) (bs : List ℕ) (x : BlockPlace) (P : ℕ → BlockPlace → Type 0) → HasNewOwner old new bs (record { seat = i; place = x })
+pub given_mine : (old new : List BlockOwner) (i : ℕ) (bs : List ℕ) (x : BlockPlace) (P : ℕ → BlockPlace → Type 0)
+    → HasNewOwner old new bs (record { seat = i; place = x })
     → ((b : ℕ) → 0 < times b bs → P b x) → ((b : ℕ) → times b bs ≡ 0 → P b (place_for i (get_or old b no_block)))
     → (b : ℕ) → P b (place_for i (get_or new b no_block))
 given_mine old new i bs x P given inside outside b = elim (cases_lt 0 (times b bs)) [
@@ -67,7 +75,8 @@ given_mine old new i bs x P given inside outside b = elim (cases_lt 0 (times b b
   | inr none ↦ let z : times b bs ≡ 0 = omega arith in subst (P b) (sym (ap (place_for i) (given.outside b z))) (outside b z)
 ]
 
-pub given_theirs : (old new : List BlockOwner) (i j : ℕ) (bs : List ℕ) (x : BlockPlace) (P : ℕ → BlockPlace → Type 0) → j ≢ i → HasNewOwner old new bs (record { seat = i; place = x })
+pub given_theirs : (old new : List BlockOwner) (i j : ℕ) (bs : List ℕ) (x : BlockPlace) (P : ℕ → BlockPlace → Type 0) → j ≢ i
+    → HasNewOwner old new bs (record { seat = i; place = x })
     → ((b : ℕ) → 0 < times b bs → place_for j (get_or old b no_block) ≡ place.Nowhere)
     → ((b : ℕ) → P b (place_for j (get_or old b no_block)))
     → (b : ℕ) → P b (place_for j (get_or new b no_block))
@@ -79,4 +88,8 @@ given_theirs old new i j bs x P apart given none before b = elim (cases_lt 0 (ti
 -- a walk by another function that leads alike
 pub walks_other : (f g : ℕ → ℕ) (from : ℕ) (bs : List ℕ) → ((b : ℕ) → 0 < times b bs → f b ≡ g b) → Walks f from bs → Walks g from bs
 walks_other f g from [] same w = tt
-walks_other f g from (b ∷ bs) same w = (w.0, subst (λ n. Walks g n bs) (same b (let one = eq-eqb-one b b refl in omega arith)) (walks_other f g (f b) bs (λ x some. same x (omega arith)) w.1))
+walks_other f g from (b ∷ bs) same w = (
+  w.0,
+  subst (λ n. Walks g n bs) (same b (let one = eq-eqb-one b b refl in omega arith))
+      (walks_other f g (f b) bs (λ x some. same x (omega arith)) w.1),
+)

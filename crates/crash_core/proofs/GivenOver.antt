@@ -21,14 +21,17 @@ module _ {A : Type 0} (from to : ℕ) (thing nothing : A) (apart : from ≢ to) 
   pub third_has : (owner e : ℕ) → e ≢ from → e ≢ to → had_by (owner_after from to owner) e thing nothing ≡ had_by owner e thing nothing
   third_has owner e not_from not_to = by_test (nat_eq owner from) refl where
     by_test : (test : Bool) → nat_eq owner from ≡ test → had_by (cond test to owner) e thing nothing ≡ had_by owner e thing nothing
-    by_test true same = skip (nat_eq to e) thing nothing (not-eq to e (λ h. not_to (sym h))) ∙ sym (skip (nat_eq owner e) thing nothing (not-eq owner e (λ h. not_from (sym h ∙ eqb-true owner from same))))
+    by_test true same = skip (nat_eq to e) thing nothing (not-eq to e (λ h. not_to (sym h)))
+        ∙ sym (skip (nat_eq owner e) thing nothing (not-eq owner e (λ h. not_from (sym h ∙ eqb-true owner from same))))
     by_test false same = refl
 
   -- the taker has what the giver had, where it had nothing itself, or else what it had
-  pub taker_has : (owner : ℕ) → ((had_by (owner_after from to owner) to thing nothing ≡ had_by owner from thing nothing) × (had_by owner to thing nothing ≡ nothing))
+  pub taker_has : (owner : ℕ) → ((had_by (owner_after from to owner) to thing nothing ≡ had_by owner from thing nothing)
+      × (had_by owner to thing nothing ≡ nothing))
       ⊎ ((had_by (owner_after from to owner) to thing nothing ≡ had_by owner to thing nothing) × (had_by owner from thing nothing ≡ nothing))
   taker_has owner = by_test (nat_eq owner from) refl where
-    by_test : (test : Bool) → nat_eq owner from ≡ test → ((had_by (cond test to owner) to thing nothing ≡ had_by owner from thing nothing) × (had_by owner to thing nothing ≡ nothing))
+    by_test : (test : Bool) → nat_eq owner from ≡ test → ((had_by (cond test to owner) to thing nothing ≡ had_by owner from thing nothing)
+        × (had_by owner to thing nothing ≡ nothing))
         ⊎ ((had_by (cond test to owner) to thing nothing ≡ had_by owner to thing nothing) × (had_by owner from thing nothing ≡ nothing))
     by_test true same = inl (
       pick (nat_eq to to) thing nothing (eq-eqb to to refl) ∙ sym (pick (nat_eq owner from) thing nothing same),

@@ -45,8 +45,10 @@ last_there [] b u (suc j) same = absurd (omega (arith, same))
 last_there (x ∷ xs) b u zero same = absurd (omega (arith, same))
 last_there (x ∷ xs) b u (suc j) same = last_there xs b u j (omega (arith, same))
 
-module _ (c c' : CoreState) (k : Setup) (s : TableState) (i : ℕ) (v : View) (t : SeatNotes) (block : ℕ) (stands : Represents c k s) (at : get_or s.views i v ≡ v) (at_t : IsSeatAt c i t) (may : MayOffer v block)
-    (handed : IsHanded c c' i t) (mine : HasOwn c' i (offered v block)) (new : HasOwn c' (length s.views) (carrier_of v block)) (laden : (b : Block) × IsHeld (carrier_of v block) b)
+module _ (c c' : CoreState) (k : Setup) (s : TableState) (i : ℕ) (v : View) (t : SeatNotes) (block : ℕ) (stands : Represents c k s)
+    (at : get_or s.views i v ≡ v) (at_t : IsSeatAt c i t) (may : MayOffer v block)
+    (handed : IsHanded c c' i t) (mine : HasOwn c' i (offered v block)) (new : HasOwn c' (length s.views) (carrier_of v block))
+    (laden : (b : Block) × IsHeld (carrier_of v block) b)
     (others : (j : ℕ) (u : View) → j ≢ i → j ≢ length s.views → HasOwn c j u → HasOwn c' j u) where
   keeps : KeepsViews c k s.views
   keeps = stands.keeps
@@ -77,12 +79,22 @@ module _ (c c' : CoreState) (k : Setup) (s : TableState) (i : ℕ) (v : View) (t
 
   kept_mine : IsKept c' i (record t { ticket = None }) a
   kept_mine = let n = kept.notes in record {
-    notes = record { ticket = refl; stopped = n.stopped; seen_used = n.seen_used; seen_head = n.seen_head; seen_link = n.seen_link; seen_anchor = n.seen_anchor };
+    notes = record {
+      ticket = refl;
+      stopped = n.stopped;
+      seen_used = n.seen_used;
+      seen_head = n.seen_head;
+      seen_link = n.seen_link;
+      seen_anchor = n.seen_anchor;
+    };
     caches = kept.caches;
     batch = kept.batch;
     blocks = mine.blocks;
     superblocks = mine.superblocks;
-    roots = record { is_owned = λ n. all_roots n v.roots ∙ kept.roots.is_owned n ∙ ap (λ os. one_if (nat_eq (get_or os n (i + 1)) i)) (sym handed.roots) };
+    roots = record {
+      is_owned = λ n. all_roots n v.roots ∙ kept.roots.is_owned n
+          ∙ ap (λ os. one_if (nat_eq (get_or os n (i + 1)) i)) (sym handed.roots);
+    };
   } where
     all_roots : (n : ℕ) (roots : List ℕ) → times n (chosen (λ (x : ℕ). true) roots) ≡ times n roots
     all_roots n [] = refl
@@ -95,7 +107,10 @@ module _ (c c' : CoreState) (k : Setup) (s : TableState) (i : ℕ) (v : View) (t
     batch = record { descriptor = refl; class = refl; first = refl; last = refl; count = refl; linked = refl };
     blocks = new.blocks;
     superblocks = new.superblocks;
-    roots = record { is_owned = λ n. ap (times n) (carries_block v block).roots ∙ (keeps.none (length s.views) (omega arith)).roots.is_owned n ∙ ap (λ os. one_if (nat_eq (get_or os n (length s.views + 1)) (length s.views))) (sym handed.roots) };
+    roots = record {
+      is_owned = λ n. ap (times n) (carries_block v block).roots ∙ (keeps.none (length s.views) (omega arith)).roots.is_owned n
+          ∙ ap (λ os. one_if (nat_eq (get_or os n (length s.views + 1)) (length s.views))) (sym handed.roots);
+    };
   }
 
   kept_other : (j : ℕ) (r : SeatNotes) (u : View) → j ≢ i → j ≢ length s.views → IsKept c j r u → IsKept c' j r u
@@ -113,8 +128,10 @@ module _ (c c' : CoreState) (k : Setup) (s : TableState) (i : ℕ) (v : View) (t
   old_view j u less at_u = sym (get_or_append_left seated (b ∷ []) u j (let l = length-set s.views i a in omega arith)) ∙ at_u
 
   fits : length s.views + 1 < 4611686018427387904
-  fits = let m = stands.made in let f = stands.order.few in let o = keeps.low in let p = total_at (λ (x : View). one_if_some x.ticket) s.views i v below at in let one = may.may.ticket in
-      let w = ap (λ ws. (memory_of k.capacity ws).drawn) stands.words in let d = keeps.sound.good.adds.stopped in let most = stopped_few k s.views stands.order.counted in omega arith
+  fits = let m = stands.made in let f = stands.order.few in let o = keeps.low in
+      let p = total_at (λ (x : View). one_if_some x.ticket) s.views i v below at in let one = may.may.ticket in
+      let w = ap (λ ws. (memory_of k.capacity ws).drawn) stands.words in let d = keeps.sound.good.adds.stopped in
+      let most = stopped_few k s.views stands.order.counted in omega arith
 
   keeps' : KeepsViews c' k views'
   keeps' = record {
@@ -134,21 +151,31 @@ module _ (c c' : CoreState) (k : Setup) (s : TableState) (i : ℕ) (v : View) (t
         let at_old = old_view j u less at_u in elim (cases_eq j i) [
           | inl here ↦
               let is_a : a ≡ u = sym (get_or-set_same s.views i a u below) ∙ subst (λ n. get_or seated n u ≡ u) here at_old in
-              let is_t : record t { ticket = None } ≡ r = sym (get_or-set_same c.seats.items i (record t { ticket = None }) r at_t.less) ∙ subst (λ n. get_or (set c.seats.items i (record t { ticket = None })) n r ≡ r) here (subst (λ l. get_or l j r ≡ r) handed.seats at_r.at) in
-              subst (λ n. IsKept c' n r u) (sym here) (subst (λ x. IsKept c' i x u) is_t (subst (λ x. IsKept c' i (record t { ticket = None }) x) is_a kept_mine))
+              let is_t : record t { ticket = None } ≡ r = sym (get_or-set_same c.seats.items i (record t { ticket = None }) r at_t.less)
+              ∙ subst (λ n. get_or (set c.seats.items i (record t { ticket = None })) n r ≡ r) here
+              (subst (λ l. get_or l j r ≡ r) handed.seats at_r.at) in
+              subst (λ n. IsKept c' n r u) (sym here) (subst (λ x. IsKept c' i x u) is_t
+              (subst (λ x. IsKept c' i (record t { ticket = None }) x) is_a kept_mine))
           | inr other ↦ kept_other j r u other (λ e. omega (arith, e, less)) (keeps.each j r u less
-              (record { less = less_seats; at = sym (get_or-set_other c.seats.items i j (record t { ticket = None }) r other) ∙ subst (λ l. get_or l j r ≡ r) handed.seats at_r.at })
+              (record {
+                less = less_seats;
+                at = sym (get_or-set_other c.seats.items i j (record t { ticket = None }) r other)
+                    ∙ subst (λ l. get_or l j r ≡ r) handed.seats at_r.at;
+              })
               (sym (get_or-set_other s.views i j a u other) ∙ at_old))
         ];
     carried = λ j u past below_j at_u. elim (cases_lt j (length s.views)) [
       | inl less ↦
           let apart : j ≢ i = (λ e. let p = past in let n = same_seats in let l = at_t.less in omega (arith, e, p, n, l)) in
-          kept_other j NEW_SEAT u apart (λ e. omega (arith, e, less)) (keeps.carried j u (subst (λ n. n ≤ j) same_seats past) less (sym (get_or-set_other s.views i j a u apart) ∙ old_view j u less at_u))
+          kept_other j NEW_SEAT u apart (λ e. omega (arith, e, less)) (keeps.carried j u (subst (λ n. n ≤ j) same_seats past) less
+          (sym (get_or-set_other s.views i j a u apart) ∙ old_view j u less at_u))
       | inr last ↦
           let is_j : length s.views ≡ j = (let l = long in omega (arith, l, below_j, last)) in
-          subst (λ n. IsKept c' n NEW_SEAT u) is_j (subst (IsKept c' (length s.views) NEW_SEAT) (sym (last_there seated b u j (let l = length-set s.views i a in omega arith)) ∙ at_u) kept_new)
+          subst (λ n. IsKept c' n NEW_SEAT u) is_j (subst (IsKept c' (length s.views) NEW_SEAT)
+          (sym (last_there seated b u j (let l = length-set s.views i a in omega arith)) ∙ at_u) kept_new)
     ];
-    none = λ j past. kept_other j NEW_SEAT (nobody k) (λ e. let l = long in omega (arith, e, l, past, below)) (λ e. let l = long in omega (arith, e, l, past)) (keeps.none j (let l = long in omega arith));
+    none = λ j past. kept_other j NEW_SEAT (nobody k) (λ e. let l = long in omega (arith, e, l, past, below)) (λ e. let l = long in
+        omega (arith, e, l, past)) (keeps.none j (let l = long in omega arith));
   }
 
   seat_below : i < k.seats
@@ -159,13 +186,17 @@ module _ (c c' : CoreState) (k : Setup) (s : TableState) (i : ℕ) (v : View) (t
     counted = offers_one k s.views i v a below at stands.order.counted block may.may.seat refl;
     few = stands.order.few;
     all = (let l = long in let o = stands.order.all in omega arith);
-    first = λ j u less at_u. let there : j < length s.views = (let o = stands.order.all in omega arith) in let at_old = old_view j u there at_u in elim (cases_eq j i) [
-      | inl here ↦ ap (λ (x : View). x.carries) (sym (sym (get_or-set_same s.views i a u below) ∙ subst (λ n. get_or seated n u ≡ u) here at_old)) ∙ may.may.seat
-      | inr other ↦ stands.order.first j u less (sym (get_or-set_other s.views i j a u other) ∙ at_old)
-    ];
+    first = λ j u less at_u. let there : j < length s.views = (let o = stands.order.all in omega arith) in
+        let at_old = old_view j u there at_u in elim (cases_eq j i) [
+          | inl here ↦ ap (λ (x : View). x.carries) (sym (sym (get_or-set_same s.views i a u below)
+              ∙ subst (λ n. get_or seated n u ≡ u) here at_old)) ∙ may.may.seat
+          | inr other ↦ stands.order.first j u less (sym (get_or-set_other s.views i j a u other) ∙ at_old)
+        ];
     behind = λ j u past below_j at_u. elim (cases_lt j (length s.views)) [
-      | inl less ↦ stands.order.behind j u past less (sym (get_or-set_other s.views i j a u (λ e. omega (arith, e, past, seat_below))) ∙ old_view j u less at_u)
-      | inr last ↦ inl (subst IsLaden (sym (last_there seated b u j (let l = length-set s.views i a in let n = long in omega arith)) ∙ at_u) (record { carrier = carries_block v block; block = laden.0; holds = laden.1 }))
+      | inl less ↦ stands.order.behind j u past less (sym (get_or-set_other s.views i j a u (λ e. omega (arith, e, past, seat_below)))
+          ∙ old_view j u less at_u)
+      | inr last ↦ inl (subst IsLaden (sym (last_there seated b u j (let l = length-set s.views i a in let n = long in omega arith)) ∙ at_u)
+          (record { carrier = carries_block v block; block = laden.0; holds = laden.1 }))
     ];
   }
 
@@ -174,5 +205,7 @@ module _ (c c' : CoreState) (k : Setup) (s : TableState) (i : ℕ) (v : View) (t
     words = handed.words ∙ stands.words;
     keeps = keeps';
     order = order';
-    made = (let l = long in let m = stands.made in let one = may.may.ticket in let t' = total_set (λ (x : View). one_if_some x.ticket) s.views i v a below at in let b' = total_behind (λ (x : View). one_if_some x.ticket) seated b in omega arith);
+    made = (let l = long in let m = stands.made in let one = may.may.ticket in
+        let t' = total_set (λ (x : View). one_if_some x.ticket) s.views i v a below at in
+        let b' = total_behind (λ (x : View). one_if_some x.ticket) seated b in omega arith);
   }

@@ -15,9 +15,11 @@ use Rattle.core_model.proofs.PlaceLemmas.{pick, skip, not-eq}
 use Rattle.crash_core.proofs.StandingLemmas.{memory_in}
 
 pub mark_low : (c : CoreState) → IsCore c → durable_used (memory_at c) ≤ c.geometry.capacity
-mark_low c core = subst (λ n. durable_used (memory_of n c.words.items) ≤ n) core.keeps.capacity (let g = core.keeps.sound.good.shaped.durable in let a = g.behind in let b = g.room in omega arith)
+mark_low c core = subst (λ n. durable_used (memory_of n c.words.items) ≤ n) core.keeps.capacity (let g = core.keeps.sound.good.shaped.durable in
+    let a = g.behind in let b = g.room in omega arith)
 
-module _ (c : CoreState) (k : Setup) (views : List View) (i : ℕ) (v : View) (t : SeatNotes) (keeps : KeepsViews c k views) (below_i : i < length views) (at : get_or views i v ≡ v)
+module _ (c : CoreState) (k : Setup) (views : List View) (i : ℕ) (v : View) (t : SeatNotes) (keeps : KeepsViews c k views)
+    (below_i : i < length views) (at : get_or views i v ≡ v)
     (at_t : IsSeatAt c i t) (d n : ℕ) where
   kept : IsKept c i t v
   kept = keeps.each i t v below_i at_t at
@@ -42,7 +44,8 @@ module _ (c : CoreState) (k : Setup) (views : List View) (i : ℕ) (v : View) (t
     durable = may.durable_infos e low high;
   }
 
-  pub all_join : 1 ≤ n → d + n ≤ durable_used (memory_at c) → ((e : ℕ) → d ≤ e → e < d + n → MayJoin (memory_in c k) v d n e) → MayHoldLarge (memory_in c k) v d n
+  pub all_join : 1 ≤ n → d + n ≤ durable_used (memory_at c) → ((e : ℕ) → d ≤ e → e < d + n → MayJoin (memory_in c k) v d n e)
+      → MayHoldLarge (memory_in c k) v d n
   all_join some mark all = record {
     some = some;
     claimed = λ e low high. (all e low high).claimed;
@@ -60,10 +63,13 @@ module _ (c : CoreState) (k : Setup) (views : List View) (i : ℕ) (v : View) (t
     pub other_durable : (found : ℕ) → found ≡ durable_info (memory_at c) e → found ≢ wanted → MayJoin (memory_in c k) v d n e → ⊥
     other_durable found is differs may = differs (is ∙ ap (λ m. durable_info m e) same ∙ may.durable ∙ may.holds ∙ sym wanted_is)
 
-    pub unclaimed : (x : SuperblockUsage) → x ≡ usage_for i (get_or c.superblocks.items e no_superblock) → raw_in x + split_in x ≡ 0 → MayJoin (memory_in c k) v d n e → ⊥
-    unclaimed x is none may = let o = kept.superblocks e in let a = o.is_raw in let b = o.is_split in let g = may.claimed in let h = ap (λ y. raw_in y + split_in y) is in omega arith
+    pub unclaimed : (x : SuperblockUsage) → x ≡ usage_for i (get_or c.superblocks.items e no_superblock) → raw_in x + split_in x ≡ 0
+        → MayJoin (memory_in c k) v d n e → ⊥
+    unclaimed x is none may = let o = kept.superblocks e in let a = o.is_raw in let b = o.is_split in let g = may.claimed in
+        let h = ap (λ y. raw_in y + split_in y) is in omega arith
 
-    module _ (now kept_now : ℕ) (now_is : now ≡ info (memory_at c) e) (same_now : now ≡ wanted) (kept_is : kept_now ≡ durable_info (memory_at c) e) (same_kept : kept_now ≡ wanted) where
+    module _ (now kept_now : ℕ) (now_is : now ≡ info (memory_at c) e) (same_now : now ≡ wanted)
+        (kept_is : kept_now ≡ durable_info (memory_at c) e) (same_kept : kept_now ≡ wanted) where
       info_now : info (memory_in c k) e ≡ cond (nat_eq e d) (large_info n) 0
       info_now = ap (λ m. info m e) (sym same) ∙ sym now_is ∙ same_now ∙ wanted_is
 
@@ -71,11 +77,14 @@ module _ (c : CoreState) (k : Setup) (views : List View) (i : ℕ) (v : View) (t
       durable_now = ap (λ m. durable_info m e) (sym same) ∙ sym kept_is ∙ same_kept ∙ sym same_now ∙ now_is ∙ ap (λ m. info m e) same
 
       pub join_split : usage.Split ≡ usage_for i (get_or c.superblocks.items e no_superblock) → MayJoin (memory_in c k) v d n e
-      join_split is = let o = kept.superblocks e in let b = o.is_split in let h = ap split_in is in record { claimed = omega arith; empty = inr (omega arith); holds = info_now; durable = durable_now }
+      join_split is = let o = kept.superblocks e in let b = o.is_split in let h = ap split_in is in
+          record { claimed = omega arith; empty = inr (omega arith); holds = info_now; durable = durable_now }
 
-      pub join_raw : (state word : ℕ) → usage.Raw ≡ usage_for i (get_or c.superblocks.items e no_superblock) → state ≡ anchor_state word → word ≡ anchor (memory_at c) e → (nat_eq state 0 ≡ true) ↔ MayJoin (memory_in c k) v d n e
+      pub join_raw : (state word : ℕ) → usage.Raw ≡ usage_for i (get_or c.superblocks.items e no_superblock) → state ≡ anchor_state word
+          → word ≡ anchor (memory_at c) e → (nat_eq state 0 ≡ true) ↔ MayJoin (memory_in c k) v d n e
       join_raw state word is state_is word_is = (
-        λ h. let o = kept.superblocks e in let a = o.is_raw in let f = ap raw_in is in record { claimed = omega arith; empty = inl (at_now ∙ eqb-true state 0 h); holds = info_now; durable = durable_now },
+        λ h. let o = kept.superblocks e in let a = o.is_raw in let f = ap raw_in is in
+            record { claimed = omega arith; empty = inl (at_now ∙ eqb-true state 0 h); holds = info_now; durable = durable_now },
         λ may. eq-eqb state 0 (elim may.empty [
           | inl empty ↦ sym at_now ∙ empty
           | inr split ↦ absurd (let o = kept.superblocks e in let b = o.is_split in let f = ap split_in is in omega arith)

@@ -20,7 +20,8 @@ use Rattle.seat_state.proofs.WordLemmas.{entry_there}
 use Rattle.seat_state.proofs.CountLemmas.{total_member}
 use Rattle.crash_core.proofs.StandingLemmas.{among}
 
-module _ (c : CoreState) (k : Setup) (views : List View) (i : ℕ) (v : View) (t : SeatNotes) (keeps : KeepsViews c k views) (below : i < length views) (at : get_or views i v ≡ v)
+module _ (c : CoreState) (k : Setup) (views : List View) (i : ℕ) (v : View) (t : SeatNotes) (keeps : KeepsViews c k views)
+    (below : i < length views) (at : get_or views i v ≡ v)
     (at_t : IsSeatAt c i t) where
   pub kept : IsKept c i t v
   kept = keeps.each i t v below at_t at
@@ -31,7 +32,8 @@ module _ (c : CoreState) (k : Setup) (views : List View) (i : ℕ) (v : View) (t
   -- the first descriptor of the list is one
   pub first_below : (head : Seen) → t.seen_head ≡ Some head → head_first head.word ≢ 0 → head_first head.word - 1 < c.geometry.capacity
   first_below head some more = let is = saw head some in let knows = (keeps.sound.good.knows i v below at).seen_head (ap one_if_some is) in
-      let small = knows.small in let same : head_first (seen_word v.seen_head) ≡ head_first head.word = ap (λ x. head_first (seen_word x)) is in let cap = keeps.capacity in omega arith
+      let small = knows.small in let same : head_first (seen_word v.seen_head) ≡ head_first head.word = ap (λ x. head_first (seen_word x)) is in
+      let cap = keeps.capacity in omega arith
 
   -- what the core has not seen the seat has not
   pub unseen_head : t.seen_head ≡ None → IsThere v.seen_head → ⊥
@@ -56,7 +58,8 @@ pub record HeadFits (c : CoreState) (head : Seen) : Type 0 where
   pub long : length c.words.items ≡ table_length c.geometry.capacity
   pub superblocks : length c.superblocks.items ≡ c.geometry.capacity
 
-pub head_fits : (c : CoreState) (i : ℕ) (t : SeatNotes) (head : Seen) → IsCore c → i < length c.seats.items → IsSeatAt c i t → t.seen_head ≡ Some head → HeadFits c head
+pub head_fits : (c : CoreState) (i : ℕ) (t : SeatNotes) (head : Seen) → IsCore c → i < length c.seats.items → IsSeatAt c i t
+    → t.seen_head ≡ Some head → HeadFits c head
 head_fits c i t head core less at_t some =
     let below : i < length core.views = among core.keeps less in
     let here = entry_there core.views i below in
@@ -76,7 +79,8 @@ pub record PopFits (head : Seen) : Type 0 where
   pub some : head_first head.word ≢ 0
   pub pops : head_pops head.word < 1099511627775
 
-pub pop_fits : (c : CoreState) (i : ℕ) (t : SeatNotes) (head : Seen) (link : ℕ) → IsCore c → i < length c.seats.items → IsSeatAt c i t → t.seen_head ≡ Some head → t.seen_link ≡ Some link → IsThere t.ticket → PopFits head
+pub pop_fits : (c : CoreState) (i : ℕ) (t : SeatNotes) (head : Seen) (link : ℕ) → IsCore c → i < length c.seats.items → IsSeatAt c i t
+    → t.seen_head ≡ Some head → t.seen_link ≡ Some link → IsThere t.ticket → PopFits head
 pop_fits c i t head link core less at_t some some_link ticket =
     let below : i < length core.views = among core.keeps less in
     let here = entry_there core.views i below in
@@ -87,7 +91,8 @@ pop_fits c i t head link core less at_t some some_link ticket =
     let b = core.keeps.sound.good.adds.budget in
     let tickets = total_at (λ (x : View). one_if_some x.ticket) core.views i here.0 below here.1 in
     let mine = ap one_if_some notes.ticket in
-    let one = total_member (λ l. head_pops (head_at c core.setup l)) (seen_of here.0.seen_head) list_numbers (let n = number_once (seen_of here.0.seen_head) knows.is_list in omega arith) in
+    let one = total_member (λ l. head_pops (head_at c core.setup l)) (seen_of here.0.seen_head) list_numbers
+    (let n = number_once (seen_of here.0.seen_head) knows.is_list in omega arith) in
     let low = core.keeps.low in let p = knows.pops in
     let same : head_pops (seen_word here.0.seen_head) ≡ head_pops head.word = ap (λ x. head_pops (seen_word x)) is in
     record { some = subst (λ x. head_first (seen_word x) ≢ 0) is linked.0; pops = omega arith } where

@@ -35,7 +35,8 @@ pub claimed_going : (base : View) (d list : ℕ) → (claimed base d list).stopp
 claimed_going base d zero = refl
 claimed_going base d (suc n) = refl
 
-module _ (c : CoreState) (k : Setup) (views : List View) (i : ℕ) (v : View) (t : SeatNotes) (keeps : KeepsViews c k views) (below : i < length views) (at : get_or views i v ≡ v)
+module _ (c : CoreState) (k : Setup) (views : List View) (i : ℕ) (v : View) (t : SeatNotes) (keeps : KeepsViews c k views)
+    (below : i < length views) (at : get_or views i v ≡ v)
     (at_t : IsSeatAt c i t) where
   kept : IsKept c i t v
   kept = keeps.each i t v below at_t at
@@ -48,12 +49,16 @@ module _ (c : CoreState) (k : Setup) (views : List View) (i : ℕ) (v : View) (t
       → (times_raw d u ≡ 0) × (times_classed d u.classed ≡ 0) × (times_large d u.large ≡ 0)
   listed_alone zero d is some j u most =
       let p = good.shaped.placed.one_place d in let one = one_at_most (nat_lt d (used (memory_in c k))) in
-      let raw = among_most (times_raw d) views j u most (λ none. (none.superblocks d).0) in let classed = among_most (λ (x : View). times_classed d x.classed) views j u most (λ none. (none.superblocks d).1) in let large = among_most (λ (x : View). times_large d x.large) views j u most (λ none. (none.superblocks d).2) in
+      let raw = among_most (times_raw d) views j u most (λ none. (none.superblocks d).0) in
+      let classed = among_most (λ (x : View). times_classed d x.classed) views j u most (λ none. (none.superblocks d).1) in
+      let large = among_most (λ (x : View). times_large d x.large) views j u most (λ none. (none.superblocks d).2) in
       (omega arith, omega arith, omega arith)
   listed_alone (suc n) d is some j u most =
       let p = good.shaped.placed.one_place d in let one = one_at_most (nat_lt d (used (memory_in c k))) in
       let l = in_lists_at d good.shape.lists (suc n) is (λ e. absurd (omega (arith, e))) in
-      let raw = among_most (times_raw d) views j u most (λ none. (none.superblocks d).0) in let classed = among_most (λ (x : View). times_classed d x.classed) views j u most (λ none. (none.superblocks d).1) in let large = among_most (λ (x : View). times_large d x.large) views j u most (λ none. (none.superblocks d).2) in
+      let raw = among_most (times_raw d) views j u most (λ none. (none.superblocks d).0) in
+      let classed = among_most (λ (x : View). times_classed d x.classed) views j u most (λ none. (none.superblocks d).1) in
+      let large = among_most (λ (x : View). times_large d x.large) views j u most (λ none. (none.superblocks d).2) in
       (omega arith, omega arith, omega arith)
 
   nothing : (list d : ℕ) → list < lists → 0 < times d (good.shape.lists list) → (j : ℕ) (s : SeatNotes) (u : View) → IsAmong views j u → IsKept c j s u
@@ -71,25 +76,33 @@ module _ (c : CoreState) (k : Setup) (views : List View) (i : ℕ) (v : View) (t
     word_is : seen_word v.seen_head ≡ head.word
     word_is = ap seen_word is
 
-    knows : KnowsHead k.capacity (λ l. (memory_in c k).volatile (head_cell l)) (λ d. (memory_in c k).volatile (link_cell d)) good.shape.lists (seen_of v.seen_head) (seen_word v.seen_head) v.seen_link
+    knows : KnowsHead k.capacity (λ l. (memory_in c k).volatile (head_cell l)) (λ d. (memory_in c k).volatile (link_cell d)) good.shape.lists
+        (seen_of v.seen_head) (seen_word v.seen_head) v.seen_link
     knows = (good.knows i v below at).seen_head (ap one_if_some is)
 
     is_list : seen_of v.seen_head < lists
     is_list = knows.is_list
 
     -- the head as it is now
-    now : (at_word found : ℕ) → at_word ≡ 16 + head.of → found ≡ get_or c.words.items at_word found → (memory_in c k).volatile (head_cell (seen_of v.seen_head)) ≡ found
-    now at_word found here found_is = read_is k.capacity c.words.items (volatile_at (head_cell (seen_of v.seen_head))) (lt-ltb (seen_of v.seen_head) lists is_list)
+    now : (at_word found : ℕ) → at_word ≡ 16 + head.of → found ≡ get_or c.words.items at_word found
+        → (memory_in c k).volatile (head_cell (seen_of v.seen_head)) ≡ found
+    now at_word found here found_is = read_is k.capacity c.words.items (volatile_at (head_cell (seen_of v.seen_head)))
+        (lt-ltb (seen_of v.seen_head) lists is_list)
         ∙ entry_is c.words.items (16 + seen_of v.seen_head) 0 found (let l = keeps.sound.long in let less = is_list in omega arith)
         ∙ ap (λ n. get_or c.words.items n found) (let e = of_is in let g : 16 + seen_of v.seen_head ≡ at_word = omega arith in g) ∙ sym found_is
 
-    pub lost_pop : (at_word found : ℕ) → at_word ≡ 16 + head.of → found ≡ get_or c.words.items at_word found → found ≢ head.word → Steps c c k views i v Pop NotNow
-    lost_pop at_word found here found_is differs = step_not c k views i v Pop (λ may seen. differs (sym (now at_word found here found_is) ∙ seen ∙ word_is))
+    pub lost_pop : (at_word found : ℕ) → at_word ≡ 16 + head.of → found ≡ get_or c.words.items at_word found → found ≢ head.word
+        → Steps c c k views i v Pop NotNow
+    lost_pop at_word found here found_is differs = step_not c k views i v Pop
+        (λ may seen. differs (sym (now at_word found here found_is) ∙ seen ∙ word_is))
 
-    pub lost_push : (d at_word found : ℕ) → at_word ≡ 16 + head.of → found ≡ get_or c.words.items at_word found → found ≢ head.word → Steps c c k views i v (Push d) NotNow
-    lost_push d at_word found here found_is differs = step_not c k views i v (Push d) (λ may seen. differs (sym (now at_word found here found_is) ∙ seen ∙ word_is))
+    pub lost_push : (d at_word found : ℕ) → at_word ≡ 16 + head.of → found ≡ get_or c.words.items at_word found → found ≢ head.word
+        → Steps c c k views i v (Push d) NotNow
+    lost_push d at_word found here found_is differs = step_not c k views i v (Push d)
+        (λ may seen. differs (sym (now at_word found here found_is) ∙ seen ∙ word_is))
 
-    module _ (going : v.stopped ≡ None) (ticket : IsThere v.ticket) (at_word found : ℕ) (here : at_word ≡ 16 + head.of) (found_is : found ≡ get_or c.words.items at_word found) (same : found ≡ head.word) where
+    module _ (going : v.stopped ≡ None) (ticket : IsThere v.ticket) (at_word found : ℕ) (here : at_word ≡ 16 + head.of)
+        (found_is : found ≡ get_or c.words.items at_word found) (same : found ≡ head.word) where
       as_seen : (memory_in c k).volatile (head_cell (seen_of v.seen_head)) ≡ seen_word v.seen_head
       as_seen = now at_word found here found_is ∙ same ∙ sym word_is
 
@@ -99,7 +112,8 @@ module _ (c : CoreState) (k : Setup) (views : List View) (i : ℕ) (v : View) (t
       index : at_word ≡ 16 + seen_of v.seen_head
       index = let e = of_is in omega arith
 
-      pub pop : (link : ℕ) → t.seen_link ≡ Some link → (word d : ℕ) (x : SuperblockUsage) (anchor : Option Seen) → word ≡ head_of (head_first link) (head_pops head.word + 1)
+      pub pop : (link : ℕ) → t.seen_link ≡ Some link → (word d : ℕ) (x : SuperblockUsage) (anchor : Option Seen)
+          → word ≡ head_of (head_first link) (head_pops head.word + 1)
           → d ≡ head_first head.word - 1 → x ≡ listed head.of → snapshot anchor ≡ cleared d 1 (snapshot t.seen_anchor)
           → Steps c (record c {
             words = with_item c.words at_word word;
@@ -107,21 +121,40 @@ module _ (c : CoreState) (k : Setup) (views : List View) (i : ℕ) (v : View) (t
             seats = with_item c.seats i (record t { ticket = None; seen_head = None; seen_link = None; seen_anchor = anchor });
           }) k views i v Pop Done
       pop link some_link word d x anchor word_new d_new x_is anchor_is =
-          step_done c c' k views i v t t' Pop keeps below at at_t going ticket (record { is_seen = ap one_if_some is; link = ap one_if_some saw_link }) as_seen
+          step_done c c' k views i v t t' Pop keeps below at at_t going ticket
+          (record { is_seen = ap one_if_some is; link = ap one_if_some saw_link }) as_seen
           (ap (λ (y : View). y.stopped) seat_is ∙ claimed_going base d (seen_of v.seen_head) ∙ going)
-          (ap₂ (λ n y. set c.words.items n y) index (word_new ∙ sym (pick (nat_eq ((memory_in c k).volatile (head_cell (seen_of v.seen_head))) (seen_word v.seen_head)) (popped_head v) ((memory_in c k).volatile (head_cell (seen_of v.seen_head))) test ∙ left)))
-          refl (record { capacity = refl; budget = refl; carriers = refl; blocks = refl; superblocks = length-set c.superblocks.items d (record { seat = i; usage = x }); roots = refl })
+          (ap₂ (λ n y. set c.words.items n y) index (word_new ∙ sym (pick
+          (nat_eq ((memory_in c k).volatile (head_cell (seen_of v.seen_head))) (seen_word v.seen_head)) (popped_head v)
+          ((memory_in c k).volatile (head_cell (seen_of v.seen_head))) test ∙ left)))
+          refl (record {
+            capacity = refl;
+            budget = refl;
+            carriers = refl;
+            blocks = refl;
+            superblocks = length-set c.superblocks.items d (record { seat = i; usage = x });
+            roots = refl;
+          })
           (subst (IsKept c' i t') (sym seat_is)
-          (claimed_kept c' i t' base c.superblocks.items d (seen_of v.seen_head) x (x_is ∙ ap listed (sym of_is)) refl (subst (λ n. d < n) (sym keeps.superblocks) less) (nothing (seen_of v.seen_head) d is_list in_list i t v (inl (below, at)) kept)
+          (claimed_kept c' i t' base c.superblocks.items d (seen_of v.seen_head) x (x_is ∙ ap listed (sym of_is)) refl
+          (subst (λ n. d < n) (sym keeps.superblocks) less) (nothing (seen_of v.seen_head) d is_list in_list i t v (inl (below, at)) kept)
           kept.superblocks
-          (let n = kept.notes in record { ticket = refl; stopped = n.stopped; seen_used = n.seen_used; seen_head = refl; seen_link = refl; seen_anchor = ap (cleared d 1) n.seen_anchor ∙ sym anchor_is })
+          (let n = kept.notes in record {
+            ticket = refl;
+            stopped = n.stopped;
+            seen_used = n.seen_used;
+            seen_head = refl;
+            seen_link = refl;
+            seen_anchor = ap (cleared d 1) n.seen_anchor ∙ sym anchor_is;
+          })
           kept.caches kept.batch kept.blocks kept.roots))
           (λ j s u other most h. record {
             notes = h.notes;
             caches = h.caches;
             batch = h.batch;
             blocks = h.blocks;
-            superblocks = usages_theirs c.superblocks.items i j d x (λ e y. IsUsage e y u.raw u.split u.cutting u.classed u.large) (subst (λ n. d < n) (sym keeps.superblocks) less) other (nothing (seen_of v.seen_head) d is_list in_list j s u most h) h.superblocks;
+            superblocks = usages_theirs c.superblocks.items i j d x (λ e y. IsUsage e y u.raw u.split u.cutting u.classed u.large)
+                (subst (λ n. d < n) (sym keeps.superblocks) less) other (nothing (seen_of v.seen_head) d is_list in_list j s u most h) h.superblocks;
             roots = h.roots;
           })
         where
@@ -129,7 +162,11 @@ module _ (c : CoreState) (k : Setup) (views : List View) (i : ℕ) (v : View) (t
           t' = record t { ticket = None; seen_head = None; seen_link = None; seen_anchor = anchor }
 
           c' : CoreState
-          c' = record c { words = with_item c.words at_word word; superblocks = with_item c.superblocks d (record { seat = i; usage = x }); seats = with_item c.seats i t' }
+          c' = record c {
+            words = with_item c.words at_word word;
+            superblocks = with_item c.superblocks d (record { seat = i; usage = x });
+            seats = with_item c.seats i t';
+          }
 
           base : View
           base = record (won v) { seen_head = None; seen_link = None; seen_anchor = cleared d 1 v.seen_anchor }
@@ -144,7 +181,9 @@ module _ (c : CoreState) (k : Setup) (views : List View) (i : ℕ) (v : View) (t
           d_is = before_is (head_first (seen_word v.seen_head)) linked ∙ ap (λ n. head_first n - 1) word_is ∙ sym d_new
 
           seat_is : seat_after (memory_in c k) v Pop ≡ claimed base d (seen_of v.seen_head)
-          seat_is = pick (nat_eq ((memory_in c k).volatile (head_cell (seen_of v.seen_head))) (seen_word v.seen_head)) (popped v (before (head_first (seen_word v.seen_head)))) (record (lost v ((memory_in c k).volatile (head_cell (seen_of v.seen_head)))) { seen_head = None }) test ∙ ap (popped v) d_is
+          seat_is = pick (nat_eq ((memory_in c k).volatile (head_cell (seen_of v.seen_head))) (seen_word v.seen_head))
+              (popped v (before (head_first (seen_word v.seen_head)))) (record
+              (lost v ((memory_in c k).volatile (head_cell (seen_of v.seen_head)))) { seen_head = None }) test ∙ ap (popped v) d_is
 
           left : popped_head v ≡ head_of (head_first link) (head_pops head.word + 1)
           left = ap₂ (λ a b. head_of (head_first a) (head_pops b + 1)) (ap seen saw_link) word_is
@@ -155,7 +194,8 @@ module _ (c : CoreState) (k : Setup) (views : List View) (i : ℕ) (v : View) (t
           less : d < k.capacity
           less = let s = knows.small in let l = linked in let e = d_is in let b = before_is (head_first (seen_word v.seen_head)) linked in omega arith
 
-      pub push : (d : ℕ) → MayPush (memory_in c k) v d → d < length c.superblocks.items → (word : ℕ) (anchor : Option Seen) → word ≡ head_of (d + 1) (head_pops head.word)
+      pub push : (d : ℕ) → MayPush (memory_in c k) v d → d < length c.superblocks.items → (word : ℕ) (anchor : Option Seen)
+          → word ≡ head_of (d + 1) (head_pops head.word)
           → snapshot anchor ≡ cleared d 1 (snapshot t.seen_anchor)
           → Steps c (record c {
             words = with_item c.words at_word word;
@@ -167,20 +207,31 @@ module _ (c : CoreState) (k : Setup) (views : List View) (i : ℕ) (v : View) (t
         t' = record t { ticket = None; seen_head = None; seen_anchor = anchor }
 
         c' : CoreState
-        c' = record c { words = with_item c.words at_word word; superblocks = with_item c.superblocks d (record { seat = i; usage = usage.Nothing }); seats = with_item c.seats i t' }
+        c' = record c {
+          words = with_item c.words at_word word;
+          superblocks =
+              with_item c.superblocks d (record { seat = i; usage = usage.Nothing });
+          seats = with_item c.seats i t';
+        }
 
         won_it : seat_after (memory_in c k) v (Push d) ≡ pushed v d
-        won_it = pick (nat_eq ((memory_in c k).volatile (head_cell (seen_of v.seen_head))) (seen_word v.seen_head)) (pushed v d) (record (lost v ((memory_in c k).volatile (head_cell (seen_of v.seen_head)))) { seen_head = None }) test
+        won_it = pick (nat_eq ((memory_in c k).volatile (head_cell (seen_of v.seen_head))) (seen_word v.seen_head)) (pushed v d)
+            (record (lost v ((memory_in c k).volatile (head_cell (seen_of v.seen_head)))) { seen_head = None }) test
 
-        words_are : set c.words.items at_word word ≡ set c.words.items (16 + seen_of v.seen_head) (cond (nat_eq ((memory_in c k).volatile (head_cell (seen_of v.seen_head))) (seen_word v.seen_head)) (pushed_head v d) ((memory_in c k).volatile (head_cell (seen_of v.seen_head))))
-        words_are = ap₂ (λ n y. set c.words.items n y) index (word_new ∙ sym (pick (nat_eq ((memory_in c k).volatile (head_cell (seen_of v.seen_head))) (seen_word v.seen_head)) (pushed_head v d) ((memory_in c k).volatile (head_cell (seen_of v.seen_head))) test
+        words_are : set c.words.items at_word word ≡ set c.words.items (16 + seen_of v.seen_head)
+            (cond (nat_eq ((memory_in c k).volatile (head_cell (seen_of v.seen_head))) (seen_word v.seen_head)) (pushed_head v d)
+            ((memory_in c k).volatile (head_cell (seen_of v.seen_head))))
+        words_are = ap₂ (λ n y. set c.words.items n y) index (word_new
+            ∙ sym (pick (nat_eq ((memory_in c k).volatile (head_cell (seen_of v.seen_head))) (seen_word v.seen_head)) (pushed_head v d)
+            ((memory_in c k).volatile (head_cell (seen_of v.seen_head))) test
             ∙ ap (λ b. head_of (d + 1) (head_pops b)) word_is))
 
         mine_usage : usage_for i (get_or c.superblocks.items d no_superblock) ≡ usage.Nothing → ⊥
         mine_usage none = let o = subst (λ y. IsUsage d y v.raw v.split v.cutting v.classed v.large) none (kept.superblocks d) in
             claims_none (seen_of v.seen_head) may.listed o where
               claims_none : (list : ℕ) → MayList (memory_in c k) v d list → IsUsage d usage.Nothing v.raw v.split v.cutting v.classed v.large → ⊥
-              claims_none list (as_free l is_zero claimed empty) o = let a = o.is_raw in let b = o.is_split in let e = o.is_cutting in let f = o.is_classed in let g = claimed.claimed in absurd (omega arith)
+              claims_none list (as_free l is_zero claimed empty) o = let a = o.is_raw in let b = o.is_split in let e = o.is_cutting in
+                  let f = o.is_classed in let g = claimed.claimed in absurd (omega arith)
               claims_none list (of_its_class l apart classed class_is state_now) o = let f = o.is_classed in absurd (omega arith)
 
         theirs : (j : ℕ) (s : SeatNotes) (u : View) → j ≢ i → IsAmong views j u → IsKept c j s u → IsKept c' j s u
@@ -195,32 +246,59 @@ module _ (c : CoreState) (k : Setup) (views : List View) (i : ℕ) (v : View) (t
         }
 
         done : (w : View) → seat_after (memory_in c k) v (Push d) ≡ w → w.stopped ≡ None → IsKept c' i t' w → Steps c c' k views i v (Push d) Done
-        done w is_w on mine = step_done c c' k views i v t t' (Push d) keeps below at at_t going ticket may as_seen (ap (λ (y : View). y.stopped) is_w ∙ on) words_are refl
-            (record { capacity = refl; budget = refl; carriers = refl; blocks = refl; superblocks = length-set c.superblocks.items d (record { seat = i; usage = usage.Nothing }); roots = refl })
+        done w is_w on mine = step_done c c' k views i v t t' (Push d) keeps below at at_t going ticket may as_seen
+            (ap (λ (y : View). y.stopped) is_w ∙ on) words_are refl
+            (record {
+              capacity = refl;
+              budget = refl;
+              carriers = refl;
+              blocks = refl;
+              superblocks = length-set c.superblocks.items d (record { seat = i; usage = usage.Nothing });
+              roots = refl;
+            })
             (subst (IsKept c' i t') (sym is_w) mine) theirs
 
         by_claim : (some : Bool) → nat_lt 0 (times d v.raw + times d v.split) ≡ some → Steps c c' k views i v (Push d) Done
-        by_claim true e = done (pushed_raw v d) (won_it ∙ pick (nat_lt 0 (times d v.raw + times d v.split)) (pushed_raw v d) (pushed_classed v d) e) going (record {
-          notes = (let n = kept.notes in record { ticket = refl; stopped = n.stopped; seen_used = n.seen_used; seen_head = refl; seen_link = n.seen_link; seen_anchor = ap (cleared d 1) n.seen_anchor ∙ sym anchor_is });
-          caches = kept.caches;
-          batch = kept.batch;
-          blocks = kept.blocks;
-          superblocks = raw_given_up c.superblocks.items i d v.raw v.split v.cutting v.classed v.large less (ltb-true 0 (times d v.raw + times d v.split) e) kept.superblocks;
-          roots = kept.roots;
-        })
-        by_claim false e = done (pushed_classed v d) (won_it ∙ skip (nat_lt 0 (times d v.raw + times d v.split)) (pushed_raw v d) (pushed_classed v d) e) going (record {
-          notes = (let n = kept.notes in record { ticket = refl; stopped = n.stopped; seen_used = n.seen_used; seen_head = refl; seen_link = n.seen_link; seen_anchor = ap (cleared d 1) n.seen_anchor ∙ sym anchor_is });
-          caches = kept.caches;
-          batch = kept.batch;
-          blocks = kept.blocks;
-          superblocks = class_given_up c.superblocks.items i d v.raw v.split v.cutting v.classed v.large less (claims_class (seen_of v.seen_head) may.listed) kept.superblocks;
-          roots = kept.roots;
-        }) where
-          claims_class : (list : ℕ) → MayList (memory_in c k) v d list → 0 < times_classed d v.classed
-          claims_class list (as_free l is_zero claimed empty) = let g = claimed.claimed in let h = claimed.not_cutting in let n = not_below e in omega arith where
-            not_below : nat_lt 0 (times d v.raw + times d v.split) ≡ false → times d v.raw + times d v.split ≡ 0
-            not_below f = elim (cases_lt 0 (times d v.raw + times d v.split)) [
-              | inl some ↦ absurd (true≢false (sym (lt-ltb 0 (times d v.raw + times d v.split) some) ∙ f))
-              | inr none ↦ omega arith
-            ]
-          claims_class list (of_its_class l apart classed class_is state_now) = classed
+        by_claim true e = done (pushed_raw v d) (won_it ∙ pick (nat_lt 0 (times d v.raw + times d v.split)) (pushed_raw v d)
+            (pushed_classed v d) e) going (record {
+              notes = (let n = kept.notes in record {
+                ticket = refl;
+                stopped = n.stopped;
+                seen_used = n.seen_used;
+                seen_head = refl;
+                seen_link = n.seen_link;
+                seen_anchor = ap (cleared d 1) n.seen_anchor ∙ sym anchor_is;
+              });
+              caches = kept.caches;
+              batch = kept.batch;
+              blocks = kept.blocks;
+              superblocks = raw_given_up c.superblocks.items i d v.raw v.split v.cutting v.classed v.large less
+                  (ltb-true 0 (times d v.raw + times d v.split) e) kept.superblocks;
+              roots = kept.roots;
+            })
+        by_claim false e = done (pushed_classed v d) (won_it ∙ skip (nat_lt 0 (times d v.raw + times d v.split)) (pushed_raw v d)
+            (pushed_classed v d) e) going (record {
+              notes = (let n = kept.notes in record {
+                ticket = refl;
+                stopped = n.stopped;
+                seen_used = n.seen_used;
+                seen_head = refl;
+                seen_link = n.seen_link;
+                seen_anchor = ap (cleared d 1) n.seen_anchor ∙ sym anchor_is;
+              });
+              caches = kept.caches;
+              batch = kept.batch;
+              blocks = kept.blocks;
+              superblocks = class_given_up c.superblocks.items i d v.raw v.split v.cutting v.classed v.large less
+                  (claims_class (seen_of v.seen_head) may.listed) kept.superblocks;
+              roots = kept.roots;
+            }) where
+              claims_class : (list : ℕ) → MayList (memory_in c k) v d list → 0 < times_classed d v.classed
+              claims_class list (as_free l is_zero claimed empty) = let g = claimed.claimed in let h = claimed.not_cutting in let n = not_below e in
+                  omega arith where
+                    not_below : nat_lt 0 (times d v.raw + times d v.split) ≡ false → times d v.raw + times d v.split ≡ 0
+                    not_below f = elim (cases_lt 0 (times d v.raw + times d v.split)) [
+                      | inl some ↦ absurd (true≢false (sym (lt-ltb 0 (times d v.raw + times d v.split) some) ∙ f))
+                      | inr none ↦ omega arith
+                    ]
+              claims_class list (of_its_class l apart classed class_is state_now) = classed

@@ -35,7 +35,8 @@ cached_only place.Held some = absurd (omega arith)
 cached_only place.Cached some = (refl, refl, refl)
 cached_only place.Batched some = absurd (omega arith)
 
-module _ (c : CoreState) (k : Setup) (views : List View) (i : ℕ) (v : View) (t : SeatNotes) (keeps : KeepsViews c k views) (below : i < length views) (at : get_or views i v ≡ v)
+module _ (c : CoreState) (k : Setup) (views : List View) (i : ℕ) (v : View) (t : SeatNotes) (keeps : KeepsViews c k views)
+    (below : i < length views) (at : get_or views i v ≡ v)
     (at_t : IsSeatAt c i t) where
   kept : IsKept c i t v
   kept = keeps.each i t v below at_t at
@@ -51,10 +52,13 @@ module _ (c : CoreState) (k : Setup) (views : List View) (i : ℕ) (v : View) (t
       let is_class = good.shaped.chained.is_class (superblock_at k.capacity b) inside.0 in
       let ends = inside_of k.capacity (info (memory_in c k) (superblock_at k.capacity b)) (superblock_at k.capacity b) b is_class inside.1 in
       let low = ends.0 in let high = ends.1 in
-      let less = good.shaped.durable.below (superblock_at k.capacity b) (omega arith) in let q = good.shaped.durable.behind in let r = good.shaped.durable.room in
+      let less = good.shaped.durable.below (superblock_at k.capacity b) (omega arith) in let q = good.shaped.durable.behind in
+      let r = good.shaped.durable.room in
       let two = two_words (info (memory_in c k) (superblock_at k.capacity b)) is_class in let cap = keeps.capacity in
       within (superblock_at k.capacity b) low high (omega arith) (omega arith) where
-        within : (d : ℕ) → start_word k.capacity d ≤ b → b + words_of_class (info (memory_in c k) (superblock_at k.capacity b)) ≤ start_word k.capacity (d + 1) → 0 < words_of_class (info (memory_in c k) (superblock_at k.capacity b)) → d < k.capacity
+        within : (d : ℕ) → start_word k.capacity d ≤ b → b + words_of_class
+            (info (memory_in c k) (superblock_at k.capacity b)) ≤ start_word k.capacity (d + 1)
+            → 0 < words_of_class (info (memory_in c k) (superblock_at k.capacity b)) → d < k.capacity
             → (start_word c.geometry.capacity 0 ≤ b) × (b < superblocks_end c.geometry.capacity)
         within d low high two less = let cap = keeps.capacity in (omega arith, omega arith)
 
@@ -70,7 +74,10 @@ module _ (c : CoreState) (k : Setup) (views : List View) (i : ℕ) (v : View) (t
 
     pub may_alloc : class ≢ 0 → class ≤ last_class → (nat_lt 0 e.count ≡ true) ↔ MayAlloc v class
     may_alloc some last = (
-      λ h. record { is_class = record { some = omega arith; last = last }; cached = (let n = count_is (omega arith) in let more = ltb-true 0 e.count h in omega arith) },
+      λ h. record {
+        is_class = record { some = omega arith; last = last };
+        cached = (let n = count_is (omega arith) in let more = ltb-true 0 e.count h in omega arith);
+      },
       λ may. lt-ltb 0 e.count (let n = count_is (omega arith) in let m = may.cached in omega arith),
     )
 
@@ -105,25 +112,34 @@ module _ (c : CoreState) (k : Setup) (views : List View) (i : ℕ) (v : View) (t
       pub old : IsPlace e.first (place_for i (get_or c.blocks.items e.first no_block)) v.small v.caches v.batch.blocks
       old = kept.blocks e.first
 
-      pub was : (held_in (place_for i (get_or c.blocks.items e.first no_block)) ≡ 0) × (cached_in (place_for i (get_or c.blocks.items e.first no_block)) ≡ 1) × (batched_in (place_for i (get_or c.blocks.items e.first no_block)) ≡ 0)
+      pub was : (held_in (place_for i (get_or c.blocks.items e.first no_block)) ≡ 0)
+          × (cached_in (place_for i (get_or c.blocks.items e.first no_block)) ≡ 1)
+          × (batched_in (place_for i (get_or c.blocks.items e.first no_block)) ≡ 0)
       was = cached_only (place_for i (get_or c.blocks.items e.first no_block)) (let o = old.cached in let s = in_caches in omega arith)
 
       pub there : place_for i (get_or c.blocks.items e.first no_block) ≡ place.Nowhere → ⊥
       there none = let w = was.1 in let z = ap cached_in none in omega arith
 
-      pub parts_at : (y : ℕ) → times y (of_class v.caches class) ≡ one_if (nat_eq (first_of (of_class v.caches class)) y) + times y (rest_of (of_class v.caches class))
+      pub parts_at : (y : ℕ) → times y (of_class v.caches class) ≡ one_if (nat_eq (first_of (of_class v.caches class)) y) + times y
+          (rest_of (of_class v.caches class))
       parts_at y = ap (times y) (first_rest (of_class v.caches class) may.cached)
 
       -- the cache without its first block
-      pub caches_after : (first : ℕ) → first ≡ next (memory_at c) e.first → HasCaches (set t.caches class (record { first = first; count = e.count - 1 })) (set v.caches class (rest_of (of_class v.caches class)))
-      caches_after first next_is = cache_set t.caches v.caches class (rest_of (of_class v.caches class)) (record { first = first; count = e.count - 1 }) kept.caches less long_caches leads
+      pub caches_after : (first : ℕ) → first ≡ next (memory_at c) e.first
+          → HasCaches (set t.caches class (record { first = first; count = e.count - 1 })) (set v.caches class (rest_of (of_class v.caches class)))
+      caches_after first next_is = cache_set t.caches v.caches class (rest_of (of_class v.caches class))
+          (record { first = first; count = e.count - 1 }) kept.caches less long_caches leads
           (rest_length (of_class v.caches class) ∙ ap (λ m. m - 1) (count_is less)) where
             leads : 1 ≤ length (rest_of (of_class v.caches class)) → first_of (rest_of (of_class v.caches class)) ≡ first
             leads some = rest_first (next (memory_in c k)) (of_class v.caches class) ((good.blocks i v below at).cache_linked class) some
                 ∙ ap (next (memory_in c k)) first_is ∙ ap (λ n. next (memory_of n c.words.items) e.first) keeps.capacity ∙ sym next_is
 
       pub alloc : (first : ℕ) → first ≡ next (memory_at c) e.first
-          → IsMoved c (record c { blocks = with_item c.blocks e.first (record { seat = i; place = place.Held }); seats = with_item c.seats i (record t { caches = set t.caches class (record { first = first; count = e.count - 1 }) }) }) views i t (after_alloc v class)
+          → IsMoved c (record c {
+            blocks = with_item c.blocks e.first (record { seat = i; place = place.Held });
+            seats = with_item c.seats i (record t { caches = set t.caches class (record { first = first; count = e.count - 1 }) });
+          })
+          views i t (after_alloc v class)
       alloc first next_is = record {
         after = record t { caches = set t.caches class (record { first = first; count = e.count - 1 }) };
         seats = refl;
@@ -137,18 +153,33 @@ module _ (c : CoreState) (k : Setup) (views : List View) (i : ℕ) (v : View) (t
         superblocks = refl;
         roots = refl;
         mine = record {
-          notes = (let n = kept.notes in record { ticket = n.ticket; stopped = n.stopped; seen_used = n.seen_used; seen_head = n.seen_head; seen_link = n.seen_link; seen_anchor = n.seen_anchor });
+          notes = (let n = kept.notes in record {
+            ticket = n.ticket;
+            stopped = n.stopped;
+            seen_used = n.seen_used;
+            seen_head = n.seen_head;
+            seen_link = n.seen_link;
+            seen_anchor = n.seen_anchor;
+          });
           caches = caches_after first next_is;
           batch = kept.batch;
-          blocks = places_mine c.blocks.items i e.first place.Held (λ y p. IsPlace y p (set v.small class (first_of (of_class v.caches class) ∷ of_class v.small class)) (set v.caches class (rest_of (of_class v.caches class))) v.batch.blocks) first_long
+          blocks = places_mine c.blocks.items i e.first place.Held (λ y p. IsPlace y p
+              (set v.small class (first_of (of_class v.caches class) ∷ of_class v.small class))
+              (set v.caches class (rest_of (of_class v.caches class))) v.batch.blocks) first_long
               (record {
-                held = (let l = total_lists e.first v.small class (first_of (of_class v.caches class) ∷ of_class v.small class) long_small in let one = eq-eqb-one (first_of (of_class v.caches class)) e.first first_is in let o = old.held in let w = was.0 in omega arith);
-                cached = (let l = total_lists e.first v.caches class (rest_of (of_class v.caches class)) long_caches in let one = eq-eqb-one (first_of (of_class v.caches class)) e.first first_is in let p = parts_at e.first in let o = old.cached in let w = was.1 in omega arith);
+                held = (let l = total_lists e.first v.small class (first_of (of_class v.caches class) ∷ of_class v.small class) long_small in
+                    let one = eq-eqb-one (first_of (of_class v.caches class)) e.first first_is in let o = old.held in let w = was.0 in omega arith);
+                cached = (let l = total_lists e.first v.caches class (rest_of (of_class v.caches class)) long_caches in
+                    let one = eq-eqb-one (first_of (of_class v.caches class)) e.first first_is in let p = parts_at e.first in
+                    let o = old.cached in let w = was.1 in omega arith);
                 batched = (let o = old.batched in let w = was.2 in omega arith);
               })
-              (λ y other. let o = kept.blocks y in let none = ne-eqb-none (first_of (of_class v.caches class)) y (λ h. other (sym h ∙ first_is)) in record {
-                held = (let l = total_lists y v.small class (first_of (of_class v.caches class) ∷ of_class v.small class) long_small in let h = o.held in omega arith);
-                cached = (let l = total_lists y v.caches class (rest_of (of_class v.caches class)) long_caches in let p = parts_at y in let h = o.cached in omega arith);
+              (λ y other. let o = kept.blocks y in let none = ne-eqb-none (first_of (of_class v.caches class)) y
+              (λ h. other (sym h ∙ first_is)) in record {
+                held = (let l = total_lists y v.small class (first_of (of_class v.caches class) ∷ of_class v.small class) long_small in
+                    let h = o.held in omega arith);
+                cached = (let l = total_lists y v.caches class (rest_of (of_class v.caches class)) long_caches in let p = parts_at y in
+                    let h = o.cached in omega arith);
                 batched = o.batched;
               });
           superblocks = kept.superblocks;
@@ -158,7 +189,8 @@ module _ (c : CoreState) (k : Setup) (views : List View) (i : ℕ) (v : View) (t
           notes = h.notes;
           caches = h.caches;
           batch = h.batch;
-          blocks = places_theirs c.blocks.items i j e.first place.Held (λ y p. IsPlace y p u.small u.caches u.batch.blocks) first_long other (place_alone i j (get_or c.blocks.items e.first no_block) other there) h.blocks;
+          blocks = places_theirs c.blocks.items i j e.first place.Held (λ y p. IsPlace y p u.small u.caches u.batch.blocks) first_long other
+              (place_alone i j (get_or c.blocks.items e.first no_block) other there) h.blocks;
           superblocks = h.superblocks;
           roots = h.roots;
         };
@@ -172,7 +204,8 @@ pub record AllocFits (c : CoreState) (class : ℕ) (e : Cache) : Type 0 where
   pub until : e.first < superblocks_end c.geometry.capacity
   pub long : e.first < length c.blocks.items
 
-pub alloc_fits : (c : CoreState) (i class : ℕ) (t : SeatNotes) → IsCore c → i < length c.seats.items → IsSeatAt c i t → Decides c i (λ m v. MayAlloc v class) true → AllocFits c class (get_or t.caches class no_cache)
+pub alloc_fits : (c : CoreState) (i class : ℕ) (t : SeatNotes) → IsCore c → i < length c.seats.items → IsSeatAt c i t
+    → Decides c i (λ m v. MayAlloc v class) true → AllocFits c class (get_or t.caches class no_cache)
 alloc_fits c i class t core less at_t may =
     let below : i < length core.views = among core.keeps less in
     let here = entry_there core.views i below in
@@ -186,5 +219,6 @@ alloc_fits c i class t core less at_t may =
       long = first_long c core.setup core.views i here.0 t core.keeps below here.1 at_t class holds;
     }
 
-pub retold : (old new : CoreState) (views : List View) (i : ℕ) (t t' : SeatNotes) (w : View) → t ≡ t' → IsMoved old new views i t w → IsMoved old new views i t' w
+pub retold : (old new : CoreState) (views : List View) (i : ℕ) (t t' : SeatNotes) (w : View) → t ≡ t' → IsMoved old new views i t w
+    → IsMoved old new views i t' w
 retold old new views i t t' w same moved = subst (λ x. IsMoved old new views i x w) same moved

@@ -36,10 +36,15 @@ seat_of c k s i t stands at_t = let v = entry_there s.views i (among stands.keep
 }
 
 pub may_hand : (c : CoreState) (s : TableState) (i : ℕ) (t : SeatNotes) (o : IsSeatOf c s i t) → t.stopped ≡ None → IsThere t.ticket → MayHand o.view
-may_hand c s i t o going ticket = record { seat = o.seat; going = ap one_if_some (o.kept.notes.stopped ∙ going); ticket = ap one_if_some o.kept.notes.ticket ∙ ticket }
+may_hand c s i t o going ticket = record {
+  seat = o.seat;
+  going = ap one_if_some (o.kept.notes.stopped ∙ going);
+  ticket = ap one_if_some o.kept.notes.ticket ∙ ticket;
+}
 
 pub offer_stopped : (c : CoreState) (i x : ℕ) (t : SeatNotes) (step : ℕ) → IsSeatAt c i t → t.stopped ≡ Some step → Offers c i x (Stopped step) c
-offer_stopped c i x t step at_t some k s stands = let o = seat_of c k s i t stands at_t in (s, offers_stopped o.view step o.at (o.kept.notes.stopped ∙ some), stands)
+offer_stopped c i x t step at_t some k s stands = let o = seat_of c k s i t stands at_t in
+    (s, offers_stopped o.view step o.at (o.kept.notes.stopped ∙ some), stands)
 
 pub offer_no_ticket : (c : CoreState) (i x : ℕ) (t : SeatNotes) → IsSeatAt c i t → t.stopped ≡ None → (IsThere t.ticket → ⊥) → Offers c i x NotNow c
 offer_no_ticket c i x t at_t going none k s stands = let o = seat_of c k s i t stands at_t in
@@ -49,21 +54,31 @@ offer_no_ticket c i x t at_t going none k s stands = let o = seat_of c k s i t s
 pub not_held : (v : View) (x : ℕ) → total (times x) v.small ≡ 0 → (MaySplit v x → ⊥) → HoldsAt v x → ⊥
 not_held v x no_small no_large holds = by holds.block holds.holds holds.at where
   by : (b : Block) → IsHeld v b → b.first_word ≡ x → ⊥
-  by _ (a_small class b some) at = let t = in_lists_total b class v.small some in let same = ap (λ n. total (times n) v.small) at in omega (arith, t, same, no_small)
+  by _ (a_small class b some) at = let t = in_lists_total b class v.small some in let same = ap (λ n. total (times n) v.small) at in
+      omega (arith, t, same, no_small)
   by _ (a_large d n some count) at = no_large (large_there d n some count at) where
     large_there : (d n : ℕ) → 0 < n → span_count d v.large ≡ n → start_word v.setup.capacity d ≡ x → MaySplit v x
     large_there d n some count at =
         let d_is : superblock_at v.setup.capacity x ≡ d = omega (arith, at) in
-        record { held = subst (λ e. 1 ≤ span_count e v.large) (sym d_is) (omega (arith, count, some)); first = sym at ∙ ap (start_word v.setup.capacity) (sym d_is) }
+        record {
+          held = subst (λ e. 1 ≤ span_count e v.large) (sym d_is) (omega (arith, count, some));
+          first = sym at ∙ ap (start_word v.setup.capacity) (sym d_is);
+        }
 
-pub offer_not_held : (c : CoreState) (i x : ℕ) (t : SeatNotes) → (at_t : IsSeatAt c i t) → t.stopped ≡ None → held_in (place_for i (get_or c.blocks.items x no_block)) ≡ 0
+pub offer_not_held : (c : CoreState) (i x : ℕ) (t : SeatNotes) → (at_t : IsSeatAt c i t) → t.stopped ≡ None
+    → held_in (place_for i (get_or c.blocks.items x no_block)) ≡ 0
     → ((k : Setup) (s : TableState) (stands : Represents c k s) → MaySplit (seat_of c k s i t stands at_t).view x → ⊥) → Offers c i x NotNow c
-offer_not_held c i x t at_t going no_small no_large k s stands = let o = seat_of c k s i t stands at_t in
-    (s, offers_not o.view o.at (o.kept.notes.stopped ∙ going) (λ may. not_held o.view x ((o.kept.blocks x).held ∙ no_small) (no_large k s stands) may.held), stands)
+offer_not_held c i x t at_t going no_small no_large k s stands = let o = seat_of c k s i t stands at_t in (
+  s,
+  offers_not o.view o.at (o.kept.notes.stopped ∙ going) (λ may. not_held o.view x ((o.kept.blocks x).held ∙ no_small)
+      (no_large k s stands) may.held),
+  stands,
+)
 
 -- the core after an offer stands for a state again
 pub offered_core : (c new : CoreState) (i x : ℕ) (answer : StepAnswer) → IsStanding c → Offers c i x answer new → IsStanding new
-offered_core c new i x answer core offers = let next = offers core.setup core.state core.stands in record { setup = core.setup; state = next.0; stands = next.2 }
+offered_core c new i x answer core offers = let next = offers core.setup core.state core.stands in
+    record { setup = core.setup; state = next.0; stands = next.2 }
 
 -- an option that is none is not there
 pub no_ticket : (ticket : Option ℕ) (none : Bool) → is_some ticket ≡ not none → none ≡ true → IsThere ticket → ⊥

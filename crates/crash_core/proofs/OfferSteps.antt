@@ -35,7 +35,8 @@ held_is place.Held some = refl
 held_is place.Cached some = absurd (omega arith)
 held_is place.Batched some = absurd (omega arith)
 
-module _ (c : CoreState) (k : Setup) (s : TableState) (i : ℕ) (v : View) (t : SeatNotes) (x : ℕ) (stands : Represents c k s) (at : get_or s.views i v ≡ v) (at_t : IsSeatAt c i t) (hand : MayHand v)
+module _ (c : CoreState) (k : Setup) (s : TableState) (i : ℕ) (v : View) (t : SeatNotes) (x : ℕ) (stands : Represents c k s)
+    (at : get_or s.views i v ≡ v) (at_t : IsSeatAt c i t) (hand : MayHand v)
     (held : place_for i (get_or c.blocks.items x no_block) ≡ place.Held) where
   keeps : KeepsViews c k s.views
   keeps = stands.keeps
@@ -68,7 +69,11 @@ module _ (c : CoreState) (k : Setup) (s : TableState) (i : ℕ) (v : View) (t : 
   small_may = record { may = hand; held = holds }
 
   laden : (b : Block) × IsHeld (carrier_of v x) b
-  laden = (record { first_word = x; words = words_of_class class.0 }, a_small class.0 x (let g = class_goes x class.0 v.small in let some = class.1 in omega arith))
+  laden = (
+    record { first_word = x; words = words_of_class class.0 },
+    a_small class.0 x (let g = class_goes x class.0 v.small in
+        let some = class.1 in omega arith),
+  )
 
   -- a superblock that is cut is part of no large block
   no_large : times_large d v.large ≡ 0
@@ -76,7 +81,8 @@ module _ (c : CoreState) (k : Setup) (s : TableState) (i : ℕ) (v : View) (t : 
       let same = ap (λ (h : Setup). superblock_at h.capacity x) (good.set_up i v below at).setup in
       let mine = total_at (times_block x) s.views i v below at in let one = one_there in
       let cut = (good.shaped.chained.inside x (omega arith)).0 in
-      let p = good.shaped.placed.one_place (superblock_at k.capacity x) in let most = one_at_most (nat_lt (superblock_at k.capacity x) (used (memory_in c k))) in
+      let p = good.shaped.placed.one_place (superblock_at k.capacity x) in
+      let most = one_at_most (nat_lt (superblock_at k.capacity x) (used (memory_in c k))) in
       let large = total_at (λ (u : View). times_large (superblock_at k.capacity x) u.large) s.views i v below at in
       let is = ap (λ e. times_large e v.large) same in omega arith
 
@@ -86,7 +92,8 @@ module _ (c : CoreState) (k : Setup) (s : TableState) (i : ℕ) (v : View) (t : 
   there : x < length c.blocks.items
   there = elim (cases_lt x (length c.blocks.items)) [
     | inl less ↦ less
-    | inr past ↦ absurd (let z = ap (λ o. held_in (place_for i o)) (get_or_past c.blocks.items x no_block past) in let y = ap held_in held in let w = nowhere (nat_eq 0 i) in omega (arith, z, y, w))
+    | inr past ↦ absurd (let z = ap (λ o. held_in (place_for i o)) (get_or_past c.blocks.items x no_block past) in let y = ap held_in held in
+        let w = nowhere (nat_eq 0 i) in omega (arith, z, y, w))
   ] where
     nowhere : (test : Bool) → held_in (cond test place.Nowhere place.Nowhere) ≡ 0
     nowhere true = refl
@@ -98,43 +105,57 @@ module _ (c : CoreState) (k : Setup) (s : TableState) (i : ℕ) (v : View) (t : 
   theirs : (e : ℕ) → e ≢ i → place_for e (get_or c.blocks.items x no_block) ≡ place.Nowhere
   theirs e other = place_alone i e (get_or c.blocks.items x no_block) other (λ none. let z = ap held_in (sym held ∙ none) in omega (arith, z))
 
-  module _ (c' : CoreState) (handed : IsHanded c c' i t) (blocks_are : c'.blocks.items ≡ set c.blocks.items x (record { seat = j; place = place.Held })) (same : c'.superblocks.items ≡ c.superblocks.items) where
+  module _ (c' : CoreState) (handed : IsHanded c c' i t) (blocks_are : c'.blocks.items ≡ set c.blocks.items x
+      (record { seat = j; place = place.Held })) (same : c'.superblocks.items ≡ c.superblocks.items) where
     pub small_offer : Represents c' k (after_offer s i v x)
     small_offer = offer_stands c c' k s i v t x stands at at_t small_may handed
         (record {
           blocks = subst (λ os. HasBlocksOf os i (chosen_lists (λ e. not (nat_eq e x)) v.small) v.caches v.batch.blocks) (sym blocks_are) mine;
-          superblocks = λ e. subst (λ os. IsUsage e (usage_for i (get_or os e no_superblock)) v.raw v.split v.cutting v.classed (chosen_spans (λ f. not (nat_eq f d)) v.large)) (sym same)
-              (subst (λ l. IsUsage e (usage_for i (get_or c.superblocks.items e no_superblock)) v.raw v.split v.cutting v.classed l) (sym spans.1) (kept.superblocks e));
+          superblocks = λ e. subst (λ os. IsUsage e (usage_for i (get_or os e no_superblock)) v.raw v.split v.cutting v.classed
+              (chosen_spans (λ f. not (nat_eq f d)) v.large)) (sym same)
+              (subst (λ l. IsUsage e (usage_for i (get_or c.superblocks.items e no_superblock)) v.raw v.split v.cutting v.classed l)
+              (sym spans.1) (kept.superblocks e));
         })
         (record {
           blocks = subst (λ os. HasBlocksOf os j (chosen_lists (λ e. nat_eq e x) v.small) (nobody k).caches []) (sym blocks_are) new;
-          superblocks = λ e. subst (λ os. IsUsage e (usage_for j (get_or os e no_superblock)) [] [] [] [] (chosen_spans (λ f. nat_eq f d) v.large)) (sym same)
-              (subst (λ l. IsUsage e (usage_for j (get_or c.superblocks.items e no_superblock)) [] [] [] [] l) (sym spans.0) ((keeps.none j (omega arith)).superblocks e));
+          superblocks = λ e. subst (λ os. IsUsage e (usage_for j (get_or os e no_superblock)) [] [] [] []
+              (chosen_spans (λ f. nat_eq f d) v.large)) (sym same)
+              (subst (λ l. IsUsage e (usage_for j (get_or c.superblocks.items e no_superblock)) [] [] [] [] l) (sym spans.0)
+              ((keeps.none j (omega arith)).superblocks e));
         })
         laden
         (λ e u other old h. record {
           blocks = subst (λ os. HasBlocksOf os e u.small u.caches u.batch.blocks) (sym blocks_are)
               (places_theirs c.blocks.items j e x place.Held (λ b p. IsPlace b p u.small u.caches u.batch.blocks) there old (theirs e other) h.blocks);
-          superblocks = λ b. subst (λ os. IsUsage b (usage_for e (get_or os b no_superblock)) u.raw u.split u.cutting u.classed u.large) (sym same) (h.superblocks b);
+          superblocks = λ b. subst (λ os. IsUsage b (usage_for e (get_or os b no_superblock)) u.raw u.split u.cutting u.classed u.large)
+              (sym same) (h.superblocks b);
         }) where
-          new : HasBlocksOf (set c.blocks.items x (record { seat = j; place = place.Held })) j (chosen_lists (λ e. nat_eq e x) v.small) (nobody k).caches []
+          new : HasBlocksOf (set c.blocks.items x (record { seat = j; place = place.Held })) j (chosen_lists (λ e. nat_eq e x) v.small)
+              (nobody k).caches []
           new = places_mine c.blocks.items j x place.Held (λ b p. IsPlace b p (chosen_lists (λ e. nat_eq e x) v.small) (nobody k).caches []) there
               (let none = (keeps.none j (omega arith)).blocks x in record { held = lists_all x v.small ∙ one_there; cached = refl; batched = refl })
-              (λ e other. let none = (keeps.none j (omega arith)).blocks e in record { held = lists_only x e v.small other ∙ none.held; cached = none.cached; batched = none.batched })
+              (λ e other. let none = (keeps.none j (omega arith)).blocks e in
+              record { held = lists_only x e v.small other ∙ none.held; cached = none.cached; batched = none.batched })
 
-          left : (e : ℕ) → total (times e) (chosen_lists (λ f. not (nat_eq f x)) v.small) + total (times e) (chosen_lists (λ f. nat_eq f x) v.small) ≡ total (times e) v.small
+          left : (e : ℕ) → total (times e) (chosen_lists (λ f. not (nat_eq f x)) v.small) + total (times e)
+              (chosen_lists (λ f. nat_eq f x) v.small) ≡ total (times e) v.small
           left e = lists_both (λ f. nat_eq f x) e v.small
 
-          mine : HasBlocksOf (set c.blocks.items x (record { seat = j; place = place.Held })) i (chosen_lists (λ e. not (nat_eq e x)) v.small) v.caches v.batch.blocks
+          mine : HasBlocksOf (set c.blocks.items x (record { seat = j; place = place.Held })) i
+              (chosen_lists (λ e. not (nat_eq e x)) v.small) v.caches v.batch.blocks
           mine e = elim (cases_eq e x) [
-            | inl here ↦ subst (λ n. IsPlace n (place_for i (get_or (set c.blocks.items x (record { seat = j; place = place.Held })) n no_block)) (chosen_lists (λ f. not (nat_eq f x)) v.small) v.caches v.batch.blocks) (sym here)
+            | inl here ↦ subst (λ n. IsPlace n (place_for i (get_or (set c.blocks.items x (record { seat = j; place = place.Held }))
+                n no_block)) (chosen_lists (λ f. not (nat_eq f x)) v.small) v.caches v.batch.blocks) (sym here)
                 (subst (λ p. IsPlace x p (chosen_lists (λ f. not (nat_eq f x)) v.small) v.caches v.batch.blocks)
-                (sym (ap (place_for i) (get_or-set_same c.blocks.items x (record { seat = j; place = place.Held }) no_block there) ∙ place_theirs j i place.Held (λ h. apart (sym h))))
+                (sym (ap (place_for i) (get_or-set_same c.blocks.items x (record { seat = j; place = place.Held }) no_block there)
+                ∙ place_theirs j i place.Held (λ h. apart (sym h))))
                 (let o = kept.blocks x in let l = left x in let g = lists_all x v.small in let h = held in record {
                   held = (let one = one_there in omega arith);
                   cached = o.cached ∙ ap cached_in held;
                   batched = o.batched ∙ ap batched_in held;
                 }))
-            | inr other ↦ subst (λ o. IsPlace e (place_for i o) (chosen_lists (λ f. not (nat_eq f x)) v.small) v.caches v.batch.blocks) (sym (get_or-set_other c.blocks.items x e (record { seat = j; place = place.Held }) no_block other))
-                (let o = kept.blocks e in let l = left e in let g = lists_only x e v.small other in record { held = (let h = o.held in omega arith); cached = o.cached; batched = o.batched })
+            | inr other ↦ subst (λ o. IsPlace e (place_for i o) (chosen_lists (λ f. not (nat_eq f x)) v.small) v.caches v.batch.blocks)
+                (sym (get_or-set_other c.blocks.items x e (record { seat = j; place = place.Held }) no_block other))
+                (let o = kept.blocks e in let l = left e in let g = lists_only x e v.small other in
+                record { held = (let h = o.held in omega arith); cached = o.cached; batched = o.batched })
           ]

@@ -34,31 +34,41 @@ module _ (words : List ℕ) (held : List Block) (owners : List ℕ) (ready : IsR
   abbrev c : ℕ
   c = slice_index words 2
 
-  module _ (i : ℕ) (p : Block) (o : ℕ) (below : i < length held) (at : get_or held i p ≡ p) (at_o : get_or owners i o ≡ o) (blocks : List BlockOwner) (before : HaveSeats held owners i (image_words c) blocks) where
+  module _ (i : ℕ) (p : Block) (o : ℕ) (below : i < length held) (at : get_or held i p ≡ p) (at_o : get_or owners i o ≡ o)
+      (blocks : List BlockOwner) (before : HaveSeats held owners i (image_words c) blocks) where
     pub large_seated : is_small p ≡ false → HaveSeats held owners (i + 1) (image_words c) blocks
     large_seated large = subst (λ n. HaveSeats held owners n (image_words c) blocks) (sym (add-one i)) (record {
       long = before.long;
-      each = λ j b. subst (λ n. IsHeldOnly n (place_for j (get_or blocks b no_block))) (sym (large_more words held owners ready long i p o below at at_o large j b)) (before.each j b);
+      each = λ j b. subst (λ n. IsHeldOnly n (place_for j (get_or blocks b no_block)))
+          (sym (large_more words held owners ready long i p o below at at_o large j b)) (before.each j b);
     })
 
-    pub small_seated : is_small p ≡ true → HaveSeats held owners (i + 1) (image_words c) (set blocks p.first_word (record { seat = o; place = place.Held }))
-    small_seated small = subst (λ n. HaveSeats held owners n (image_words c) (set blocks p.first_word (record { seat = o; place = place.Held }))) (sym (add-one i)) (record {
-      long = length-set blocks p.first_word (record { seat = o; place = place.Held }) ∙ before.long;
-      each = λ j b. elim (cases_eq j o) as (λ _. IsHeldOnly (held_so_far held owners (suc i) j b) (place_for j (get_or (set blocks p.first_word (record { seat = o; place = place.Held })) b no_block))) [
-        | inl mine ↦ subst (λ n. IsHeldOnly (held_so_far held owners (suc i) n b) (place_for n (get_or (set blocks p.first_word (record { seat = o; place = place.Held })) b no_block))) (sym mine)
-            (places_mine blocks o p.first_word place.Held (λ e x. IsHeldOnly (held_so_far held owners (suc i) o e) x) less
-            (record { held = mine_here words held owners ready long i p o below at at_o small; cached = refl; batched = refl })
-            (λ e apart. subst (λ n. IsHeldOnly n (place_for o (get_or blocks e no_block))) (sym (mine_elsewhere words held owners ready long i p o below at at_o small e apart)) (before.each o e)) b)
-        | inr other ↦ places_theirs blocks o j p.first_word place.Held (λ e x. IsHeldOnly (held_so_far held owners (suc i) j e) x) less other
-            (held_nowhere (held_so_far held owners i j p.first_word) (place_for j (get_or blocks p.first_word no_block)) (before.each j p.first_word) (none_yet words held owners ready long i p o below at at_o small j))
-            (λ e. subst (λ n. IsHeldOnly n (place_for j (get_or blocks e no_block))) (sym (more_theirs words held owners ready long i p o below at at_o j e other)) (before.each j e)) b
-      ];
-    }) where
-      less : p.first_word < length blocks
-      less = let w = within words held owners ready long p (block_there held i p below at) small in let l = before.long in omega arith
+    pub small_seated : is_small p ≡ true → HaveSeats held owners (i + 1) (image_words c)
+        (set blocks p.first_word (record { seat = o; place = place.Held }))
+    small_seated small = subst (λ n. HaveSeats held owners n (image_words c)
+        (set blocks p.first_word (record { seat = o; place = place.Held }))) (sym (add-one i)) (record {
+          long = length-set blocks p.first_word (record { seat = o; place = place.Held }) ∙ before.long;
+          each = λ j b. elim (cases_eq j o) as (λ _. IsHeldOnly (held_so_far held owners (suc i) j b)
+              (place_for j (get_or (set blocks p.first_word (record { seat = o; place = place.Held })) b no_block))) [
+                | inl mine ↦ subst (λ n. IsHeldOnly (held_so_far held owners (suc i) n b)
+                    (place_for n (get_or (set blocks p.first_word (record { seat = o; place = place.Held })) b no_block))) (sym mine)
+                    (places_mine blocks o p.first_word place.Held (λ e x. IsHeldOnly (held_so_far held owners (suc i) o e) x) less
+                    (record { held = mine_here words held owners ready long i p o below at at_o small; cached = refl; batched = refl })
+                    (λ e apart. subst (λ n. IsHeldOnly n (place_for o (get_or blocks e no_block)))
+                    (sym (mine_elsewhere words held owners ready long i p o below at at_o small e apart)) (before.each o e)) b)
+                | inr other ↦ places_theirs blocks o j p.first_word place.Held (λ e x. IsHeldOnly (held_so_far held owners (suc i) j e) x) less other
+                    (held_nowhere (held_so_far held owners i j p.first_word) (place_for j (get_or blocks p.first_word no_block))
+                    (before.each j p.first_word) (none_yet words held owners ready long i p o below at at_o small j))
+                    (λ e. subst (λ n. IsHeldOnly n (place_for j (get_or blocks e no_block)))
+                    (sym (more_theirs words held owners ready long i p o below at at_o j e other)) (before.each j e)) b
+              ];
+        }) where
+          less : p.first_word < length blocks
+          less = let w = within words held owners ready long p (block_there held i p below at) small in let l = before.long in omega arith
 
   -- all have their seats
-  pub all_seated : (i : ℕ) (blocks : List BlockOwner) → HaveSeats held owners i (image_words c) blocks → length held ≤ i → AreBlockOwners words held owners blocks
+  pub all_seated : (i : ℕ) (blocks : List BlockOwner) → HaveSeats held owners i (image_words c) blocks → length held ≤ i
+      → AreBlockOwners words held owners blocks
   all_seated i blocks seated past = record {
     long = seated.long;
     each = λ j b. let s = seated.each j b in record {

@@ -25,7 +25,8 @@ use Rattle.seat_state.proofs.NewSeat.{new_seat, no_caches}
 picked_none : {A : Type 0} (j : ℕ) (xs : List A) (owners : List ℕ) → ((o : ℕ) → Contains owners o → o ≢ j) → picked j xs owners ≡ []
 picked_none j [] owners apart = refl
 picked_none j (x ∷ xs) [] apart = refl
-picked_none j (x ∷ xs) (o ∷ owners) apart = skip (nat_eq o j) (x ∷ picked j xs owners) (picked j xs owners) (not-eq o j (apart o (in_head o owners))) ∙ picked_none j xs owners (λ p there. apart p (in_rest o p owners there))
+picked_none j (x ∷ xs) (o ∷ owners) apart = skip (nat_eq o j) (x ∷ picked j xs owners) (picked j xs owners)
+    (not-eq o j (apart o (in_head o owners))) ∙ picked_none j xs owners (λ p there. apart p (in_rest o p owners there))
 
 -- what a core has that keeps an opened heap
 pub record IsOpened (c : CoreState) (words : List ℕ) (held : List Block) (budget seats : ℕ) (block_owners root_owners : List ℕ) : Type 0 where
@@ -38,7 +39,8 @@ pub record IsOpened (c : CoreState) (words : List ℕ) (held : List Block) (budg
   pub superblocks : AreSuperblockOwners words held block_owners c.superblocks.items
   pub roots_are : c.roots.items ≡ root_owners
 
-pub stands : (c : CoreState) (words : List ℕ) (held : List Block) (budget seats : ℕ) (block_owners root_owners : List ℕ) → IsOpened c words held budget seats block_owners root_owners
+pub stands : (c : CoreState) (words : List ℕ) (held : List Block) (budget seats : ℕ) (block_owners root_owners : List ℕ)
+    → IsOpened c words held budget seats block_owners root_owners
     → IsReady words held → AreOwners held seats block_owners root_owners → seats ≤ 8 → budget < 1099511627776
     → Represents c (setup_of words budget seats) (opened_state (setup_of words budget seats) held block_owners root_owners seats)
 stands c words held budget seats block_owners root_owners is ready owners few low = record {
@@ -56,7 +58,8 @@ stands c words held budget seats block_owners root_owners is ready owners few lo
     roots = ap length is.roots_are ∙ owners.roots_all;
     each = λ i t v below at_t at. let less : i < seats = (let l = length_tabulate V 0 seats in omega arith) in
         subst (IsKept c i t) (sym (tabulate_at V 0 seats i v less) ∙ at)
-        (subst (λ s. IsKept c i s (V (0 + i))) (sym (get_or-replicate seats i new_seat t less) ∙ ap (λ l. get_or l i t) (sym is.seats_are) ∙ at_t.at) (subst (λ j. IsKept c i new_seat (V j)) (let e : i ≡ 0 + i = omega arith in e) (kept i)));
+        (subst (λ s. IsKept c i s (V (0 + i))) (sym (get_or-replicate seats i new_seat t less) ∙ ap (λ l. get_or l i t) (sym is.seats_are)
+        ∙ at_t.at) (subst (λ j. IsKept c i new_seat (V j)) (let e : i ≡ 0 + i = omega arith in e) (kept i)));
     carried = λ j u past below at. absurd (let l = length_tabulate V 0 seats in let n = long in omega (arith, l, n, past, below));
     none = λ j past. let far : seats ≤ j = (let l = length_tabulate V 0 seats in omega (arith, l, past)) in kept_none j far;
   };
@@ -85,7 +88,10 @@ stands c words held budget seats block_owners root_owners is ready owners few lo
     batch = record { descriptor = refl; class = refl; first = refl; last = refl; count = refl; linked = refl };
     blocks = is.blocks.each i;
     superblocks = is.superblocks.each i;
-    roots = record { is_owned = λ n. roots_of i roots root_owners owners.roots_all n ∙ ap (λ os. one_if (nat_eq (get_or os n (i + 1)) i)) (sym is.roots_are) };
+    roots = record {
+      is_owned = λ n. roots_of i roots root_owners owners.roots_all n
+          ∙ ap (λ os. one_if (nat_eq (get_or os n (i + 1)) i)) (sym is.roots_are);
+    };
   }
 
   long : length c.seats.items ≡ seats
@@ -94,9 +100,19 @@ stands c words held budget seats block_owners root_owners is ready owners few lo
   kept_none : (j : ℕ) → seats ≤ j → IsKept c j new_seat (nobody k)
   kept_none j far =
       let h = subst (λ (p : List Block × List ℕ). IsKept c j new_seat (trimmed (plain_view k p.0 p.1)))
-      (λ i. (picked_none j held block_owners (λ o there. let l = owners.block_seats o there in omega (arith, l, far)) i, picked_none j (steps 0 1 roots) root_owners (λ o there. let l = owners.root_seats o there in omega (arith, l, far)) i)) (kept j) in
+      (λ i. (
+        picked_none j held block_owners (λ o there. let l = owners.block_seats o there in omega (arith, l, far)) i,
+        picked_none j (steps 0 1 roots) root_owners (λ o there. let l = owners.root_seats o there in omega (arith, l, far)) i,
+      )) (kept j) in
       record {
-        notes = (let n = h.notes in record { ticket = n.ticket; stopped = n.stopped; seen_used = n.seen_used; seen_head = n.seen_head; seen_link = n.seen_link; seen_anchor = n.seen_anchor });
+        notes = (let n = h.notes in record {
+          ticket = n.ticket;
+          stopped = n.stopped;
+          seen_used = n.seen_used;
+          seen_head = n.seen_head;
+          seen_link = n.seen_link;
+          seen_anchor = n.seen_anchor;
+        });
         caches = h.caches;
         batch = h.batch;
         blocks = h.blocks;

@@ -18,7 +18,8 @@ use Rattle.core_model.proofs.TotalLemmas.{total_set}
 use Rattle.heap_model.specs.Counting.{total}
 use Rattle.crash_core.specs.Standing.{AreInOrder}
 
-pub event_order : (k : Setup) (m : Memory) (views : List View) (i : ℕ) (v : View) (event : Event) → i < length views → get_or views i v ≡ v → i < k.seats → AreInOrder k views → AreInOrder k (set views i (seat_after m v event))
+pub event_order : (k : Setup) (m : Memory) (views : List View) (i : ℕ) (v : View) (event : Event) → i < length views → get_or views i v ≡ v
+    → i < k.seats → AreInOrder k views → AreInOrder k (set views i (seat_after m v event))
 event_order k m views i v event below at seat order = record {
   counted = same_roles k views i v w below at order.counted (order.first i v seat at) same;
   few = order.few;
@@ -27,7 +28,8 @@ event_order k m views i v event below at seat order = record {
     | inl here ↦ ap (λ (x : View). x.carries) (sym (is_w j u here at_u)) ∙ ap (λ (r : Role). r.carries) same ∙ order.first i v seat at
     | inr other ↦ order.first j u less (sym (get_or-set_other views i j w u other) ∙ at_u)
   ];
-  behind = λ j u past less at_u. order.behind j u past (subst (λ n. j < n) (length-set views i w) less) (sym (get_or-set_other views i j w u (λ same_j. omega (arith, same_j, past, seat))) ∙ at_u);
+  behind = λ j u past less at_u. order.behind j u past (subst (λ n. j < n) (length-set views i w) less)
+      (sym (get_or-set_other views i j w u (λ same_j. omega (arith, same_j, past, seat))) ∙ at_u);
 } where
   w : View
   w = seat_after m v event
@@ -39,11 +41,15 @@ event_order k m views i v event below at seat order = record {
   is_w j u here at_u = sym (get_or-set_same views i w u below) ∙ subst (λ n. get_or (set views i w) n u ≡ u) here at_u
 
 -- an event makes no carrier, and gives no ticket but the one that it draws
-pub event_made : (k : Setup) (words : List ℕ) (views : List View) (i : ℕ) (v : View) (event : Event) → i < length views → get_or views i v ≡ v → Sound k words views → MayStep (memory_of k.capacity words) v event
+pub event_made : (k : Setup) (words : List ℕ) (views : List View) (i : ℕ) (v : View) (event : Event) → i < length views → get_or views i v ≡ v
+    → Sound k words views → MayStep (memory_of k.capacity words) v event
     → length views + total (λ (x : View). one_if_some x.ticket) views ≤ k.seats + (memory_of k.capacity words).drawn
-    → length (set views i (seat_after (memory_of k.capacity words) v event)) + total (λ (x : View). one_if_some x.ticket) (set views i (seat_after (memory_of k.capacity words) v event)) ≤ k.seats + (memory_of k.capacity (words_after k words v event)).drawn
+    → length (set views i (seat_after (memory_of k.capacity words) v event)) + total (λ (x : View). one_if_some x.ticket)
+    (set views i (seat_after (memory_of k.capacity words) v event)) ≤ k.seats + (memory_of k.capacity (words_after k words v event)).drawn
 event_made k words views i v event below at sound may made =
     let m = memory_of k.capacity words in
-    let l = length-set views i (seat_after m v event) in let t = total_set (λ (x : View). one_if_some x.ticket) views i v (seat_after m v event) below at in
-    let after = ap (λ (n : Memory). n.drawn) (memory_set k.capacity words (place_of v event) (left_there m v event (found_by m v event)) sound.long (in_table k m views i v below at sound.good event may)) in
+    let l = length-set views i (seat_after m v event) in let t = total_set (λ (x : View). one_if_some x.ticket) views i v
+    (seat_after m v event) below at in
+    let after = ap (λ (n : Memory). n.drawn) (memory_set k.capacity words (place_of v event)
+    (left_there m v event (found_by m v event)) sound.long (in_table k m views i v below at sound.good event may)) in
     let one = ticket_after m v event in omega arith

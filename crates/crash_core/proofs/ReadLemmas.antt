@@ -18,12 +18,15 @@ pub lengths : (c : CoreState) → IsCore c → Lengths c
 lengths c core = let k = core.keeps in let cap = k.capacity in let l = k.sound.long in let s = k.superblocks in let b = k.blocks in
     record { words = omega arith; superblocks = omega arith; blocks = omega arith }
 
-pub reads_volatile : (c : CoreState) (cell : Cell) (n found : ℕ) → IsCore c → is_cell c.geometry.capacity cell ≡ true → n ≡ index_of cell → found ≡ get_or c.words.items n found → found ≡ (memory_at c).volatile cell
+pub reads_volatile : (c : CoreState) (cell : Cell) (n found : ℕ) → IsCore c → is_cell c.geometry.capacity cell ≡ true → n ≡ index_of cell
+    → found ≡ get_or c.words.items n found → found ≡ (memory_at c).volatile cell
 reads_volatile c cell n found core is here found_is = sym (read_is c.geometry.capacity c.words.items (volatile_at cell) is
     ∙ entry_is c.words.items (index_of cell) 0 found (let l = (lengths c core).words in let w = index_within c.geometry.capacity cell is in omega arith)
     ∙ ap (λ x. get_or c.words.items x found) (sym here) ∙ sym found_is)
 
-pub reads_durable : (c : CoreState) (cell : Cell) (n found : ℕ) → IsCore c → is_cell c.geometry.capacity cell ≡ true → n ≡ image_words c.geometry.capacity + index_of cell → found ≡ get_or c.words.items n found → found ≡ (memory_at c).durable cell
+pub reads_durable : (c : CoreState) (cell : Cell) (n found : ℕ) → IsCore c → is_cell c.geometry.capacity cell ≡ true
+    → n ≡ image_words c.geometry.capacity + index_of cell → found ≡ get_or c.words.items n found → found ≡ (memory_at c).durable cell
 reads_durable c cell n found core is here found_is = sym (read_is c.geometry.capacity c.words.items (durable_at cell) is
-    ∙ entry_is c.words.items (image_words c.geometry.capacity + index_of cell) 0 found (let l = (lengths c core).words in let w = index_within c.geometry.capacity cell is in omega arith)
+    ∙ entry_is c.words.items (image_words c.geometry.capacity + index_of cell) 0 found (let l = (lengths c core).words in
+    let w = index_within c.geometry.capacity cell is in omega arith)
     ∙ ap (λ x. get_or c.words.items x found) (sym here) ∙ sym found_is)

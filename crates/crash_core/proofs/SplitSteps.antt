@@ -31,7 +31,8 @@ use Rattle.seat_state.proofs.RangeLemmas.{range_mine, range_theirs}
 use Rattle.seat_state.proofs.WordLemmas.{entry_there}
 use Rattle.seat_state.proofs.CountLemmas.{no_span}
 
-pub large_only : (x : SuperblockUsage) → 0 < large_in x → (raw_in x ≡ 0) × (split_in x ≡ 0) × (cutting_in x ≡ 0) × (classed_in x ≡ 0) × (class_in x ≡ 0) × (large_in x ≡ 1)
+pub large_only : (x : SuperblockUsage) → 0 < large_in x → (raw_in x ≡ 0) × (split_in x ≡ 0) × (cutting_in x ≡ 0) × (classed_in x ≡ 0)
+    × (class_in x ≡ 0) × (large_in x ≡ 1)
 large_only usage.Nothing some = absurd (omega arith)
 large_only usage.Raw some = absurd (omega arith)
 large_only usage.Split some = absurd (omega arith)
@@ -39,7 +40,8 @@ large_only usage.Cutting some = absurd (omega arith)
 large_only (usage.Classed class) some = absurd (omega arith)
 large_only (usage.Large count) some = (refl, refl, refl, refl, refl, refl)
 
-module _ (c : CoreState) (k : Setup) (views : List View) (i : ℕ) (v : View) (t : SeatNotes) (keeps : KeepsViews c k views) (below_i : i < length views) (at : get_or views i v ≡ v)
+module _ (c : CoreState) (k : Setup) (views : List View) (i : ℕ) (v : View) (t : SeatNotes) (keeps : KeepsViews c k views)
+    (below_i : i < length views) (at : get_or views i v ≡ v)
     (at_t : IsSeatAt c i t) (block : ℕ) where
   kept : IsKept c i t v
   kept = keeps.each i t v below_i at_t at
@@ -67,7 +69,8 @@ module _ (c : CoreState) (k : Setup) (views : List View) (i : ℕ) (v : View) (t
     at_start : (n : ℕ) → block ≡ start_word c.geometry.capacity n → (block - start_word c.geometry.capacity 0) % 8192 ≡ 0
     at_start n is = omega arith
 
-  pub split_there : start_word c.geometry.capacity 0 ≤ block → (block - start_word c.geometry.capacity 0) % 8192 ≡ 0 → (x : SuperblockUsage) (n : ℕ) → x ≡ usage_for i (get_or c.superblocks.items d no_superblock) → n ≡ count_in x
+  pub split_there : start_word c.geometry.capacity 0 ≤ block → (block - start_word c.geometry.capacity 0) % 8192 ≡ 0
+      → (x : SuperblockUsage) (n : ℕ) → x ≡ usage_for i (get_or c.superblocks.items d no_superblock) → n ≡ count_in x
       → (nat_lt 0 n ≡ true) ↔ MaySplit v block
   split_there from whole x n x_is n_is = (
     λ h. record {
@@ -90,7 +93,8 @@ module _ (c : CoreState) (k : Setup) (views : List View) (i : ℕ) (v : View) (t
     large_low : (e : ℕ) → d ≤ e → e < d + n → e < k.capacity
     large_low e low high = elim (cases_lt e (used (memory_in c k))) [
       | inl less ↦ let r = good.shaped.durable.room in omega arith
-      | inr past ↦ absurd (let h = span_covers d e v.large some low high in let large = total_at (λ (x : View). times_large e x.large) views i v below_i at in
+      | inr past ↦ absurd (let h = span_covers d e v.large some low high in
+          let large = total_at (λ (x : View). times_large e x.large) views i v below_i at in
           let p = good.shaped.placed.one_place e in let z = below_not e (used (memory_in c k)) past in omega arith)
     ]
 
@@ -100,74 +104,86 @@ module _ (c : CoreState) (k : Setup) (views : List View) (i : ℕ) (v : View) (t
     pub split_count : n ≡ count_in (usage_for i (get_or c.superblocks.items d no_superblock))
     split_count = count_is
 
-    pub split : (count : ℕ) → count ≡ n → (owners : Vec SuperblockOwner Global) (anchor : Option Seen) → IsRange c.superblocks.items owners.items d count (record { seat = i; usage = usage.Split }) → snapshot anchor ≡ cleared d count (snapshot t.seen_anchor)
-        → IsMoved c (record c { superblocks = owners; seats = with_item c.seats i (record t { seen_anchor = anchor }) }) views i t (after_split v (superblock_at v.setup.capacity block))
-    split count count_n owners anchor range_count anchor_is = subst (λ m. IsMoved c (record c { superblocks = owners; seats = with_item c.seats i (record t { seen_anchor = anchor }) }) views i t (after_split v m)) (sym d_v) (record {
-      after = record t { seen_anchor = anchor };
-      seats = refl;
-      ticket = refl;
-      stopped = refl;
-      words = refl;
-      geometry = refl;
-      budget = refl;
-      carriers = refl;
-      blocks = refl;
-      superblocks = range.long;
-      roots = refl;
-      mine = record {
-        notes = (let o = kept.notes in record {
-          ticket = o.ticket;
-          stopped = o.stopped;
-          seen_used = o.seen_used;
-          seen_head = o.seen_head;
-          seen_link = o.seen_link;
-          seen_anchor = ap₂ (λ m a. cleared d m a) (sym count_n) o.seen_anchor ∙ sym anchor_is;
-        });
-        caches = kept.caches;
-        batch = kept.batch;
-        blocks = kept.blocks;
-        superblocks = range_mine c.superblocks.items owners.items i d n usage.Split (λ e y. IsUsage e y v.raw (v.split ++ steps d 1 n) v.cutting v.classed (without_span d v.large)) range
-            (λ e low high. let o = kept.superblocks e in let z = large_only (usage_for i (get_or c.superblocks.items e no_superblock)) (covered e low high) in
-            let w = without_span_is e d v.large some in let r = range_is d n e low high in let l = o.is_large in let z5 = z.5 in
-            let gone : times_large e (without_span d v.large) ≡ 0 = omega arith in record {
-              is_raw = o.is_raw ∙ z.0;
-              is_split = (let a = times_append e v.split (steps d 1 n) in let b = times_range e d n in let s = o.is_split in let z1 = z.1 in omega arith);
-              is_cutting = o.is_cutting ∙ z.2;
-              is_classed = o.is_classed ∙ z.3;
-              class = o.class ∙ z.4;
-              is_large = gone;
-              count = no_span e (without_span d v.large) gone;
-            })
-            (λ e out. let o = kept.superblocks e in let w = without_span_is e d v.large some in let r = range_not d n e out in record {
-              is_raw = o.is_raw;
-              is_split = (let a = times_append e v.split (steps d 1 n) in let b = times_range e d n in let s = o.is_split in omega arith);
-              is_cutting = o.is_cutting;
-              is_classed = o.is_classed;
-              class = o.class;
-              is_large = (let l = o.is_large in omega arith);
-              count = span_other e d v.large (λ same. out (omega (arith, same)) (let s = some in omega (arith, same, s))) ∙ o.count;
+    pub split : (count : ℕ) → count ≡ n → (owners : Vec SuperblockOwner Global) (anchor : Option Seen)
+        → IsRange c.superblocks.items owners.items d count (record { seat = i; usage = usage.Split })
+        → snapshot anchor ≡ cleared d count (snapshot t.seen_anchor)
+        → IsMoved c (record c { superblocks = owners; seats = with_item c.seats i (record t { seen_anchor = anchor }) }) views i t
+        (after_split v (superblock_at v.setup.capacity block))
+    split count count_n owners anchor range_count anchor_is = subst
+        (λ m. IsMoved c (record c { superblocks = owners; seats = with_item c.seats i (record t { seen_anchor = anchor }) }) views i t
+        (after_split v m)) (sym d_v) (record {
+          after = record t { seen_anchor = anchor };
+          seats = refl;
+          ticket = refl;
+          stopped = refl;
+          words = refl;
+          geometry = refl;
+          budget = refl;
+          carriers = refl;
+          blocks = refl;
+          superblocks = range.long;
+          roots = refl;
+          mine = record {
+            notes = (let o = kept.notes in record {
+              ticket = o.ticket;
+              stopped = o.stopped;
+              seen_used = o.seen_used;
+              seen_head = o.seen_head;
+              seen_link = o.seen_link;
+              seen_anchor = ap₂ (λ m a. cleared d m a) (sym count_n) o.seen_anchor ∙ sym anchor_is;
             });
-        roots = kept.roots;
-      };
-      others = λ j s u other most h. record {
-        notes = h.notes;
-        caches = h.caches;
-        batch = h.batch;
-        blocks = h.blocks;
-        superblocks = range_theirs c.superblocks.items owners.items i j d n usage.Split (λ e y. IsUsage e y u.raw u.split u.cutting u.classed u.large) other range
-            (λ e low high. usage_alone i j (get_or c.superblocks.items e no_superblock) other (λ none. let l = covered e low high in let z = ap large_in none in omega arith)) h.superblocks;
-        roots = h.roots;
-      };
-    }) where
-      range : IsRange c.superblocks.items owners.items d n (record { seat = i; usage = usage.Split })
-      range = subst (λ m. IsRange c.superblocks.items owners.items d m (record { seat = i; usage = usage.Split })) count_n range_count
+            caches = kept.caches;
+            batch = kept.batch;
+            blocks = kept.blocks;
+            superblocks = range_mine c.superblocks.items owners.items i d n usage.Split
+                (λ e y. IsUsage e y v.raw (v.split ++ steps d 1 n) v.cutting v.classed (without_span d v.large)) range
+                (λ e low high. let o = kept.superblocks e in let z = large_only (usage_for i (get_or c.superblocks.items e no_superblock))
+                (covered e low high) in
+                let w = without_span_is e d v.large some in let r = range_is d n e low high in let l = o.is_large in let z5 = z.5 in
+                let gone : times_large e (without_span d v.large) ≡ 0 = omega arith in record {
+                  is_raw = o.is_raw ∙ z.0;
+                  is_split = (let a = times_append e v.split (steps d 1 n) in let b = times_range e d n in let s = o.is_split in let z1 = z.1 in
+                      omega arith);
+                  is_cutting = o.is_cutting ∙ z.2;
+                  is_classed = o.is_classed ∙ z.3;
+                  class = o.class ∙ z.4;
+                  is_large = gone;
+                  count = no_span e (without_span d v.large) gone;
+                })
+                (λ e out. let o = kept.superblocks e in let w = without_span_is e d v.large some in let r = range_not d n e out in record {
+                  is_raw = o.is_raw;
+                  is_split = (let a = times_append e v.split (steps d 1 n) in let b = times_range e d n in let s = o.is_split in omega arith);
+                  is_cutting = o.is_cutting;
+                  is_classed = o.is_classed;
+                  class = o.class;
+                  is_large = (let l = o.is_large in omega arith);
+                  count = span_other e d v.large (λ same. out (omega (arith, same)) (let s = some in omega (arith, same, s))) ∙ o.count;
+                });
+            roots = kept.roots;
+          };
+          others = λ j s u other most h. record {
+            notes = h.notes;
+            caches = h.caches;
+            batch = h.batch;
+            blocks = h.blocks;
+            superblocks = range_theirs c.superblocks.items owners.items i j d n usage.Split
+                (λ e y. IsUsage e y u.raw u.split u.cutting u.classed u.large) other range
+                (λ e low high. usage_alone i j (get_or c.superblocks.items e no_superblock) other (λ none. let l = covered e low high in
+                let z = ap large_in none in omega arith)) h.superblocks;
+            roots = h.roots;
+          };
+        }) where
+          range : IsRange c.superblocks.items owners.items d n (record { seat = i; usage = usage.Split })
+          range = subst (λ m. IsRange c.superblocks.items owners.items d m (record { seat = i; usage = usage.Split })) count_n range_count
 
 -- what fits when a large block may be split
 pub record SplitFits (c : CoreState) (i block : ℕ) : Type 0 where
   pub from : start_word c.geometry.capacity 0 ≤ block
-  pub range : superblock_at c.geometry.capacity block + count_in (usage_for i (get_or c.superblocks.items (superblock_at c.geometry.capacity block) no_superblock)) ≤ length c.superblocks.items
+  pub range : superblock_at c.geometry.capacity block + count_in (usage_for i
+      (get_or c.superblocks.items (superblock_at c.geometry.capacity block) no_superblock)) ≤ length c.superblocks.items
 
-pub split_fits : (c : CoreState) (i block : ℕ) (t : SeatNotes) → IsCore c → i < length c.seats.items → IsSeatAt c i t → Decides c i (λ m v. MaySplit v block) true → SplitFits c i block
+pub split_fits : (c : CoreState) (i block : ℕ) (t : SeatNotes) → IsCore c → i < length c.seats.items → IsSeatAt c i t
+    → Decides c i (λ m v. MaySplit v block) true → SplitFits c i block
 split_fits c i block t core less at_t may =
     let below_i : i < length core.views = among core.keeps less in
     let here = entry_there core.views i below_i in

@@ -48,7 +48,8 @@ pub record IsSameHeap (c c' : CoreState) : Type 0 where
   pub superblocks : length c'.superblocks.items ≡ length c.superblocks.items
   pub roots : c'.roots.items ≡ c.roots.items
 
-pub stands_after : (c c' : CoreState) (k : Setup) (views : List View) (i : ℕ) (v : View) (t t' : SeatNotes) (event : Event) → KeepsViews c k views → i < length views → get_or views i v ≡ v
+pub stands_after : (c c' : CoreState) (k : Setup) (views : List View) (i : ℕ) (v : View) (t t' : SeatNotes) (event : Event)
+    → KeepsViews c k views → i < length views → get_or views i v ≡ v
     → IsSeatAt c i t → MayStep (memory_in c k) v event
     → c'.words.items ≡ words_after k c.words.items v event → c'.seats.items ≡ set c.seats.items i t' → IsSameHeap c c'
     → IsKept c' i t' (seat_after (memory_in c k) v event)
@@ -70,12 +71,18 @@ stands_after c c' k views i v t t' event keeps below at at_t may words seats sam
     each = λ j s u below_j at_s at_u. elim (cases_eq j i) [
       | inl here ↦
           let at_w : w ≡ u = sym (get_or-set_same views i w u below) ∙ subst (λ n. get_or (set views i w) n u ≡ u) here at_u in
-          let at_t' : t' ≡ s = sym (get_or-set_same c.seats.items i t' s at_t.less) ∙ subst (λ n. get_or (set c.seats.items i t') n s ≡ s) here (subst (λ l. get_or l j s ≡ s) seats at_s.at) in
+          let at_t' : t' ≡ s = sym (get_or-set_same c.seats.items i t' s at_t.less)
+          ∙ subst (λ n. get_or (set c.seats.items i t') n s ≡ s) here (subst (λ l. get_or l j s ≡ s) seats at_s.at) in
           subst (λ n. IsKept c' n s u) (sym here) (subst (λ x. IsKept c' i x u) at_t' (subst (λ x. IsKept c' i t' x) at_w mine))
       | inr other ↦
           let less : j < length views = subst (λ n. j < n) (length-set views i w) below_j in
           let at_old : get_or views j u ≡ u = sym (get_or-set_other views i j w u other) ∙ at_u in
-          others j s u other (inl (less, at_old)) (keeps.each j s u less (record { less = subst (λ n. j < n) same_seats at_s.less; at = sym (get_or-set_other c.seats.items i j t' s other) ∙ subst (λ l. get_or l j s ≡ s) seats at_s.at }) at_old)
+          others j s u other (inl (less, at_old)) (keeps.each j s u less
+          (record {
+            less = subst (λ n. j < n) same_seats at_s.less;
+            at = sym (get_or-set_other c.seats.items i j t' s other)
+                ∙ subst (λ l. get_or l j s ≡ s) seats at_s.at;
+          }) at_old)
     ];
     carried = λ j u past below_j at_u.
         let other : j ≢ i = (λ same_j. let p = past in let n = same_seats in let l = at_t.less in omega arith) in
@@ -101,7 +108,8 @@ pub may_step : (m : Memory) (v : View) (event : Event) → v.stopped ≡ None �
 may_step m v event going ticket ready = record { going = ap one_if_some going; ticket = ticket; ready = ready }
 
 -- the step is done
-pub step_done : (c c' : CoreState) (k : Setup) (views : List View) (i : ℕ) (v : View) (t t' : SeatNotes) (event : Event) → KeepsViews c k views → i < length views → get_or views i v ≡ v
+pub step_done : (c c' : CoreState) (k : Setup) (views : List View) (i : ℕ) (v : View) (t t' : SeatNotes) (event : Event) → KeepsViews c k views
+    → i < length views → get_or views i v ≡ v
     → IsSeatAt c i t → v.stopped ≡ None → HasTicketFor v event → IsReadyFor (memory_in c k) v event → IsAsSeen (memory_in c k) v event
     → (seat_after (memory_in c k) v event).stopped ≡ None
     → c'.words.items ≡ words_after k c.words.items v event → c'.seats.items ≡ set c.seats.items i t' → IsSameHeap c c'
@@ -113,29 +121,43 @@ step_done c c' k views i v t t' event keeps below at at_t going ticket ready see
     steps_done (record { may = may; as_seen = seen }) on (stands_after c c' k views i v t t' event keeps below at at_t may words seats same mine others)
 
 -- the step may not be taken
-pub step_not : (c : CoreState) (k : Setup) (views : List View) (i : ℕ) (v : View) (event : Event) → (IsReadyFor (memory_in c k) v event → IsAsSeen (memory_in c k) v event → ⊥) → Steps c c k views i v event NotNow
+pub step_not : (c : CoreState) (k : Setup) (views : List View) (i : ℕ) (v : View) (event : Event)
+    → (IsReadyFor (memory_in c k) v event → IsAsSeen (memory_in c k) v event → ⊥) → Steps c c k views i v event NotNow
 step_not c k views i v event refused = steps_not (λ may. refused may.may.ready may.as_seen) refl
 
 -- a step that changes words, tickets and snapshots alone
-pub step_noted : (c : CoreState) (k : Setup) (views : List View) (i : ℕ) (v : View) (t t' : SeatNotes) (words : Vec ℕ Global) (event : Event) → KeepsViews c k views → i < length views → get_or views i v ≡ v
+pub step_noted : (c : CoreState) (k : Setup) (views : List View) (i : ℕ) (v : View) (t t' : SeatNotes) (words : Vec ℕ Global) (event : Event)
+    → KeepsViews c k views → i < length views → get_or views i v ≡ v
     → IsSeatAt c i t → v.stopped ≡ None → HasTicketFor v event → IsReadyFor (memory_in c k) v event → IsAsSeen (memory_in c k) v event
     → (seat_after (memory_in c k) v event).stopped ≡ None
     → words.items ≡ words_after k c.words.items v event
-    → HasNotes t' (seat_after (memory_in c k) v event) → t'.caches ≡ t.caches → t'.batch ≡ t.batch → parts (seat_after (memory_in c k) v event) ≡ parts v
+    → HasNotes t' (seat_after (memory_in c k) v event) → t'.caches ≡ t.caches → t'.batch ≡ t.batch
+    → parts (seat_after (memory_in c k) v event) ≡ parts v
     → Steps c (record c { words = words; seats = with_item c.seats i t' }) k views i v event Done
 step_noted c k views i v t t' words event keeps below at at_t going ticket ready seen on words_are notes caches batch same =
-    step_done c (record c { words = words; seats = with_item c.seats i t' }) k views i v t t' event keeps below at at_t going ticket ready seen on words_are refl
+    step_done c (record c { words = words; seats = with_item c.seats i t' })
+    k views i v t t' event keeps below at at_t going ticket ready seen on words_are refl
     (record { capacity = refl; budget = refl; carriers = refl; blocks = refl; superblocks = refl; roots = refl })
     (let old = keeps.each i t v below at_t at in record {
       notes = notes;
-      caches = subst (λ l. HasCaches l (seat_after (memory_in c k) v event).caches) (sym caches) (subst (λ (p : Parts). HasCaches t.caches p.caches) (sym same) old.caches);
-      batch = subst (λ b. HasBatch b (seat_after (memory_in c k) v event).batch) (sym batch) (subst (λ (p : Parts). HasBatch t.batch p.batch) (sym same) old.batch);
+      caches = subst (λ l. HasCaches l (seat_after (memory_in c k) v event).caches) (sym caches)
+          (subst (λ (p : Parts). HasCaches t.caches p.caches) (sym same) old.caches);
+      batch = subst (λ b. HasBatch b (seat_after (memory_in c k) v event).batch) (sym batch)
+          (subst (λ (p : Parts). HasBatch t.batch p.batch) (sym same) old.batch);
       blocks = subst (λ (p : Parts). HasBlocksOf c.blocks.items i p.small p.caches p.batch.blocks) (sym same) old.blocks;
       superblocks = subst (λ (p : Parts). HasSuperblocks c.superblocks.items i p.raw p.split p.cutting p.classed p.large) (sym same) old.superblocks;
       roots = subst (λ (p : Parts). HasRoots c.roots.items i p.roots) (sym same) old.roots;
     })
-    (λ j s u other most h. record { notes = h.notes; caches = h.caches; batch = h.batch; blocks = h.blocks; superblocks = h.superblocks; roots = h.roots })
+    (λ j s u other most h. record {
+      notes = h.notes;
+      caches = h.caches;
+      batch = h.batch;
+      blocks = h.blocks;
+      superblocks = h.superblocks;
+      roots = h.roots;
+    })
 
 -- the capacity of a seat is the core's
-pub seat_capacity : (c : CoreState) (k : Setup) (views : List View) (i : ℕ) (v : View) → KeepsViews c k views → i < length views → get_or views i v ≡ v → v.setup.capacity ≡ c.geometry.capacity
+pub seat_capacity : (c : CoreState) (k : Setup) (views : List View) (i : ℕ) (v : View) → KeepsViews c k views → i < length views
+    → get_or views i v ≡ v → v.setup.capacity ≡ c.geometry.capacity
 seat_capacity c k views i v keeps below at = ap (λ (s : Setup). s.capacity) (keeps.sound.good.set_up i v below at).setup ∙ keeps.capacity

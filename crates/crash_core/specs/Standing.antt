@@ -1,4 +1,5 @@
--- What the core keeps of a state: the words themselves; by seat its tickets and snapshots, and the ends of its caches and of its batch; and whose each block, superblock and root is.
+-- What the core keeps of a state: the words themselves; by seat its tickets and snapshots, and the ends of its caches
+-- and of its batch; and whose each block, superblock and root is.
 use Rattle.std.specs.Prelude.{◌≡◌, ◌≢◌, ◌⊎◌, ℕ, ◌+◌, ◌<◌, ◌≤◌, ◌↔◌, Bool, true, cond, nat_eq, List, [], get_or, set, length, Option, None, Some, ⊤}
 use Rattle.heap_model.specs.Counting.{times, total, one_if}
 use Rattle.heap_model.specs.Geometry.{roots, image_words}

@@ -31,11 +31,13 @@ crash_left c items heads final long capacity first second = record {
 }
 
 -- a chance that gave some numbers gives one more, and others
-gives_last : {C : Type 0} (gives : C → ℕ → C → Type 0) (numbers : List ℕ) (from before to : C) (number : ℕ) → GivesAll gives from numbers before → gives before number to → GivesAll gives from (numbers ++ (number ∷ [])) to
+gives_last : {C : Type 0} (gives : C → ℕ → C → Type 0) (numbers : List ℕ) (from before to : C) (number : ℕ) → GivesAll gives from numbers before
+    → gives before number to → GivesAll gives from (numbers ++ (number ∷ [])) to
 gives_last gives [] from before to number same one = (to, subst (λ c. gives c number to) (sym same) one, refl)
 gives_last gives (x ∷ xs) from before to number all one = (all.0, all.1, gives_last gives xs all.0 before to number all.2 one)
 
-gives_both : {C : Type 0} (gives : C → ℕ → C → Type 0) (xs ys : List ℕ) (from mid to : C) → GivesAll gives from xs mid → GivesAll gives mid ys to → GivesAll gives from (xs ++ ys) to
+gives_both : {C : Type 0} (gives : C → ℕ → C → Type 0) (xs ys : List ℕ) (from mid to : C) → GivesAll gives from xs mid
+    → GivesAll gives mid ys to → GivesAll gives from (xs ++ ys) to
 gives_both gives [] ys from mid to same rest = subst (λ c. GivesAll gives c ys to) (sym same) rest
 gives_both gives (x ∷ xs) ys from mid to all rest = (all.0, all.1, gives_both gives xs ys all.0 mid to all.2 rest)
 
@@ -46,7 +48,8 @@ heads_alike f g (suc n) same = map-append f (heads_below n) (head_word n ∷ [])
     ∙ ap₂ (λ xs ys. xs ++ ys) (heads_alike f g n (λ word less. same word (omega arith))) (ap (λ x. x ∷ []) (same (head_word n) (omega arith)))
     ∙ sym (map-append g (heads_below n) (head_word n ∷ []))
 
-descriptors_alike : (f g : ℕ → ℕ) (d : ℕ) → ((word : ℕ) → word < info_word d → f word ≡ g word) → map f (descriptors_below d) ≡ map g (descriptors_below d)
+descriptors_alike : (f g : ℕ → ℕ) (d : ℕ) → ((word : ℕ) → word < info_word d → f word ≡ g word)
+    → map f (descriptors_below d) ≡ map g (descriptors_below d)
 descriptors_alike f g zero same = refl
 descriptors_alike f g (suc d) same = map-append f (descriptors_below d) (anchor_word d ∷ link_word d ∷ [])
     ∙ ap₂ (λ xs ys. xs ++ ys) (descriptors_alike f g d (λ word less. same word (omega arith)))
@@ -54,13 +57,15 @@ descriptors_alike f g (suc d) same = map-append f (descriptors_below d) (anchor_
     ∙ sym (map-append g (descriptors_below d) (anchor_word d ∷ link_word d ∷ []))
 
 -- the next head, and the next anchor and link, get the next numbers
-pub head_drawn : {C : Type 0} (gives : C → ℕ → C → Type 0) (from before to : C) (items : List ℕ) (n next x : ℕ) → next ≡ suc n → head_word n < length items
+pub head_drawn : {C : Type 0} (gives : C → ℕ → C → Type 0) (from before to : C) (items : List ℕ) (n next x : ℕ) → next ≡ suc n
+    → head_word n < length items
     → GivesAll gives from (map (slice_index items) (heads_below n)) before → gives before x to
     → GivesAll gives from (map (slice_index (set items (head_word n) x)) (heads_below next)) to
 head_drawn gives from before to items n next x is less all one =
     subst (λ j. GivesAll gives from (map (slice_index (set items (head_word n) x)) (heads_below j)) to) (sym is)
     (subst (λ ns. GivesAll gives from ns to) (sym (map-append (slice_index (set items (head_word n) x)) (heads_below n) (head_word n ∷ [])
-    ∙ ap₂ (λ xs ys. xs ++ ys) (heads_alike (slice_index (set items (head_word n) x)) (slice_index items) n (λ word below. get_or-set_other items (head_word n) word x 0 (λ same. omega (arith, same))))
+    ∙ ap₂ (λ xs ys. xs ++ ys) (heads_alike (slice_index (set items (head_word n) x)) (slice_index items) n
+    (λ word below. get_or-set_other items (head_word n) word x 0 (λ same. omega (arith, same))))
     (ap (λ y. y ∷ []) (get_or-set_same items (head_word n) x 0 less))))
     (gives_last gives (map (slice_index items) (heads_below n)) from before to x all one))
 
@@ -69,8 +74,11 @@ two_drawn : {C : Type 0} (gives : C → ℕ → C → Type 0) (from before mid t
     → GivesAll gives from (map (slice_index (set (set items (anchor_word d) x) (link_word d) y)) (descriptors_below (suc d))) to
 two_drawn gives from before mid to items d x y less all one other =
     subst (λ ns. GivesAll gives from ns to) (sym (map-append (slice_index after) (descriptors_below d) (anchor_word d ∷ link_word d ∷ [])
-    ∙ ap₂ (λ xs ys. xs ++ ys) (descriptors_alike (slice_index after) (slice_index items) d (λ word below. get_or-set_other anchored (link_word d) word y 0 (λ same. omega (arith, same)) ∙ get_or-set_other items (anchor_word d) word x 0 (λ same. omega (arith, same))))
-    (ap₂ (λ a b. a ∷ b ∷ []) (get_or-set_other anchored (link_word d) (anchor_word d) y 0 (λ same. omega (arith, same)) ∙ get_or-set_same items (anchor_word d) x 0 (omega arith))
+    ∙ ap₂ (λ xs ys. xs ++ ys) (descriptors_alike (slice_index after) (slice_index items) d
+    (λ word below. get_or-set_other anchored (link_word d) word y 0 (λ same. omega (arith, same))
+    ∙ get_or-set_other items (anchor_word d) word x 0 (λ same. omega (arith, same))))
+    (ap₂ (λ a b. a ∷ b ∷ []) (get_or-set_other anchored (link_word d) (anchor_word d) y 0 (λ same. omega (arith, same))
+    ∙ get_or-set_same items (anchor_word d) x 0 (omega arith))
     (get_or-set_same anchored (link_word d) y 0 (let l = length-set items (anchor_word d) x in omega arith)))))
     (gives_both gives (map (slice_index items) (descriptors_below d)) (x ∷ y ∷ []) from before to all (mid, one, (to, other, refl))) where
       anchored : List ℕ
@@ -79,7 +87,8 @@ two_drawn gives from before mid to items d x y less all one other =
       after : List ℕ
       after = set anchored (link_word d) y
 
-pub descriptor_drawn : {C : Type 0} (gives : C → ℕ → C → Type 0) (from before mid to : C) (items : List ℕ) (d next a l x y : ℕ) → next ≡ suc d → a ≡ anchor_word d → l ≡ link_word d → l < length items
+pub descriptor_drawn : {C : Type 0} (gives : C → ℕ → C → Type 0) (from before mid to : C) (items : List ℕ) (d next a l x y : ℕ) → next ≡ suc d
+    → a ≡ anchor_word d → l ≡ link_word d → l < length items
     → GivesAll gives from (map (slice_index items) (descriptors_below d)) before → gives before x mid → gives mid y to
     → GivesAll gives from (map (slice_index (set (set items a x) l y)) (descriptors_below next)) to
 descriptor_drawn gives from before mid to items d next a l x y is at_a at_l less all one other =
@@ -91,9 +100,11 @@ descriptor_drawn gives from before mid to items d next a l x y is at_a at_l less
 -- both together
 pub all_drawn : {C : Type 0} (gives : C → ℕ → C → Type 0) (from mid to : C) (heads final : List ℕ) (capacity : ℕ)
     → ((word : ℕ) → word < fixed_words → slice_index final word ≡ slice_index heads word)
-    → GivesAll gives from (map (slice_index heads) (heads_below lists)) mid → GivesAll gives mid (map (slice_index final) (descriptors_below capacity)) to
+    → GivesAll gives from (map (slice_index heads) (heads_below lists)) mid
+    → GivesAll gives mid (map (slice_index final) (descriptors_below capacity)) to
     → GivesAll gives from (map (slice_index final) (transient_words capacity)) to
 all_drawn gives from mid to heads final capacity same first second =
     subst (λ ns. GivesAll gives from ns to) (sym (map-append (slice_index final) (heads_below lists) (descriptors_below capacity)))
     (gives_both gives (map (slice_index final) (heads_below lists)) (map (slice_index final) (descriptors_below capacity)) from mid to
-    (subst (λ ns. GivesAll gives from ns mid) (sym (heads_alike (slice_index final) (slice_index heads) lists (λ word below. same word (omega arith)))) first) second)
+    (subst (λ ns. GivesAll gives from ns mid) (sym (heads_alike (slice_index final) (slice_index heads) lists
+    (λ word below. same word (omega arith)))) first) second)

@@ -26,7 +26,8 @@ pub record SameNode (image other : Image) (b : Block) : Type 0 where
   pub key : key_in other b ≡ key_in image b
   pub value : value_in other b ≡ value_in image b
 
-pub node_same : (image other : Image) (shard bucket : ℕ) (b : Block) → ((word : ℕ) → b.first_word < word → word < b.first_word + b.words → other word ≡ image word)
+pub node_same : (image other : Image) (shard bucket : ℕ) (b : Block)
+    → ((word : ℕ) → b.first_word < word → word < b.first_word + b.words → other word ≡ image word)
     → IsNode image shard bucket b → IsNode other shard bucket b × SameNode image other b
 node_same image other shard bucket b same is =
     let fits = is.fits in
@@ -46,7 +47,8 @@ node_same image other shard bucket b same is =
     )
 
 -- a key is found in nodes of the same keys and values alike
-pub find_same : (image other : Image) (key : ℕ) (bs : List Block) → ((b : Block) → Contains bs b → SameNode image other b) → find other key bs ≡ find image key bs
+pub find_same : (image other : Image) (key : ℕ) (bs : List Block) → ((b : Block) → Contains bs b → SameNode image other b)
+    → find other key bs ≡ find image key bs
 find_same image other key [] same = refl
 find_same image other key (b ∷ bs) same =
     let first = same b (in_head b bs) in
@@ -71,15 +73,18 @@ none_of image key (b ∷ bs) other = find_behind image key b bs (other b (in_hea
 -- a key that is not in the first nodes is looked for in the others
 pub find_past : (image : Image) (key : ℕ) (xs ys : List Block) → find image key xs ≡ None → find image key (xs ++ ys) ≡ find image key ys
 find_past image key [] ys none = refl
-find_past image key (x ∷ xs) ys none = find_behind image key x (xs ++ ys) (not_first image key x xs none) ∙ find_past image key xs ys (not_behind image key x xs none)
+find_past image key (x ∷ xs) ys none = find_behind image key x (xs ++ ys) (not_first image key x xs none)
+    ∙ find_past image key xs ys (not_behind image key x xs none)
 
 -- one that is in neither part is in neither of both
-pub find_in_none : (image : Image) (key : ℕ) (xs ys : List Block) → find image key xs ≡ None → find image key ys ≡ None → find image key (xs ++ ys) ≡ None
+pub find_in_none : (image : Image) (key : ℕ) (xs ys : List Block) → find image key xs ≡ None → find image key ys ≡ None
+    → find image key (xs ++ ys) ≡ None
 find_in_none image key xs ys a b = find_past image key xs ys a ∙ b
 
 pub none_before : (image : Image) (key : ℕ) (xs ys : List Block) → find image key (xs ++ ys) ≡ None → find image key xs ≡ None
 none_before image key [] ys none = refl
-none_before image key (x ∷ xs) ys none = find_behind image key x xs (not_first image key x (xs ++ ys) none) ∙ none_before image key xs ys (not_behind image key x (xs ++ ys) none)
+none_before image key (x ∷ xs) ys none = find_behind image key x xs (not_first image key x (xs ++ ys) none)
+    ∙ none_before image key xs ys (not_behind image key x (xs ++ ys) none)
 
 pub none_after : (image : Image) (key : ℕ) (xs ys : List Block) → find image key (xs ++ ys) ≡ None → find image key ys ≡ None
 none_after image key [] ys none = none
@@ -93,14 +98,16 @@ behind_both at (x ∷ xs) ys = behind_both x.first_word xs ys
 -- it is the first link, or the last node's
 pub behind_is : (at : ℕ) (bs : List Block) → ((bs ≡ []) × (link_behind at bs ≡ at)) ⊎ ((b : Block) × Contains bs b × (link_behind at bs ≡ b.first_word))
 behind_is at [] = inl (refl, refl)
-behind_is at (b ∷ bs) = elim (behind_is b.first_word bs) as (λ _. (((b ∷ bs) ≡ []) × (link_behind at (b ∷ bs) ≡ at)) ⊎ ((c : Block) × Contains (b ∷ bs) c × (link_behind at (b ∷ bs) ≡ c.first_word))) [
-  | inl only ↦ inr (b, in_head b bs, only.1)
-  | inr last ↦ inr (last.0, in_rest b last.0 bs last.1, last.2)
-]
+behind_is at (b ∷ bs) = elim (behind_is b.first_word bs) as (λ _. (((b ∷ bs) ≡ []) × (link_behind at (b ∷ bs) ≡ at)) ⊎ ((c : Block)
+    × Contains (b ∷ bs) c × (link_behind at (b ∷ bs) ≡ c.first_word))) [
+      | inl only ↦ inr (b, in_head b bs, only.1)
+      | inr last ↦ inr (last.0, in_rest b last.0 bs last.1, last.2)
+    ]
 
 module _ (leads : Leading) (image : Image) (shard bucket : ℕ) where
   -- what is so of a node of a path
-  pub in_path : (at : ℕ) (bs : List Block) (b : Block) → IsPath leads image shard bucket at bs → Contains bs b → ((word : ℕ) × leads word b) × IsNode image shard bucket b
+  pub in_path : (at : ℕ) (bs : List Block) (b : Block) → IsPath leads image shard bucket at bs → Contains bs b → ((word : ℕ) × leads word b)
+      × IsNode image shard bucket b
   in_path at [] b path h = absurd (in_none b h)
   in_path at (c ∷ bs) b path h = elim (head_or_rest c b bs h) as (λ _. ((word : ℕ) × leads word b) × IsNode image shard bucket b) [
     | inl same ↦ subst (λ (x : Block). ((word : ℕ) × leads word x) × IsNode image shard bucket x) same ((image at, path.0), path.1)
@@ -112,12 +119,14 @@ module _ (leads : Leading) (image : Image) (shard bucket : ℕ) where
   path_left at [] ys path = tt
   path_left at (x ∷ xs) ys path = (path.0, path.1, none_before image (key_in image x) xs ys path.2, path_left x.first_word xs ys path.3)
 
-  pub path_right : (at : ℕ) (xs ys : List Block) → IsPath leads image shard bucket at (xs ++ ys) → IsPath leads image shard bucket (link_behind at xs) ys
+  pub path_right : (at : ℕ) (xs ys : List Block) → IsPath leads image shard bucket at (xs ++ ys)
+      → IsPath leads image shard bucket (link_behind at xs) ys
   path_right at [] ys path = path
   path_right at (x ∷ xs) ys path = path_right x.first_word xs ys path.3
 
   -- no key of the first part is in the second
-  pub path_cross : (at : ℕ) (xs ys : List Block) (b : Block) → IsPath leads image shard bucket at (xs ++ ys) → Contains xs b → find image (key_in image b) ys ≡ None
+  pub path_cross : (at : ℕ) (xs ys : List Block) (b : Block) → IsPath leads image shard bucket at (xs ++ ys) → Contains xs b
+      → find image (key_in image b) ys ≡ None
   path_cross at [] ys b path h = absurd (in_none b h)
   path_cross at (x ∷ xs) ys b path h = elim (head_or_rest x b xs h) as (λ _. find image (key_in image b) ys ≡ None) [
     | inl same ↦ subst (λ (c : Block). find image (key_in image c) ys ≡ None) same (none_after image (key_in image x) xs ys path.2)
@@ -136,7 +145,8 @@ module _ (leads : Leading) (image : Image) (shard bucket : ℕ) where
   )
 
   -- a node has its key alone
-  pub own_key : (at : ℕ) (bs : List Block) (b c : Block) → IsPath leads image shard bucket at bs → Contains bs b → Contains bs c → key_in image b ≡ key_in image c → b ≡ c
+  pub own_key : (at : ℕ) (bs : List Block) (b c : Block) → IsPath leads image shard bucket at bs → Contains bs b → Contains bs c
+      → key_in image b ≡ key_in image c → b ≡ c
   own_key at [] b c path h k same = absurd (in_none b h)
   own_key at (x ∷ bs) b c path h k same = elim (head_or_rest x b bs h) as (λ _. b ≡ c) [
     | inl is_b ↦ elim (head_or_rest x c bs k) as (λ _. b ≡ c) [
@@ -150,11 +160,13 @@ module _ (leads : Leading) (image : Image) (shard bucket : ℕ) where
   ]
 
   -- the value of a node's key
-  pub found_in : (at : ℕ) (bs : List Block) (b : Block) → IsPath leads image shard bucket at bs → Contains bs b → find image (key_in image b) bs ≡ Some (value_in image b)
+  pub found_in : (at : ℕ) (bs : List Block) (b : Block) → IsPath leads image shard bucket at bs → Contains bs b
+      → find image (key_in image b) bs ≡ Some (value_in image b)
   found_in at [] b path h = absurd (in_none b h)
   found_in at (x ∷ bs) b path h = elim (head_or_rest x b bs h) as (λ _. find image (key_in image b) (x ∷ bs) ≡ Some (value_in image b)) [
     | inl is ↦ subst (λ (c : Block). find image (key_in image c) (x ∷ bs) ≡ Some (value_in image c)) is (find_first image (key_in image x) x bs refl)
-    | inr rest ↦ find_behind image (key_in image b) x bs (λ e. not_of image (key_in image x) bs b path.2 rest (sym e)) ∙ found_in x.first_word bs b path.3 rest
+    | inr rest ↦ find_behind image (key_in image b) x bs (λ e. not_of image (key_in image x) bs b path.2 rest (sym e))
+        ∙ found_in x.first_word bs b path.3 rest
   ]
 
 -- links from `at` on that lead along the blocks, whatever these hold
@@ -163,7 +175,8 @@ Leads_along leads image at [] = Unit {0}
 Leads_along leads image at (b ∷ bs) = leads (image at) b × Leads_along leads image b.first_word bs
 
 -- a chain begins with the blocks along which its links lead
-pub extends : (leads limit : Leading) → LeadsOnce leads → ((word : ℕ) (b : Block) → limit word b → leads word b) → (image : Image) (shard bucket at : ℕ) (xs ys : List Block)
+pub extends : (leads limit : Leading) → LeadsOnce leads → ((word : ℕ) (b : Block) → limit word b → leads word b)
+    → (image : Image) (shard bucket at : ℕ) (xs ys : List Block)
     → Leads_along leads image at xs → IsBucketChain limit image shard bucket at ys → (zs : List Block) × (ys ≡ xs ++ zs)
 extends leads limit once into image shard bucket at [] ys along chain = (ys, refl)
 extends leads limit once into image shard bucket at (x ∷ xs) [] along chain = absurd (once.null x (subst (λ w. leads w x) chain.ends along.0))

@@ -17,19 +17,20 @@ pub record IsAmong (from count at to : ℕ) : Type 0 where
 
 among : (from : ℕ) (words : List ℕ) (at to : ℕ) → Contains (all_to_nodes from words) (at, to) → IsAmong from (length words) at to
 among from [] at to h = absurd (in_none (at, to) h)
-among from (w ∷ words) at to h = elim (head_or_rest (from, node_kind) (at, to) (all_to_nodes (from + 1) words) h) as (λ _. IsAmong from (length (w ∷ words)) at to) [
-  | inl same ↦
-      let first : from ≡ at = ap (λ (p : ℕ × ℕ). p.0) same in
-      let second : node_kind ≡ to = ap (λ (p : ℕ × ℕ). p.1) same in
-      let long : length (w ∷ words) ≡ suc (length words) = refl in
-      record { low = omega arith; high = omega arith; kind = sym second }
-  | inr rest ↦
-      let there = among (from + 1) words at to rest in
-      let low = there.low in
-      let high = there.high in
-      let long : length (w ∷ words) ≡ suc (length words) = refl in
-      record { low = omega arith; high = omega arith; kind = there.kind }
-]
+among from (w ∷ words) at to h = elim (head_or_rest (from, node_kind) (at, to) (all_to_nodes (from + 1) words) h) as
+    (λ _. IsAmong from (length (w ∷ words)) at to) [
+      | inl same ↦
+          let first : from ≡ at = ap (λ (p : ℕ × ℕ). p.0) same in
+          let second : node_kind ≡ to = ap (λ (p : ℕ × ℕ). p.1) same in
+          let long : length (w ∷ words) ≡ suc (length words) = refl in
+          record { low = omega arith; high = omega arith; kind = sym second }
+      | inr rest ↦
+          let there = among (from + 1) words at to rest in
+          let low = there.low in
+          let high = there.high in
+          let long : length (w ∷ words) ≡ suc (length words) = refl in
+          record { low = omega arith; high = omega arith; kind = there.kind }
+    ]
 
 first_among : (words : List ℕ) (at to : ℕ) → Contains (first_to_node words) (at, to) → (at ≡ 0) × (to ≡ node_kind) × (0 < length words)
 first_among [] at to h = absurd (in_none (at, to) h)
@@ -46,13 +47,15 @@ first_among (w ∷ words) at to h = elim (head_or_rest (0, node_kind) (at, to) [
 pub listed_link : (kind : ℕ) (words : List ℕ) (at to : ℕ) → Contains (dict_links kind words) (at, to) → IsLink kind (length words) at to
 listed_link kind words at to h = elim (cases_eq kind table_kind) as (λ _. IsLink kind (length words) at to) [
   | inl table ↦
-      let e = cond-true (nat_eq kind table_kind) (all_to_nodes 0 words) (cond (nat_eq kind node_kind) (first_to_node words) []) (eq-eqb kind table_kind table) in
+      let e = cond-true (nat_eq kind table_kind) (all_to_nodes 0 words) (cond (nat_eq kind node_kind) (first_to_node words) [])
+      (eq-eqb kind table_kind table) in
       let there = among 0 words at to (subst (λ (xs : List (ℕ × ℕ)). Contains xs (at, to)) e h) in
       let high = there.high in
       let is : IsLink table_kind (length words) at node_kind = in_table (length words) at (omega arith) in
       subst (λ k. IsLink k (length words) at to) (sym table) (subst (λ t. IsLink table_kind (length words) at t) (sym there.kind) is)
   | inr other ↦
-      let e = cond-false (nat_eq kind table_kind) (all_to_nodes 0 words) (cond (nat_eq kind node_kind) (first_to_node words) []) (ne_eqb kind table_kind other) in
+      let e = cond-false (nat_eq kind table_kind) (all_to_nodes 0 words) (cond (nat_eq kind node_kind) (first_to_node words) [])
+      (ne_eqb kind table_kind other) in
       let h2 = subst (λ (xs : List (ℕ × ℕ)). Contains xs (at, to)) e h in
       elim (cases_eq kind node_kind) as (λ _. IsLink kind (length words) at to) [
         | inl node ↦
@@ -60,7 +63,8 @@ listed_link kind words at to h = elim (cases_eq kind table_kind) as (λ _. IsLin
             let there = first_among words at to (subst (λ (xs : List (ℕ × ℕ)). Contains xs (at, to)) e2 h2) in
             let is : IsLink node_kind (length words) 0 node_kind = in_node (length words) there.2 in
             subst (λ k. IsLink k (length words) at to) (sym node)
-            (subst (λ t. IsLink node_kind (length words) at t) (sym there.1) (subst (λ a. IsLink node_kind (length words) a node_kind) (sym there.0) is))
+            (subst (λ t. IsLink node_kind (length words) at t) (sym there.1)
+            (subst (λ a. IsLink node_kind (length words) a node_kind) (sym there.0) is))
         | inr neither ↦
             let e2 = cond-false (nat_eq kind node_kind) (first_to_node words) [] (ne_eqb kind node_kind neither) in
             absurd (in_none (at, to) (subst (λ (xs : List (ℕ × ℕ)). Contains xs (at, to)) e2 h2))
@@ -68,7 +72,8 @@ listed_link kind words at to h = elim (cases_eq kind table_kind) as (λ _. IsLin
 ]
 
 -- and so is what it lists in a block of an image
-pub link_in_block : (image : Image) (a : Block) (from position kind : ℕ) → Contains (dict_links from (words_in image a)) (position, kind) → IsLink from a.words position kind
+pub link_in_block : (image : Image) (a : Block) (from position kind : ℕ) → Contains (dict_links from (words_in image a)) (position, kind)
+    → IsLink from a.words position kind
 link_in_block image a from position kind listed =
     subst (λ n. IsLink from n position kind) (length-words_from image a.first_word a.words) (listed_link from (words_in image a) position kind listed)
 

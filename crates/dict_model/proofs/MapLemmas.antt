@@ -17,8 +17,13 @@ use Rattle.dict_model.proofs.SpliceLemmas.{ArePlaced, path_same}
 pub path_wider : (leads wider : Leading) (image : Image) (shard k at : ℕ) (bs : List Block)
     → ((word : ℕ) (b : Block) → Contains bs b → leads word b → wider word b) → IsPath leads image shard k at bs → IsPath wider image shard k at bs
 path_wider leads wider image shard k at [] more path = tt
-path_wider leads wider image shard k at (b ∷ bs) more path =
-    (more (image at) b (in_head b bs) path.0, path.1, path.2, path_wider leads wider image shard k b.first_word bs (λ word c h. more word c (in_rest b c bs h)) path.3)
+path_wider leads wider image shard k at (b ∷ bs) more path = (
+  more (image at) b (in_head b bs) path.0,
+  path.1,
+  path.2,
+  path_wider leads wider image shard k b.first_word bs
+      (λ word c h. more word c (in_rest b c bs h)) path.3,
+)
 
 -- a block that the map stands on: its table, or a node of a chain
 pub data IsUsed (leads : Leading) (image : Image) (shard : ℕ) (b : Block) : Type 0 where
@@ -39,17 +44,22 @@ map_wider leads wider image shard map more (has_table table nodes there chains m
     })
     means
 
-module _ (held : Block → Type 0) (placed : ArePlaced held) (limit : Leading) (into : (word : ℕ) (b : Block) → limit word b → held b) (image other : Image) (shard : ℕ)
+module _ (held : Block → Type 0) (placed : ArePlaced held) (limit : Leading) (into : (word : ℕ) (b : Block) → limit word b → held b)
+    (image other : Image) (shard : ℕ)
     (root : other (root_word shard) ≡ image (root_word shard)) (alike : (b : Block) → held b → (word : ℕ) → IsIn b word → other word ≡ image word) where
-  module _ (table : Block) (nodes : ℕ → List Block) (there : HasTable limit image shard table) (chains : HasChains limit image shard table buckets nodes) where
+  module _ (table : Block) (nodes : ℕ → List Block) (there : HasTable limit image shard table)
+      (chains : HasChains limit image shard table buckets nodes) where
     held_node : (k : ℕ) (b : Block) → k < buckets → Contains (nodes k) b → held b
     held_node k b below h =
         let found = in_path (but table limit) image shard k (table.first_word + k) (nodes k) b (chains k below).path h in into found.0.0 b found.0.1.0
 
-    chain_same : (k : ℕ) → k < buckets → IsBucketChain (but table limit) other shard k (table.first_word + k) (nodes k) × ((b : Block) → Contains (nodes k) b → SameNode image other b)
+    chain_same : (k : ℕ) → k < buckets → IsBucketChain (but table limit) other shard k (table.first_word + k) (nodes k)
+        × ((b : Block) → Contains (nodes k) b → SameNode image other b)
     chain_same k below =
-        let link = alike table (into (image (root_word shard)) table there.leads_there) (table.first_word + k) (record { from = omega arith; until = omega (arith, there.size) }) in
-        let same = path_same held placed (but table limit) (λ word b leads. into word b leads.0) image other shard k (table.first_word + k) (table.first_word + k) (nodes k) link
+        let link = alike table (into (image (root_word shard)) table there.leads_there) (table.first_word + k)
+        (record { from = omega arith; until = omega (arith, there.size) }) in
+        let same = path_same held placed (but table limit) (λ word b leads. into word b leads.0) image other shard k (table.first_word + k)
+        (table.first_word + k) (nodes k) link
         (λ c h. alike c (held_node k c below h)) (chains k below).path in
         (record { path = same.0; ends = same.2 ∙ (chains k below).ends }, same.1)
 
@@ -66,7 +76,8 @@ module _ (held : Block → Type 0) (placed : ArePlaced held) (limit : Leading) (
       (λ k below. (chain_same table nodes there chains k below).0) (λ key. means key ∙ sym (map_same table nodes there chains key))
 
 -- a table of null links is an empty map
-pub table_made : (leads : Leading) (image : Image) (shard : ℕ) (table : Block) (map : Map) → leads (image (root_word shard)) table → table.words ≡ buckets
+pub table_made : (leads : Leading) (image : Image) (shard : ℕ) (table : Block) (map : Map) → leads (image (root_word shard)) table
+    → table.words ≡ buckets
     → ((k : ℕ) → k < buckets → image (table.first_word + k) ≡ 0) → ((key : ℕ) → map key ≡ None) → IsMap leads image shard map
 table_made leads image shard table map leads_there size zeros none = has_table table (λ k. []) (record { leads_there = leads_there; size = size })
     (λ k below. record { path = tt; ends = zeros k below })

@@ -16,7 +16,8 @@ pub find_first : (image : Image) (key : ℕ) (b : Block) (bs : List Block) → k
 find_first image key b bs is = cond-true (nat_eq (key_in image b) key) (Some (value_in image b)) (find image key bs) (eq-eqb (key_in image b) key is)
 
 pub find_behind : (image : Image) (key : ℕ) (b : Block) (bs : List Block) → key_in image b ≢ key → find image key (b ∷ bs) ≡ find image key bs
-find_behind image key b bs other = cond-false (nat_eq (key_in image b) key) (Some (value_in image b)) (find image key bs) (ne_eqb (key_in image b) key other)
+find_behind image key b bs other = cond-false (nat_eq (key_in image b) key) (Some (value_in image b)) (find image key bs)
+    (ne_eqb (key_in image b) key other)
 
 -- a key that no node has isn't the first one's, and no node behind has it
 pub not_first : (image : Image) (key : ℕ) (b : Block) (bs : List Block) → find image key (b ∷ bs) ≡ None → key_in image b ≢ key
@@ -37,11 +38,22 @@ module _ (leads : Leading) (once : LeadsOnce leads) (image : Image) (shard bucke
   compare : (at : ℕ) (bs ys : List Block) → IsPath leads image shard bucket at bs → IsPath leads image shard bucket at ys
       → (bs ≡ ys) ⊎ (Follows at bs ys ⊎ Follows at ys bs)
   compare at [] [] p q = inl refl
-  compare at [] (y ∷ ys) p q = inr (inl (record { next = y; leads_there = q.0; is_next = record { node = q.1; new = refl }; own = λ key none. not_first image key y ys none }))
-  compare at (b ∷ bs) [] p q = inr (inr (record { next = b; leads_there = p.0; is_next = record { node = p.1; new = refl }; own = λ key none. not_first image key b bs none }))
+  compare at [] (y ∷ ys) p q = inr (inl (record {
+    next = y;
+    leads_there = q.0;
+    is_next = record { node = q.1; new = refl };
+    own = λ key none. not_first image key y ys none;
+  }))
+  compare at (b ∷ bs) [] p q = inr (inr (record {
+    next = b;
+    leads_there = p.0;
+    is_next = record { node = p.1; new = refl };
+    own = λ key none. not_first image key b bs none;
+  }))
   compare at (b ∷ bs) (y ∷ ys) p q =
       let same : b ≡ y = once.one (image at) b y p.0 q.0 in
-      let rest : IsPath leads image shard bucket b.first_word ys = subst (λ (x : Block). IsPath leads image shard bucket x.first_word ys) (sym same) q.3 in
+      let rest : IsPath leads image shard bucket b.first_word ys = subst (λ (x : Block). IsPath leads image shard bucket x.first_word ys)
+      (sym same) q.3 in
       let own_b = p.2 in
       let own_y : find image (key_in image b) ys ≡ None = subst (λ (x : Block). find image (key_in image x) ys ≡ None) (sym same) q.2 in
       elim (compare b.first_word bs ys p.3 rest) as (λ _. ((b ∷ bs) ≡ (y ∷ ys)) ⊎ (Follows at (b ∷ bs) (y ∷ ys) ⊎ Follows at (y ∷ ys) (b ∷ bs))) [
@@ -51,7 +63,8 @@ module _ (leads : Leading) (once : LeadsOnce leads) (image : Image) (shard bucke
           | inr f ↦ inr (inr (subst (λ (x : Block). Follows at (x ∷ ys) (b ∷ bs)) same (further b b ys bs refl own_b f)))
         ]
       ] where
-        further : (b y : Block) (bs ys : List Block) → b ≡ y → find image (key_in image b) ys ≡ None → Follows b.first_word bs ys → Follows at (b ∷ bs) (y ∷ ys)
+        further : (b y : Block) (bs ys : List Block) → b ≡ y → find image (key_in image b) ys ≡ None → Follows b.first_word bs ys
+            → Follows at (b ∷ bs) (y ∷ ys)
         further b y bs ys same none f = record {
           next = f.next;
           leads_there = f.leads_there;
@@ -107,15 +120,18 @@ module _ (leads : Leading) (once : LeadsOnce leads) (image : Image) (shard : ℕ
   one_table a b p q = once.one (image (root_word shard)) a b p.leads_there q.leads_there
 
   -- chains of one table
-  moved : (a b : Block) (limit : ℕ) (nodes : ℕ → List Block) → a ≡ b → HasChains leads image shard a limit nodes → HasChains leads image shard b limit nodes
+  moved : (a b : Block) (limit : ℕ) (nodes : ℕ → List Block) → a ≡ b → HasChains leads image shard a limit nodes
+      → HasChains leads image shard b limit nodes
   moved a b limit nodes same chains = subst (λ (t : Block). HasChains leads image shard t limit nodes) same chains
 
-  same_maps : (table : Block) (nodes others : ℕ → List Block) → HasChains leads image shard table buckets nodes → HasChains leads image shard table buckets others
+  same_maps : (table : Block) (nodes others : ℕ → List Block) → HasChains leads image shard table buckets nodes
+      → HasChains leads image shard table buckets others
       → (key : ℕ) → map_of image shard nodes key ≡ map_of image shard others key
   same_maps table nodes others p q key =
       let below : bucket_of key < buckets = mod-lt (key / 8) (omega arith) in
       let same : nodes (bucket_of key) ≡ others (bucket_of key) =
-      one_chain (but table leads) (but_once leads table once) image shard (bucket_of key) (table.first_word + bucket_of key) (nodes (bucket_of key)) (others (bucket_of key))
+      one_chain (but table leads) (but_once leads table once) image shard (bucket_of key) (table.first_word + bucket_of key)
+      (nodes (bucket_of key)) (others (bucket_of key))
       (p (bucket_of key) below) (q (bucket_of key) below) in
       ap (λ (bs : List Block). cond (nat_eq (shard_of key) shard) (find image key bs) None) same
 
@@ -125,7 +141,8 @@ module _ (leads : Leading) (once : LeadsOnce leads) (image : Image) (shard : ℕ
   one_map a b (is_empty null none) (has_table table nodes there chains means) key = absurd (not_empty table there null)
   one_map a b (has_table table nodes there chains means) (is_empty null none) key = absurd (not_empty table there null)
   one_map a b (has_table table nodes there chains means) (has_table table' nodes' there' chains' means') key =
-      means key ∙ same_maps table nodes nodes' chains (moved table' table buckets nodes' (one_table table' table there' there) chains') key ∙ sym (means' key)
+      means key ∙ same_maps table nodes nodes' chains (moved table' table buckets nodes' (one_table table' table there' there) chains') key
+      ∙ sym (means' key)
 
   no_chain_at : (table : Block) (k : ℕ) (before ys : List Block) → IsPath (but table leads) image shard k (table.first_word + k) before
       → LeadsAstray (but table leads) (IsNext image shard k before) (image (link_behind (table.first_word + k) before))
@@ -143,8 +160,10 @@ module _ (leads : Leading) (once : LeadsOnce leads) (image : Image) (shard : ℕ
 
   -- of two bad places in one bucket of one table, and of two in different ones
   one_in_bucket : (table : Block) (k at at' : ℕ) (before before' : List Block) → IsPath (but table leads) image shard k (table.first_word + k) before
-      → IsPath (but table leads) image shard k (table.first_word + k) before' → at ≡ link_behind (table.first_word + k) before → at' ≡ link_behind (table.first_word + k) before'
-      → LeadsAstray (but table leads) (IsNext image shard k before) (image at) → LeadsAstray (but table leads) (IsNext image shard k before') (image at') → at ≡ at'
+      → IsPath (but table leads) image shard k (table.first_word + k) before' → at ≡ link_behind (table.first_word + k) before
+      → at' ≡ link_behind (table.first_word + k) before'
+      → LeadsAstray (but table leads) (IsNext image shard k before) (image at)
+      → LeadsAstray (but table leads) (IsNext image shard k before') (image at') → at ≡ at'
   one_in_bucket table k at at' before before' path path' is is' astray astray' =
       is ∙ ap (link_behind (table.first_word + k))
       (one_astray (but table leads) (but_once leads table once) image shard k (table.first_word + k) before before' path path'
@@ -156,24 +175,31 @@ module _ (leads : Leading) (once : LeadsOnce leads) (image : Image) (shard : ℕ
       → k < buckets → k' < buckets → HasChains leads image shard table k nodes → HasChains leads image shard table k' nodes'
       → IsPath (but table leads) image shard k (table.first_word + k) before → IsPath (but table leads) image shard k' (table.first_word + k') before'
       → at ≡ link_behind (table.first_word + k) before → at' ≡ link_behind (table.first_word + k') before'
-      → LeadsAstray (but table leads) (IsNext image shard k before) (image at) → LeadsAstray (but table leads) (IsNext image shard k' before') (image at') → at ≡ at'
+      → LeadsAstray (but table leads) (IsNext image shard k before) (image at)
+      → LeadsAstray (but table leads) (IsNext image shard k' before') (image at') → at ≡ at'
   one_of_table table nodes nodes' k k' at at' before before' below below' chains chains' path path' is is' astray astray' =
       elim (cases_order k k') as (λ _. at ≡ at') [
-        | inl same ↦ one_in_bucket table k at at' before before' path (subst (λ j. IsPath (but table leads) image shard j (table.first_word + j) before') (sym same) path') is
+        | inl same ↦ one_in_bucket table k at at' before before' path
+            (subst (λ j. IsPath (but table leads) image shard j (table.first_word + j) before') (sym same) path') is
             (subst (λ j. at' ≡ link_behind (table.first_word + j) before') (sym same) is') astray
             (subst (λ j. LeadsAstray (but table leads) (IsNext image shard j before') (image at')) (sym same) astray')
         | inr two ↦ elim two as (λ _. at ≡ at') [
-          | inl less ↦ absurd (no_chain_at table k before (nodes' k) path (subst (λ w. LeadsAstray (but table leads) (IsNext image shard k before) (image w)) is astray) (chains' k less))
-          | inr more ↦ absurd (no_chain_at table k' before' (nodes k') path' (subst (λ w. LeadsAstray (but table leads) (IsNext image shard k' before') (image w)) is' astray') (chains k' more))
+          | inl less ↦ absurd (no_chain_at table k before (nodes' k) path
+              (subst (λ w. LeadsAstray (but table leads) (IsNext image shard k before) (image w)) is astray) (chains' k less))
+          | inr more ↦ absurd (no_chain_at table k' before' (nodes k') path'
+              (subst (λ w. LeadsAstray (but table leads) (IsNext image shard k' before') (image w)) is' astray') (chains k' more))
         ]
       ]
 
   -- a shard has one first bad place
   pub one_bad_place : (at at' : ℕ) → IsBadAt leads image shard at → IsBadAt leads image shard at' → at ≡ at'
   one_bad_place _ _ (at_root astray) (at_root astray') = refl
-  one_bad_place _ at' (at_root astray) (at_link table nodes k _ before there below chains path is astray') = absurd (astray.nowhere table there.leads_there there.size)
-  one_bad_place at _ (at_link table nodes k _ before there below chains path is astray') (at_root astray) = absurd (astray.nowhere table there.leads_there there.size)
-  one_bad_place at at' (at_link table nodes k _ before there below chains path is astray) (at_link table' nodes' k' _ before' there' below' chains' path' is' astray') =
+  one_bad_place _ at' (at_root astray) (at_link table nodes k _ before there below chains path is astray') =
+      absurd (astray.nowhere table there.leads_there there.size)
+  one_bad_place at _ (at_link table nodes k _ before there below chains path is astray') (at_root astray) =
+      absurd (astray.nowhere table there.leads_there there.size)
+  one_bad_place at at' (at_link table nodes k _ before there below chains path is astray)
+      (at_link table' nodes' k' _ before' there' below' chains' path' is' astray') =
       let same = one_table table' table there' there in
       one_of_table table nodes nodes' k k' at at' before before' below below' chains (moved table' table k' nodes' same chains') path
       (subst (λ (t : Block). IsPath (but t leads) image shard k' (t.first_word + k') before') same path') is
@@ -185,7 +211,10 @@ pub leads_once : (image : Image) → LeadsOnce (Leads image)
 leads_once image = record { one = one_block image; null = λ b leads. not_null 0 (8 * b.first_word) leads.pointer refl }
 
 pub alone_once : (image : Image) (shard : ℕ) → LeadsOnce (LeadsAlone image shard)
-alone_once image shard = record { one = λ word a b p q. one_block image word a b p.0 q.0; null = λ b leads. not_null 0 (8 * b.first_word) leads.0.pointer refl }
+alone_once image shard = record {
+  one = λ word a b p q. one_block image word a b p.0 q.0;
+  null = λ b leads. not_null 0 (8 * b.first_word) leads.0.pointer refl;
+}
 
 -- a shard has one map, or one first bad place, and not both
 pub one_map_of : (image : Image) (shard : ℕ) (a b : Map) → MapOf image shard a → MapOf image shard b → (key : ℕ) → a key ≡ b key

@@ -47,31 +47,38 @@ module _ (held : Block → Type 0) (placed : ArePlaced held) where
   }
 
   -- a path whose nodes have the same words, hung behind another link
-  pub path_same : (limit : Leading) → ((word : ℕ) (b : Block) → limit word b → held b) → (image other : Image) (shard k at to : ℕ) (bs : List Block) → other to ≡ image at
+  pub path_same : (limit : Leading) → ((word : ℕ) (b : Block) → limit word b → held b)
+      → (image other : Image) (shard k at to : ℕ) (bs : List Block) → other to ≡ image at
       → ((c : Block) → Contains bs c → (word : ℕ) → IsIn c word → other word ≡ image word) → IsPath limit image shard k at bs
-      → IsPath limit other shard k to bs × ((b : Block) → Contains bs b → SameNode image other b) × (other (link_behind to bs) ≡ image (link_behind at bs))
+      → IsPath limit other shard k to bs × ((b : Block) → Contains bs b → SameNode image other b)
+      × (other (link_behind to bs) ≡ image (link_behind at bs))
   path_same limit into image other shard k at to [] same alike path = (tt, (λ b h. absurd (in_none b h)), same)
   path_same limit into image other shard k at to (b ∷ bs) same alike path =
       let hb = into (image at) b path.0 in
       let node = node_same image other shard k b (λ word low high. alike b (in_head b bs) word (record { from = omega arith; until = high })) path.1 in
       let link : other b.first_word ≡ image b.first_word = alike b (in_head b bs) b.first_word (first_in b hb) in
       let rest = path_same limit into image other shard k b.first_word b.first_word bs link (λ c h. alike c (in_rest b c bs h)) path.3 in
-      let none : find other (key_in other b) bs ≡ None = ap (λ n. find other n bs) node.1.key ∙ find_same image other (key_in image b) bs rest.1 ∙ path.2 in (
+      let none : find other (key_in other b) bs ≡ None = ap (λ n. find other n bs) node.1.key ∙ find_same image other (key_in image b) bs rest.1
+      ∙ path.2 in (
         (subst (λ w. limit w b) (sym same) path.0, node.0, none, rest.0),
-        (λ c h. elim (head_or_rest b c bs h) as (λ _. SameNode image other c) [ inl e ↦ subst (λ (x : Block). SameNode image other x) e node.1 | inr r ↦ rest.1 c r ]),
+        (λ c h. elim (head_or_rest b c bs h) as (λ _. SameNode image other c)
+            [ inl e ↦ subst (λ (x : Block). SameNode image other x) e node.1 | inr r ↦ rest.1 c r ]),
         rest.2,
       )
 
-  module _ (limit : Leading) (into : (word : ℕ) (b : Block) → limit word b → held b) (image other : Image) (p shard k : ℕ) (but_p : SameBut p image other) where
+  module _ (limit : Leading) (into : (word : ℕ) (b : Block) → limit word b → held b) (image other : Image) (p shard k : ℕ)
+      (but_p : SameBut p image other) where
     held_in_path : (at : ℕ) (bs : List Block) (b : Block) → IsPath limit image shard k at bs → Contains bs b → held b
     held_in_path at bs b path h = let found = in_path limit image shard k at bs b path h in into found.0.0 b found.0.1
 
     -- a node with the word p in no body
-    node_kept : (b : Block) → IsNode image shard k b → ((word : ℕ) → b.first_word < word → word < b.first_word + b.words → word ≢ p) → IsNode other shard k b × SameNode image other b
+    node_kept : (b : Block) → IsNode image shard k b → ((word : ℕ) → b.first_word < word → word < b.first_word + b.words → word ≢ p)
+        → IsNode other shard k b × SameNode image other b
     node_kept b is free = node_same image other shard k b (λ word low high. but_p.each word (free word low high)) is
 
     -- a path whose last link is the one that changes
-    pub path_kept : (at : ℕ) (bs : List Block) → p ≡ link_behind at bs → ((c : Block) → Contains bs c → at ≢ c.first_word) → IsPath limit image shard k at bs
+    pub path_kept : (at : ℕ) (bs : List Block) → p ≡ link_behind at bs → ((c : Block) → Contains bs c → at ≢ c.first_word)
+        → IsPath limit image shard k at bs
         → IsPath limit other shard k at bs × ((b : Block) → Contains bs b → SameNode image other b)
     path_kept at [] is apart path = (tt, λ b h. absurd (in_none b h))
     path_kept at (b ∷ bs) is apart path =
@@ -85,21 +92,28 @@ module _ (held : Block → Type 0) (placed : ArePlaced held) where
         let start : at ≢ p = λ e. apart last.0 last.1 (e ∙ last.2) in
         let node = node_kept b path.1 (λ word low high e.
         let at_last : word ≡ last.0.first_word = e ∙ last.2 in
-        let same = one_holder b last.0 word hb hl (record { from = omega arith; until = high }) (record { from = omega arith; until = omega (arith, placed.some last.0 hl) }) in
+        let same = one_holder b last.0 word hb hl (record { from = omega arith; until = high })
+        (record { from = omega arith; until = omega (arith, placed.some last.0 hl) }) in
         let first : b.first_word ≡ last.0.first_word = ap (λ (x : Block). x.first_word) same in omega arith) in
         let rest = path_kept b.first_word bs is (λ c h e. not_of image (key_in image b) bs c path.2 h (sym (ap (λ w. image (w + 1)) e))) path.3 in
-        let none : find other (key_in other b) bs ≡ None = ap (λ n. find other n bs) node.1.key ∙ find_same image other (key_in image b) bs rest.1 ∙ path.2 in (
+        let none : find other (key_in other b) bs ≡ None = ap (λ n. find other n bs) node.1.key
+        ∙ find_same image other (key_in image b) bs rest.1 ∙ path.2 in (
           (subst (λ w. limit w b) (sym (but_p.each at start)) path.0, node.0, none, rest.0),
-          λ c h. elim (head_or_rest b c bs h) as (λ _. SameNode image other c) [ inl e ↦ subst (λ (x : Block). SameNode image other x) e node.1 | inr r ↦ rest.1 c r ],
+          λ c h. elim (head_or_rest b c bs h) as (λ _. SameNode image other c)
+              [ inl e ↦ subst (λ (x : Block). SameNode image other x) e node.1 | inr r ↦ rest.1 c r ],
         )
 
     -- a path apart from that link, hung behind another one
-    pub path_moved : (at to : ℕ) (bs : List Block) → other to ≡ image at → ((c : Block) → Contains bs c → IsIn c p → ⊥) → IsPath limit image shard k at bs
-        → IsPath limit other shard k to bs × ((b : Block) → Contains bs b → SameNode image other b) × (other (link_behind to bs) ≡ image (link_behind at bs))
-    path_moved at to bs same free path = path_same limit into image other shard k at to bs same (λ c h word inside. but_p.each word (λ e. free c h (subst (IsIn c) e inside))) path
+    pub path_moved : (at to : ℕ) (bs : List Block) → other to ≡ image at → ((c : Block) → Contains bs c → IsIn c p → ⊥)
+        → IsPath limit image shard k at bs
+        → IsPath limit other shard k to bs × ((b : Block) → Contains bs b → SameNode image other b)
+        × (other (link_behind to bs) ≡ image (link_behind at bs))
+    path_moved at to bs same free path = path_same limit into image other shard k at to bs same
+        (λ c h word inside. but_p.each word (λ e. free c h (subst (IsIn c) e inside))) path
 
 -- a key that none of the nodes between has
-pub find_without : (image : Image) (key : ℕ) (xs ds ys : List Block) → find image key ds ≡ None → find image key (xs ++ (ds ++ ys)) ≡ find image key (xs ++ ys)
+pub find_without : (image : Image) (key : ℕ) (xs ds ys : List Block) → find image key ds ≡ None
+    → find image key (xs ++ (ds ++ ys)) ≡ find image key (xs ++ ys)
 find_without image key [] ds ys none = find_past image key ds ys none
 find_without image key (x ∷ xs) ds ys none =
     ap (λ f. cond (nat_eq (key_in image x) key) (Some (value_in image x)) f) (find_without image key xs ds ys none)
@@ -110,18 +124,21 @@ module _ (image other : Image) (key : ℕ) (new : Option (List ℕ)) (before dro
     (dropped : (b : Block) → Contains drop b → key_in image b ≡ key) (added : (b : Block) → Contains put b → key_in other b ≡ key)
     (value : find other key (put ++ rest) ≡ new) where
   found_alike : (q : ℕ) → find other q (before ++ (put ++ rest)) ≡ cond (nat_eq key q) new (find image q (before ++ (drop ++ rest)))
-  found_alike q = elim (cases_eq key q) as (λ _. find other q (before ++ (put ++ rest)) ≡ cond (nat_eq key q) new (find image q (before ++ (drop ++ rest)))) [
-    | inl is ↦
-        let before_same = find_same image other key before (λ b h. same b (Contains-append_left before rest b h)) in
-        let there : find other key (before ++ (put ++ rest)) ≡ new = find_past other key before (put ++ rest) (before_same ∙ none_before image key before rest none) ∙ value in
-        subst (λ k. find other k (before ++ (put ++ rest)) ≡ new) is there
-        ∙ sym (cond-true (nat_eq key q) new (find image q (before ++ (drop ++ rest))) (eq-eqb key q is))
-    | inr differs ↦
-        let no_put = none_of other q put (λ b h e. differs (sym (added b h) ∙ e)) in
-        let no_drop = none_of image q drop (λ b h e. differs (sym (dropped b h) ∙ e)) in
-        find_without other q before put rest no_put ∙ find_same image other q (before ++ rest) same ∙ sym (find_without image q before drop rest no_drop)
-        ∙ sym (cond-false (nat_eq key q) new (find image q (before ++ (drop ++ rest))) (ne_eqb key q differs))
-  ]
+  found_alike q = elim (cases_eq key q) as (λ _. find other q (before ++ (put ++ rest)) ≡ cond (nat_eq key q) new
+      (find image q (before ++ (drop ++ rest)))) [
+        | inl is ↦
+            let before_same = find_same image other key before (λ b h. same b (Contains-append_left before rest b h)) in
+            let there : find other key (before ++ (put ++ rest)) ≡ new = find_past other key before (put ++ rest) (before_same
+            ∙ none_before image key before rest none) ∙ value in
+            subst (λ k. find other k (before ++ (put ++ rest)) ≡ new) is there
+            ∙ sym (cond-true (nat_eq key q) new (find image q (before ++ (drop ++ rest))) (eq-eqb key q is))
+        | inr differs ↦
+            let no_put = none_of other q put (λ b h e. differs (sym (added b h) ∙ e)) in
+            let no_drop = none_of image q drop (λ b h e. differs (sym (dropped b h) ∙ e)) in
+            find_without other q before put rest no_put ∙ find_same image other q (before ++ rest) same
+            ∙ sym (find_without image q before drop rest no_drop)
+            ∙ sym (cond-false (nat_eq key q) new (find image q (before ++ (drop ++ rest))) (ne_eqb key q differs))
+      ]
 
 -- the chains with another one in bucket k
 abbrev pub chains_with : (ℕ → List Block) → ℕ → List Block → ℕ → List Block
@@ -133,8 +150,10 @@ with_same nodes k bs = cond-true (nat_eq k k) bs (nodes k) (eq-eqb k k refl)
 pub with_other : (nodes : ℕ → List Block) (k : ℕ) (bs : List Block) (j : ℕ) → j ≢ k → chains_with nodes k bs j ≡ nodes j
 with_other nodes k bs j other = cond-false (nat_eq j k) bs (nodes j) (ne_eqb j k other)
 
-module _ (held : Block → Type 0) (placed : ArePlaced held) (image other : Image) (p shard k : ℕ) (small : shard < shards) (but_p : SameBut p image other) (table : Block)
-    (nodes : ℕ → List Block) (before drop rest put : List Block) (there : HasTable (LeadsTo held) image shard table) (chains : HasChains (LeadsTo held) image shard table buckets nodes)
+module _ (held : Block → Type 0) (placed : ArePlaced held) (image other : Image) (p shard k : ℕ) (small : shard < shards)
+    (but_p : SameBut p image other) (table : Block)
+    (nodes : ℕ → List Block) (before drop rest put : List Block) (there : HasTable (LeadsTo held) image shard table)
+    (chains : HasChains (LeadsTo held) image shard table buckets nodes)
     (below : k < buckets) (is : nodes k ≡ before ++ (drop ++ rest)) (at : p ≡ link_behind (table.first_word + k) before) where
   ahead : Leading
   ahead = but table (LeadsTo held)
@@ -164,10 +183,11 @@ module _ (held : Block → Type 0) (placed : ArePlaced held) (image other : Imag
 
   -- the changed link is in the table, or it is the last of the nodes before
   holder : ((before ≡ []) × (p ≡ table.first_word + k)) ⊎ ((b : Block) × Contains before b × (p ≡ b.first_word))
-  holder = elim (behind_is (table.first_word + k) before) as (λ _. ((before ≡ []) × (p ≡ table.first_word + k)) ⊎ ((b : Block) × Contains before b × (p ≡ b.first_word))) [
-    | inl only ↦ inl (only.0, at ∙ only.1)
-    | inr last ↦ inr (last.0, last.1, at ∙ last.2)
-  ]
+  holder = elim (behind_is (table.first_word + k) before) as (λ _. ((before ≡ []) × (p ≡ table.first_word + k)) ⊎ ((b : Block)
+      × Contains before b × (p ≡ b.first_word))) [
+        | inl only ↦ inl (only.0, at ∙ only.1)
+        | inr last ↦ inr (last.0, last.1, at ∙ last.2)
+      ]
 
   -- it is in no node but that
   free : (j : ℕ) (c : Block) → j < buckets → Contains (nodes j) c → ((b : Block) → Contains before b → c ≢ b) → IsIn c p → ⊥
@@ -177,7 +197,8 @@ module _ (held : Block → Type 0) (placed : ArePlaced held) (image other : Imag
         | inl first ↦ c_is.1 (one_holder held placed c table p c_is.0 table_held inside (subst (IsIn table) (sym first.1) (in_table k below)))
         | inr last ↦
             let l_is = node_facts k last.0 below (in_k last.0 (Contains-append_left before (drop ++ rest) last.0 last.1)) in
-            differs last.0 last.1 (one_holder held placed c last.0 p c_is.0 l_is.0 inside (subst (IsIn last.0) (sym last.2) (first_in held placed last.0 l_is.0)))
+            differs last.0 last.1 (one_holder held placed c last.0 p c_is.0 l_is.0 inside
+            (subst (IsIn last.0) (sym last.2) (first_in held placed last.0 l_is.0)))
       ]
 
   -- nor in another bucket
@@ -193,12 +214,19 @@ module _ (held : Block → Type 0) (placed : ArePlaced held) (image other : Imag
   free_behind c h =
       let later = Contains-append_right drop rest c h in
       free k c below (in_k c (Contains-append_right before (drop ++ rest) c later)) (λ b hb same.
-      not_of image (key_in image b) (drop ++ rest) c (path_cross ahead image shard k (table.first_word + k) before (drop ++ rest) b chain_k.path hb) later (ap (key_in image) same))
+      not_of image (key_in image b) (drop ++ rest) c (path_cross ahead image shard k (table.first_word + k) before
+      (drop ++ rest) b chain_k.path hb) later (ap (key_in image) same))
 
   root_stays : other (root_word shard) ≡ image (root_word shard)
   root_stays = but_p.each (root_word shard) (λ e. elim holder as (λ _. ⊥) [
     | inl first ↦ omega (arith, placed.behind table table_held, first.1, small)
-    | inr last ↦ omega (arith, placed.behind last.0 (node_facts k last.0 below (in_k last.0 (Contains-append_left before (drop ++ rest) last.0 last.1))).0, last.2, small)
+    | inr last ↦ omega (
+      arith,
+      placed.behind last.0 (node_facts k last.0 below
+          (in_k last.0 (Contains-append_left before (drop ++ rest) last.0 last.1))).0,
+      last.2,
+      small,
+    )
   ])
 
   there_still : HasTable (LeadsTo held) other shard table
@@ -209,22 +237,26 @@ module _ (held : Block → Type 0) (placed : ArePlaced held) (image other : Imag
   before_stays = path_kept held placed ahead into image other p shard k but_p (table.first_word + k) before at
       (λ c h e.
       let c_is = node_facts k c below (in_k c (Contains-append_left before (drop ++ rest) c h)) in
-      c_is.1 (one_holder held placed c table (table.first_word + k) c_is.0 table_held (subst (IsIn c) (sym e) (first_in held placed c c_is.0)) (in_table k below)))
+      c_is.1 (one_holder held placed c table (table.first_word + k) c_is.0 table_held (subst (IsIn c) (sym e) (first_in held placed c c_is.0))
+      (in_table k below)))
       (path_left ahead image shard k (table.first_word + k) before (drop ++ rest) chain_k.path)
 
   -- and of those behind, wherever they are hung
   rest_stays : (to : ℕ) → other to ≡ image (link_behind p drop)
       → IsBucketChain ahead other shard k to rest × ((b : Block) → Contains rest b → SameNode image other b)
   rest_stays to same =
-      let path_p : IsPath ahead image shard k p (drop ++ rest) = subst (λ w. IsPath ahead image shard k w (drop ++ rest)) (sym at) (path_right ahead image shard k (table.first_word + k) before (drop ++ rest) chain_k.path) in
+      let path_p : IsPath ahead image shard k p (drop ++ rest) = subst (λ w. IsPath ahead image shard k w (drop ++ rest)) (sym at)
+      (path_right ahead image shard k (table.first_word + k) before (drop ++ rest) chain_k.path) in
       let path = path_right ahead image shard k p drop rest path_p in
       let moved = path_moved held placed ahead into image other p shard k but_p (link_behind p drop) to rest same free_behind path in
       let ends : image (link_behind (link_behind p drop) rest) ≡ 0 =
-      ap image (sym (behind_both p drop rest)) ∙ ap (λ w. image (link_behind w (drop ++ rest))) at ∙ ap image (sym (behind_both (table.first_word + k) before (drop ++ rest))) ∙ chain_k.ends in
+      ap image (sym (behind_both p drop rest)) ∙ ap (λ w. image (link_behind w (drop ++ rest))) at
+      ∙ ap image (sym (behind_both (table.first_word + k) before (drop ++ rest))) ∙ chain_k.ends in
       (record { path = moved.0; ends = moved.2 ∙ ends }, moved.1)
 
   -- the chains of the other buckets
-  others_stay : (j : ℕ) → j < buckets → j ≢ k → IsBucketChain ahead other shard j (table.first_word + j) (nodes j) × ((b : Block) → Contains (nodes j) b → SameNode image other b)
+  others_stay : (j : ℕ) → j < buckets → j ≢ k → IsBucketChain ahead other shard j (table.first_word + j) (nodes j)
+      × ((b : Block) → Contains (nodes j) b → SameNode image other b)
   unfolding ahead
   others_stay j less differs =
       let link : other (table.first_word + j) ≡ image (table.first_word + j) = but_p.each (table.first_word + j) (λ e.
@@ -232,15 +264,18 @@ module _ (held : Block → Type 0) (placed : ArePlaced held) (image other : Imag
         | inl first ↦ differs (omega (arith, first.1, e))
         | inr last ↦
             let l_is = node_facts k last.0 below (in_k last.0 (Contains-append_left before (drop ++ rest) last.0 last.1)) in
-            l_is.1 (one_holder held placed last.0 table (table.first_word + j) l_is.0 table_held (subst (IsIn last.0) (sym (e ∙ last.2)) (first_in held placed last.0 l_is.0)) (in_table j less))
+            l_is.1 (one_holder held placed last.0 table (table.first_word + j) l_is.0 table_held
+            (subst (IsIn last.0) (sym (e ∙ last.2)) (first_in held placed last.0 l_is.0)) (in_table j less))
       ]) in
-      let moved = path_moved held placed ahead into image other p shard j but_p (table.first_word + j) (table.first_word + j) (nodes j) link (λ c h. free_elsewhere j c less differs h) (chains j less).path in
+      let moved = path_moved held placed ahead into image other p shard j but_p (table.first_word + j) (table.first_word + j) (nodes j) link
+      (λ c h. free_elsewhere j c less differs h) (chains j less).path in
       (record { path = moved.0; ends = moved.2 ∙ (chains j less).ends }, moved.1)
 
   -- with another chain behind the link, and another value for one key
   module _ (hung : IsBucketChain ahead other shard k p (put ++ rest)) (same_rest : (b : Block) → Contains rest b → SameNode image other b)
       (key : ℕ) (new : Option (List ℕ)) (in_shard : shard_of key ≡ shard) (in_bucket : bucket_of key ≡ k)
-      (none : find image key (before ++ rest) ≡ None) (dropped : (b : Block) → Contains drop b → key_in image b ≡ key) (added : (b : Block) → Contains put b → key_in other b ≡ key)
+      (none : find image key (before ++ rest) ≡ None) (dropped : (b : Block) → Contains drop b → key_in image b ≡ key) (added : (b : Block)
+      → Contains put b → key_in other b ≡ key)
       (value : find other key (put ++ rest) ≡ new) where
     kept : (b : Block) → Contains (before ++ rest) b → SameNode image other b
     kept b h = elim (Contains-append_cases before rest b h) as (λ _. SameNode image other b) [
@@ -267,11 +302,15 @@ module _ (held : Block → Type 0) (placed : ArePlaced held) (image other : Imag
 
     spliced_chains : HasChains (LeadsTo held) other shard table buckets spliced_nodes
     unfolding spliced_nodes ahead
-    spliced_chains j less = elim (cases_eq j k) as (λ _. IsBucketChain (but table (LeadsTo held)) other shard j (table.first_word + j) (chains_with nodes k (before ++ (put ++ rest)) j)) [
-      | inl same ↦ subst (λ i. IsBucketChain (but table (LeadsTo held)) other shard i (table.first_word + i) (chains_with nodes k (before ++ (put ++ rest)) i)) (sym same)
-          (subst (λ (bs : List Block). IsBucketChain (but table (LeadsTo held)) other shard k (table.first_word + k) bs) (sym (with_same nodes k (before ++ (put ++ rest)))) spliced_chain)
-      | inr differs ↦ subst (λ (bs : List Block). IsBucketChain (but table (LeadsTo held)) other shard j (table.first_word + j) bs) (sym (with_other nodes k (before ++ (put ++ rest)) j differs)) (others_stay j less differs).0
-    ]
+    spliced_chains j less = elim (cases_eq j k) as (λ _. IsBucketChain (but table (LeadsTo held)) other shard j (table.first_word + j)
+        (chains_with nodes k (before ++ (put ++ rest)) j)) [
+          | inl same ↦ subst (λ i. IsBucketChain (but table (LeadsTo held)) other shard i (table.first_word + i)
+              (chains_with nodes k (before ++ (put ++ rest)) i)) (sym same)
+              (subst (λ (bs : List Block). IsBucketChain (but table (LeadsTo held)) other shard k (table.first_word + k) bs)
+              (sym (with_same nodes k (before ++ (put ++ rest)))) spliced_chain)
+          | inr differs ↦ subst (λ (bs : List Block). IsBucketChain (but table (LeadsTo held)) other shard j (table.first_word + j) bs)
+              (sym (with_other nodes k (before ++ (put ++ rest)) j differs)) (others_stay j less differs).0
+        ]
 
     in_bucket_k : (q : ℕ) → bucket_of q ≡ k → find other q (spliced_nodes (bucket_of q)) ≡ cond (nat_eq key q) new (find image q (nodes (bucket_of q)))
     unfolding spliced_nodes
@@ -290,18 +329,23 @@ module _ (held : Block → Type 0) (placed : ArePlaced held) (image other : Imag
         ∙ sym (cond-false (nat_eq key q) new (find image q (nodes (bucket_of q))) (ne_eqb key q (λ e. differs (ap bucket_of (sym e) ∙ in_bucket))))
 
     -- the map has the new value for the key
-    spliced_means : (map : Map) → ((q : ℕ) → map q ≡ map_of image shard nodes q) → (q : ℕ) → cond (nat_eq key q) new (map q) ≡ map_of other shard spliced_nodes q
+    spliced_means : (map : Map) → ((q : ℕ) → map q ≡ map_of image shard nodes q) → (q : ℕ)
+        → cond (nat_eq key q) new (map q) ≡ map_of other shard spliced_nodes q
     spliced_means map means q = elim (cases_eq (shard_of q) shard) as (λ _. cond (nat_eq key q) new (map q) ≡ map_of other shard spliced_nodes q) [
       | inl same ↦
-          let was : map q ≡ find image q (nodes (bucket_of q)) = means q ∙ cond-true (nat_eq (shard_of q) shard) (find image q (nodes (bucket_of q))) None (eq-eqb (shard_of q) shard same) in
+          let was : map q ≡ find image q (nodes (bucket_of q)) = means q
+          ∙ cond-true (nat_eq (shard_of q) shard) (find image q (nodes (bucket_of q))) None (eq-eqb (shard_of q) shard same) in
           let now : find other q (spliced_nodes (bucket_of q)) ≡ cond (nat_eq key q) new (find image q (nodes (bucket_of q))) =
-          elim (cases_eq (bucket_of q) k) as (λ _. find other q (spliced_nodes (bucket_of q)) ≡ cond (nat_eq key q) new (find image q (nodes (bucket_of q)))) [
+          elim (cases_eq (bucket_of q) k) as (λ _. find other q (spliced_nodes (bucket_of q)) ≡ cond (nat_eq key q) new
+          (find image q (nodes (bucket_of q)))) [
             | inl one ↦ in_bucket_k q one
             | inr differs ↦ in_bucket_j q differs
           ] in
-          ap (λ f. cond (nat_eq key q) new f) was ∙ sym now ∙ sym (cond-true (nat_eq (shard_of q) shard) (find other q (spliced_nodes (bucket_of q))) None (eq-eqb (shard_of q) shard same))
+          ap (λ f. cond (nat_eq key q) new f) was ∙ sym now ∙ sym (cond-true (nat_eq (shard_of q) shard)
+          (find other q (spliced_nodes (bucket_of q))) None (eq-eqb (shard_of q) shard same))
       | inr differs ↦
-          let was : map q ≡ None = means q ∙ cond-false (nat_eq (shard_of q) shard) (find image q (nodes (bucket_of q))) None (ne_eqb (shard_of q) shard differs) in
+          let was : map q ≡ None = means q ∙ cond-false (nat_eq (shard_of q) shard) (find image q (nodes (bucket_of q))) None
+          (ne_eqb (shard_of q) shard differs) in
           cond-false (nat_eq key q) new (map q) (ne_eqb key q (λ e. differs (ap shard_of (sym e) ∙ in_shard)))
           ∙ was ∙ sym (cond-false (nat_eq (shard_of q) shard) (find other q (spliced_nodes (bucket_of q))) None (ne_eqb (shard_of q) shard differs))
     ]
@@ -310,7 +354,8 @@ module _ (held : Block → Type 0) (placed : ArePlaced held) (image other : Imag
     spliced map means = has_table table spliced_nodes there_still spliced_chains (spliced_means map means)
 
   -- a node put into the chain, in place of what is dropped
-  pub put_node : (n : Block) (key : ℕ) (value : List ℕ) → held n → n ≢ table → LeadsTo held (other p) n → other n.first_word ≡ image (link_behind p drop)
+  pub put_node : (n : Block) (key : ℕ) (value : List ℕ) → held n → n ≢ table → LeadsTo held (other p) n
+      → other n.first_word ≡ image (link_behind p drop)
       → IsNode other shard k n → key_in other n ≡ key → value_in other n ≡ value → put ≡ n ∷ []
       → find image key (before ++ rest) ≡ None → ((b : Block) → Contains drop b → key_in image b ≡ key)
       → (map : Map) → ((q : ℕ) → map q ≡ map_of image shard nodes q) → IsMap (LeadsTo held) other shard (λ q. cond (nat_eq key q) (Some value) (map q))
@@ -319,20 +364,23 @@ module _ (held : Block → Type 0) (placed : ArePlaced held) (image other : Imag
       let behind = rest_stays n.first_word linked in
       let fresh : find other (key_in other n) rest ≡ None =
       ap (λ q. find other q rest) key_is ∙ find_same image other key rest behind.1 ∙ none_after image key before rest none in
-      let hung : IsBucketChain (but table (LeadsTo held)) other shard k p (n ∷ rest) = record { path = ((leads, n_other), is_node, fresh, behind.0.path); ends = behind.0.ends } in
+      let hung : IsBucketChain (but table (LeadsTo held)) other shard k p (n ∷ rest) =
+      record { path = ((leads, n_other), is_node, fresh, behind.0.path); ends = behind.0.ends } in
       let value_there : find other key (n ∷ rest) ≡ Some value = find_first other key n rest key_is ∙ ap (λ v. Some v) value_is in
       let mine = λ (b : Block) (h : Contains put b).
       elim (head_or_rest n b [] (subst (λ (bs : List Block). Contains bs b) put_is h)) as (λ _. key_in other b ≡ key) [
         | inl e ↦ ap (key_in other) (sym e) ∙ key_is
         | inr none_left ↦ absurd (in_none b none_left)
       ] in
-      spliced (subst (λ (bs : List Block). IsBucketChain (but table (LeadsTo held)) other shard k p (bs ++ rest)) (sym put_is) hung) behind.1 key (Some value)
+      spliced (subst (λ (bs : List Block). IsBucketChain (but table (LeadsTo held)) other shard k p (bs ++ rest)) (sym put_is) hung)
+      behind.1 key (Some value)
       (ap shard_of (sym key_is) ∙ is_node.in_shard) (ap bucket_of (sym key_is) ∙ is_node.in_bucket) none dropped mine
       (subst (λ (bs : List Block). find other key (bs ++ rest) ≡ Some value) (sym put_is) value_there) map means
 
   -- a node taken out of the chain
   pub take_node : (b : Block) → other p ≡ image b.first_word → drop ≡ b ∷ [] → put ≡ []
-      → (map : Map) → ((q : ℕ) → map q ≡ map_of image shard nodes q) → IsMap (LeadsTo held) other shard (λ q. cond (nat_eq (key_in image b) q) None (map q))
+      → (map : Map) → ((q : ℕ) → map q ≡ map_of image shard nodes q)
+      → IsMap (LeadsTo held) other shard (λ q. cond (nat_eq (key_in image b) q) None (map q))
   unfolding ahead
   take_node b linked drop_is put_is map means =
       let behind = rest_stays p (linked ∙ ap (λ (bs : List Block). image (link_behind p bs)) (sym drop_is)) in
@@ -341,9 +389,11 @@ module _ (held : Block → Type 0) (placed : ArePlaced held) (image other : Imag
       let b_is = node_facts k b below (in_k b in_all) in
       let none_behind : find image (key_in image b) rest ≡ None =
       path_cross (but table (LeadsTo held)) image shard k p drop rest b
-      (subst (λ w. IsPath (but table (LeadsTo held)) image shard k w (drop ++ rest)) (sym at) (path_right (but table (LeadsTo held)) image shard k (table.first_word + k) before (drop ++ rest) chain_k.path)) in_drop in
+      (subst (λ w. IsPath (but table (LeadsTo held)) image shard k w (drop ++ rest)) (sym at)
+      (path_right (but table (LeadsTo held)) image shard k (table.first_word + k) before (drop ++ rest) chain_k.path)) in_drop in
       let none_ahead : find image (key_in image b) before ≡ None = none_of image (key_in image b) before (λ c h e.
-      not_of image (key_in image c) (drop ++ rest) b (path_cross (but table (LeadsTo held)) image shard k (table.first_word + k) before (drop ++ rest) c chain_k.path h)
+      not_of image (key_in image c) (drop ++ rest) b (path_cross (but table (LeadsTo held)) image shard k (table.first_word + k) before
+      (drop ++ rest) c chain_k.path h)
       (Contains-append_left drop rest b in_drop) (sym e)) in
       let none = find_in_none image (key_in image b) before rest none_ahead none_behind in
       let dropped = λ (c : Block) (h : Contains drop c).
@@ -351,6 +401,8 @@ module _ (held : Block → Type 0) (placed : ArePlaced held) (image other : Imag
         | inl e ↦ ap (key_in image) (sym e)
         | inr none_left ↦ absurd (in_none c none_left)
       ] in
-      spliced (subst (λ (bs : List Block). IsBucketChain (but table (LeadsTo held)) other shard k p (bs ++ rest)) (sym put_is) behind.0) behind.1 (key_in image b) None
+      spliced (subst (λ (bs : List Block). IsBucketChain (but table (LeadsTo held)) other shard k p (bs ++ rest)) (sym put_is) behind.0)
+      behind.1 (key_in image b) None
       b_is.2.in_shard b_is.2.in_bucket none dropped (λ c h. absurd (in_none c (subst (λ (bs : List Block). Contains bs c) put_is h)))
-      (subst (λ (bs : List Block). find other (key_in image b) (bs ++ rest) ≡ None) (sym put_is) (find_same image other (key_in image b) rest behind.1 ∙ none_behind)) map means
+      (subst (λ (bs : List Block). find other (key_in image b) (bs ++ rest) ≡ None) (sym put_is)
+      (find_same image other (key_in image b) rest behind.1 ∙ none_behind)) map means

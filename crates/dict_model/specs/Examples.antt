@@ -24,7 +24,8 @@ to_table = 0x52500000000021c0
 abbrev pub to_node : ℕ
 to_node = 0x52500000000121c0
 
--- Two superblocks, cut into blocks of 128 words and of four: what root 0 holds, what word 1080 holds, and these words besides. Word 17464 has the kind of root 0.
+-- Two superblocks, cut into blocks of 128 words and of four: what root 0 holds, what word 1080 holds, and these words
+-- besides. Word 17464 has the kind of root 0.
 unfoldable pub shard_with : ℕ → ℕ → List (ℕ × ℕ) → Image
 shard_with root first words = formatted 2 ((8, 2) ∷ (1064, 12) ∷ (1072, 2) ∷ (40, root) ∷ (1080, first) ∷ (17464, 1) ∷ words)
 
@@ -249,7 +250,8 @@ null_word root first words w null behind a b c d e =
     elsewhere (put (put (put (image_with all) 3 1) 2 2) 1 2) 0 magic w (λ e. omega arith) e8
 
 -- so no other root leads anywhere
-alone : (root first : ℕ) (b : Block) (kind : ℕ) → ReachFrom (shard_with root first []) (λ i. i ≢ 0) (kinds_of (shard_with root first [])) dict_links b kind → ⊥
+alone : (root first : ℕ) (b : Block) (kind : ℕ) → ReachFrom (shard_with root first []) (λ i. i ≢ 0)
+    (kinds_of (shard_with root first [])) dict_links b kind → ⊥
 alone root first = closure_least (λ b kind. ⊥)
     (λ b kind start.
     not_null (shard_with root first [] (root_word start.root)) (8 * b.first_word) start.leads.pointer

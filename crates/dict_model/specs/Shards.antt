@@ -1,4 +1,5 @@
--- The shards of an image, each a finite map: a root leads to a table, and each word of the table to a chain of nodes. Where a shard is no map, its first bad place.
+-- The shards of an image, each a finite map: a root leads to a table, and each word of the table to a chain of nodes.
+-- Where a shard is no map, its first bad place.
 use Rattle.std.specs.Prelude.{◌≡◌, ◌≢◌, ℕ, ◌+◌, ◌*◌, ◌<◌, List, [], ◌∷◌, Option, None, cond, nat_eq}
 use Rattle.heap_model.specs.declared.block.Block.{Block}
 use Rattle.heap_model.specs.Geometry.{root_word, kind_word}
@@ -77,7 +78,8 @@ pub record IsNext (image : Image) (shard bucket : ℕ) (before : List Block) (b 
   pub node : IsNode image shard bucket b
   pub new : find image (key_in image b) before ≡ None
 
--- the shard of the image is no map, and this is the first link that leads astray: the root, or one behind good nodes of a bucket before which each bucket has its chain
+-- the shard of the image is no map, and this is the first link that leads astray: the root, or one behind good nodes of
+-- a bucket before which each bucket has its chain
 pub data IsBadAt (leads : Leading) (image : Image) (shard : ℕ) : ℕ → Type 0 where
   at_root : LeadsAstray leads (λ b. b.words ≡ buckets) (image (root_word shard)) → IsBadAt leads image shard (root_word shard)
   at_link : (table : Block) (nodes : ℕ → List Block) (k at : ℕ) (before : List Block) → HasTable leads image shard table

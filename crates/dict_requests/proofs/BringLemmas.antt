@@ -33,7 +33,8 @@ use Rattle.dict_requests.proofs.OverLemmas.{taken_made, over_left, old_still, ov
 abbrev KeepsValue : Block → View → View → Type 0
 KeepsValue n v w = (word : ℕ) → IsIn n word → (IsIn (head_of n) word → ⊥) → KeepsWord v w word
 
-module _ (v t : View) (seat_v : IsSeat v) (seat_t : IsSeat t) (key : ℕ) (n : Block) (shard : IsShard v (shard_of key)) (loose : IsLoose n v) (room : 3 ≤ n.words) (keeps : KeepsOwn v t) (kinds_t : t.kinds ≡ v.kinds) where
+module _ (v t : View) (seat_v : IsSeat v) (seat_t : IsSeat t) (key : ℕ) (n : Block) (shard : IsShard v (shard_of key)) (loose : IsLoose n v)
+    (room : 3 ≤ n.words) (keeps : KeepsOwn v t) (kinds_t : t.kinds ≡ v.kinds) where
   bare : IsShard (without n v) (shard_of key)
   bare = less_shard n v seat_v loose.held loose.unreached shard.only (shard_of key) shard
 
@@ -49,7 +50,8 @@ module _ (v t : View) (seat_v : IsSeat v) (seat_t : IsSeat t) (key : ℕ) (n : B
   bare_keeps : KeepsOwn (without n v) (without n t)
   bare_keeps = less_keeps n v seat_v loose.held t keeps
 
-  left : (after : Map → Map) (w : View) → MayChange (shard_of key) after (without n v) w → Contains w.held n → KeepsValue n v w → MayBring n (shard_of key) after v w
+  left : (after : Map → Map) (w : View) → MayChange (shard_of key) after (without n v) w → Contains w.held n → KeepsValue n v w
+      → MayBring n (shard_of key) after v w
   left after w = bring_left n v seat_v loose.held loose.unreached shard.only (shard_of key) after w shard
 
   done : (after : Map → Map) (w : View) → Changes (shard_of key) after (without n v) w → Changes (shard_of key) after v w
@@ -77,10 +79,12 @@ module _ (v t : View) (seat_v : IsSeat v) (seat_t : IsSeat t) (key : ℕ) (n : B
     -- and so over a store to a word that isn't the block's
     value_w : (at x : ℕ) (w : View) → (IsIn n at → ⊥) → MayHaveStored at x u w → KeepsValue n v w
     value_w at x w apart may word inside behind =
-        keeps_word_then v u w word (value_u word inside behind) (may.others word (in_block n word held_u inside) (λ same. apart (subst (IsIn n) same inside)))
+        keeps_word_then v u w word (value_u word inside behind) (may.others word (in_block n word held_u inside)
+        (λ same. apart (subst (IsIn n) same inside)))
 
     pub head_left : (after : Map → Map) → MayBring n (shard_of key) after v u
-    head_left after = left after u (change_none (shard_of key) after (without n v) u (grown_then (without n v) (without n t) u (grown_keeps (without n v) (without n t) bare_keeps) grown_u) (kinds_u ∙ kinds_t) seat_u bare.only)
+    head_left after = left after u (change_none (shard_of key) after (without n v) u
+        (grown_then (without n v) (without n t) u (grown_keeps (without n v) (without n t) bare_keeps) grown_u) (kinds_u ∙ kinds_t) seat_u bare.only)
         held_u value_u
 
     module _ (next : ℕ) (writes : WritesHead n key next t u) (value : List ℕ) (node : IsNodeOf v n value) where
@@ -89,7 +93,8 @@ module _ (v t : View) (seat_v : IsSeat v) (seat_t : IsSeat t) (key : ℕ) (n : B
           (node_kept v t n value (λ word inside behind. keeps.words word (in_block n word loose.held inside)) node) writes
 
       -- a key that wasn't there
-      module _ (table : Block) (missing : IsMissing v key table) (follows : FollowsLink (table.first_word + bucket_of key) next v t) (w : View) (x : ℕ) (points : x ≡ pointer_to n)
+      module _ (table : Block) (missing : IsMissing v key table) (follows : FollowsLink (table.first_word + bucket_of key) next v t) (w : View)
+          (x : ℕ) (points : x ≡ pointer_to n)
           (may : MayHaveStored (table.first_word + bucket_of key) x u w) (kinds_w : w.kinds ≡ u.kinds) where
         missing' : IsMissing (without n v) key table
         missing' = less_missing n v seat_v loose.held loose.unreached shard.only key shard.kind_is table shard missing
@@ -104,21 +109,25 @@ module _ (v t : View) (seat_v : IsSeat v) (seat_t : IsSeat t) (key : ℕ) (n : B
 
         pub first_brought : MayBring n (shard_of key) (λ map. with_key map key value) v w
         first_brought = left (λ map. with_key map key value) w
-            (first_left (without n v) (without n t) u w (less_seat n t seat_t held_t) seat_u key next x value table n bare missing' (less_seat n v seat_v loose.held) bare_keeps follows' grown_u has points may kinds_t kinds_u kinds_w)
+            (first_left (without n v) (without n t) u w (less_seat n t seat_t held_t) seat_u key next x value table n bare missing'
+            (less_seat n v seat_v loose.held) bare_keeps follows' grown_u has points may kinds_t kinds_u kinds_w)
             (stays_held u w may.held n held_u) (value_w (table.first_word + bucket_of key) x w bucket_apart may)
 
         pub first_is_done : IsDurableAt w (table.first_word + bucket_of key) x → Changes (shard_of key) (λ map. with_key map key value) v w
         first_is_done settled = done (λ map. with_key map key value) w
-            (first_done (without n v) (without n t) u w (less_seat n t seat_t held_t) seat_u key next x value table n bare missing' (less_seat n v seat_v loose.held) bare_keeps follows' grown_u has points may kinds_t kinds_u kinds_w settled)
+            (first_done (without n v) (without n t) u w (less_seat n t seat_t held_t) seat_u key next x value table n bare missing'
+            (less_seat n v seat_v loose.held) bare_keeps follows' grown_u has points may kinds_t kinds_u kinds_w settled)
 
         pub first_reaches : IsSeat w → IsDurableAt w (table.first_word + bucket_of key) x → ReachesAllHeldBut n v → ReachesAllHeld w
         first_reaches seat_w settled all =
-            all_first (without n v) (without n t) u w (less_seat n t seat_t held_t) seat_u key next x value table n bare missing' (less_seat n v seat_v loose.held) bare_keeps follows' grown_u has points may kinds_t kinds_u kinds_w seat_w settled
+            all_first (without n v) (without n t) u w (less_seat n t seat_t held_t) seat_u key next x value table n bare missing'
+            (less_seat n v seat_v loose.held) bare_keeps follows' grown_u has points may kinds_t kinds_u kinds_w seat_w settled
             (less_all n v seat_v loose.held loose.unreached shard.only all)
 
       -- a key whose node it replaces
       module _ (place : Place) (taken : IsReadPlace IsSettling t key place next) where
-        made : (ready : IsReadPlace IsDurableAt u key place next) × Contains (without n t).held ready.table × IsOwn (without n t).held t.roots (word_of place.link) × Contains (without n t).held place.node
+        made : (ready : IsReadPlace IsDurableAt u key place next) × Contains (without n t).held ready.table
+            × IsOwn (without n t).held t.roots (word_of place.link) × Contains (without n t).held place.node
         made = taken_made (without n t) u key next place (less_seat n t seat_t held_t) grown_u
             (λ word y own settling. settles (without n t) u word y own (grown_u.words word own) has.settles settling)
             (less_place n t seat_t held_t unreached_t only_t key (kind_kept v t (shard_of key) kinds_t ∙ shard.kind_is) place next taken)
@@ -132,15 +141,20 @@ module _ (v t : View) (seat_v : IsSeat v) (seat_t : IsSeat t) (key : ℕ) (n : B
 
           pub over_brought : MayBring n (shard_of key) (λ map. with_key map key value) v w
           over_brought = left (λ map. with_key map key value) w
-              (over_left (without n v) (without n t) u w (less_seat n t seat_t held_t) seat_u key next x value place n bare bare_keeps made.0 made.1 made.2 made.3 grown_u has points may kinds_t kinds_u kinds_w)
+              (over_left (without n v) (without n t) u w (less_seat n t seat_t held_t)
+              seat_u key next x value place n bare bare_keeps made.0 made.1 made.2 made.3 grown_u has points may kinds_t kinds_u kinds_w)
               held_w value_over
 
           pub replaced_still : Contains w.held place.node
-          replaced_still = old_still (without n v) (without n t) u w (less_seat n t seat_t held_t) seat_u key next x value place n bare bare_keeps made.0 made.1 made.2 made.3 grown_u has points may kinds_t kinds_u kinds_w
+          replaced_still = old_still (without n v) (without n t) u w (less_seat n t seat_t held_t)
+              seat_u key next x value place n bare bare_keeps made.0 made.1 made.2 made.3 grown_u has points may kinds_t kinds_u kinds_w
 
-          module _ (seat_w : IsSeat w) (settled : IsDurableAt w (word_of place.link) x) (y : View) (freeing : MayHaveFreed place.node w y) (kinds_y : y.kinds ≡ w.kinds) where
-            both : Changes (shard_of key) (λ map. with_key map key value) (without n v) y × MayChange (shard_of key) (λ map. with_key map key value) (without n v) y
-            both = over_freed (without n v) (without n t) u w (less_seat n t seat_t held_t) seat_u key next x value place n bare bare_keeps made.0 made.1 made.2 made.3 grown_u has points may kinds_t kinds_u kinds_w
+          module _ (seat_w : IsSeat w) (settled : IsDurableAt w (word_of place.link) x) (y : View) (freeing : MayHaveFreed place.node w y)
+              (kinds_y : y.kinds ≡ w.kinds) where
+            both : Changes (shard_of key) (λ map. with_key map key value) (without n v) y
+                × MayChange (shard_of key) (λ map. with_key map key value) (without n v) y
+            both = over_freed (without n v) (without n t) u w (less_seat n t seat_t held_t)
+                seat_u key next x value place n bare bare_keeps made.0 made.1 made.2 made.3 grown_u has points may kinds_t kinds_u kinds_w
                 seat_w settled y freeing kinds_y
 
             pub over_is_done : Changes (shard_of key) (λ map. with_key map key value) v y
@@ -150,11 +164,13 @@ module _ (v t : View) (seat_v : IsSeat v) (seat_t : IsSeat t) (key : ℕ) (n : B
             over_is_left = left (λ map. with_key map key value) y both.1
                 (freeing.keeps n held_w (λ same. less_gone n t seat_t held_t (subst (Contains (without n t).held) (sym same) made.3)))
                 (λ word inside behind. keeps_word_then v w y word (value_over word inside behind)
-                (freeing.words word (in_block n word held_w inside) (λ in_old. less_outside n t seat_t held_t word (in_block place.node word made.3 in_old) inside)))
+                (freeing.words word (in_block n word held_w inside) (λ in_old. less_outside n t seat_t held_t word
+                (in_block place.node word made.3 in_old) inside)))
 
             pub over_reaches : (Contains y.held place.node → ⊥) → ReachesAllHeldBut n v → ReachesAllHeld y
             over_reaches gone all =
-                all_over (without n v) (without n t) u w (less_seat n t seat_t held_t) seat_u key next x value place n bare bare_keeps made.0 made.1 made.2 made.3 grown_u has points may kinds_t kinds_u kinds_w
+                all_over (without n v) (without n t) u w (less_seat n t seat_t held_t)
+                seat_u key next x value place n bare bare_keeps made.0 made.1 made.2 made.3 grown_u has points may kinds_t kinds_u kinds_w
                 seat_w settled y freeing kinds_y gone (less_all n v seat_v loose.held loose.unreached shard.only all)
 
 -- over quiet calls before
@@ -176,7 +192,8 @@ module _ (v u : View) (n : Block) (seat_u : IsSeat u) (keeps : KeepsOwn v u) (ki
         (r.0, r.1, sees_grown v u (grown_keeps v u keeps) kinds r.0 c r.1 r.2);
   }
 
-  pub bring_after : (shard : ℕ) (after : Map → Map) (w : View) → ReachesOnlyHeld v → Contains v.held n → MayBring n shard after u w → MayBring n shard after v w
+  pub bring_after : (shard : ℕ) (after : Map → Map) (w : View) → ReachesOnlyHeld v → Contains v.held n → MayBring n shard after u w
+      → MayBring n shard after v w
   bring_after shard after w only held change =
       let grown = grown_keeps v u keeps in
       record {
@@ -186,10 +203,12 @@ module _ (v u : View) (n : Block) (seat_u : IsSeat u) (keeps : KeepsOwn v u) (ki
         others = record {
           roots = change.others.roots ∙ keeps.roots;
           kinds = change.others.kinds ∙ kinds;
-          root_words = λ root owned differs. keeps_word_then v u w (root_word root) (keeps.words (root_word root) (in_root root (root_word root) owned refl))
+          root_words = λ root owned differs. keeps_word_then v u w (root_word root)
+              (keeps.words (root_word root) (in_root root (root_word root) owned refl))
               (change.others.root_words root (subst (λ (rs : List ℕ). Contains rs root) (sym keeps.roots) owned) differs);
           blocks = λ a h differs none.
-              let r = change.others.blocks a (stays_held v u keeps.held a h) differs (λ kind reached. none kind (reached_before v u grown kinds seat_u only shard a kind reached)) in
+              let r = change.others.blocks a (stays_held v u keeps.held a h) differs
+              (λ kind reached. none kind (reached_before v u grown kinds seat_u only shard a kind reached)) in
               (r.0, λ word inside. keeps_word_then v u w word (keeps.words word (in_block a word h inside)) (r.1 word inside));
         };
         stays = change.stays;

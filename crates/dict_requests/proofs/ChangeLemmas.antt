@@ -18,10 +18,14 @@ use Rattle.dict_requests.proofs.FreedLemmas.{gives_freed, only_freed, others_fre
 
 -- a shard keeps its table where nothing that was own is stored to
 pub table_grown : (shard : ℕ) (v w : View) → Grown v w → KeepsTable shard v w
-table_grown shard v w grown = record { root = λ x owned seen some. (grown.words (root_word shard) (in_root shard (root_word shard) owned refl)).volatile x seen }
+table_grown shard v w grown = record {
+  root = λ x owned seen some.
+      (grown.words (root_word shard) (in_root shard (root_word shard) owned refl)).volatile x seen;
+}
 
 -- over one call and another
-pub table_then : (shard : ℕ) (v u w : View) → (Contains v.roots shard → Contains u.roots shard) → KeepsTable shard v u → KeepsTable shard u w → KeepsTable shard v w
+pub table_then : (shard : ℕ) (v u w : View) → (Contains v.roots shard → Contains u.roots shard) → KeepsTable shard v u → KeepsTable shard u w
+    → KeepsTable shard v w
 table_then shard v u w still a b = record { root = λ x owned seen some. b.root x (still owned) (a.root x owned seen some) some }
 
 -- where another word is stored to
@@ -49,20 +53,24 @@ module _ (shard : ℕ) (after : Map → Map) where
   }
 
   -- a change, and what calls before it left
-  pub change_after : (v u w : View) → Grown v u → u.kinds ≡ v.kinds → IsSeat u → ReachesOnlyHeld v → MayChange shard after u w → MayChange shard after v w
+  pub change_after : (v u w : View) → Grown v u → u.kinds ≡ v.kinds → IsSeat u → ReachesOnlyHeld v → MayChange shard after u w
+      → MayChange shard after v w
   change_after v u w grown kinds seat only change = record {
     either = λ map gives. change.either map (gives_grown v u grown shard map gives);
     only = change.only;
     table = table_then shard v u w (subst (λ (rs : List ℕ). Contains rs shard) (sym grown.roots)) (table_grown shard v u grown) change.table;
-    others = others_then shard v u w (λ b kind h reached. reached_before v u grown kinds seat only shard b kind reached) (others_grown v u grown kinds shard) change.others;
+    others = others_then shard v u w (λ b kind h reached. reached_before v u grown kinds seat only shard b kind reached)
+        (others_grown v u grown kinds shard) change.others;
   }
 
   pub changes_after : (v u w : View) → Grown v u → Changes shard after u w → Changes shard after v w
   changes_after v u w grown changes = record { gives = λ map gives. changes.gives map (gives_grown v u grown shard map gives) }
 
   -- a block that is freed after the change, when nothing reaches it any more
-  pub freed : (u w x : View) (b : Block) (kind : ℕ) → shard < shards → kind_of w shard ≡ table_kind → IsSeat w → Contains w.roots shard → Contains w.held b → Changes shard after u w → ReachesOnlyHeld w → KeepsTable shard u w → KeepsOtherShards shard u w
-      → MayReach u shard b kind → ((root other : ℕ) → MayReach w root b other → ⊥) → MayHaveFreed b w x → x.kinds ≡ w.kinds → Changes shard after u x × MayChange shard after u x
+  pub freed : (u w x : View) (b : Block) (kind : ℕ) → shard < shards → kind_of w shard ≡ table_kind → IsSeat w → Contains w.roots shard
+      → Contains w.held b → Changes shard after u w → ReachesOnlyHeld w → KeepsTable shard u w → KeepsOtherShards shard u w
+      → MayReach u shard b kind → ((root other : ℕ) → MayReach w root b other → ⊥) → MayHaveFreed b w x → x.kinds ≡ w.kinds
+      → Changes shard after u x × MayChange shard after u x
   freed u w x b kind small root_is seat owned h changes only table others reached unreached may kinds =
       let done : (map : Map) → GivesMap u shard map → GivesMap x shard (after map) =
       λ map gives. gives_freed w x b seat may kinds only h unreached shard (after map) root_is owned (changes.gives map gives) in (

@@ -49,12 +49,19 @@ module _ (u : View) (seat : IsSeat u) (shard : ℕ) (small : shard < shards) whe
   }
 
   -- what such a link leads to is null, or a block that the root may reach
-  pub followed_leads : (at x : ℕ) → IsFollowed u shard at → IsDurableAt u at x → ReachesOnlyHeld u → (x ≡ 0) ⊎ ((f : Block) × LeadsTo (Contains u.held) x f × MayReach u shard f node_kind)
+  pub followed_leads : (at x : ℕ) → IsFollowed u shard at → IsDurableAt u at x → ReachesOnlyHeld u
+      → (x ≡ 0) ⊎ ((f : Block) × LeadsTo (Contains u.held) x f × MayReach u shard f node_kind)
   followed_leads at x followed settled only =
       let read = subst (λ w. MayRead u w x) followed.at_is (seen_read u at x settled.seen) in
-      elim (only.links shard followed.holder followed.from followed.position node_kind x followed.reached followed.is_link read) as (λ _. (x ≡ 0) ⊎ ((f : Block) × LeadsTo (Contains u.held) x f × MayReach u shard f node_kind)) [
+      elim (only.links shard followed.holder followed.from followed.position node_kind x followed.reached followed.is_link read) as
+      (λ _. (x ≡ 0) ⊎ ((f : Block) × LeadsTo (Contains u.held) x f × MayReach u shard f node_kind)) [
         | inl null ↦ inl null
-        | inr f ↦ inr (f.0, f.1, link_reach u shard followed.holder f.0 followed.from followed.position node_kind x followed.reached followed.is_link read f.1)
+        | inr f ↦ inr (
+          f.0,
+          f.1,
+          link_reach u shard followed.holder f.0 followed.from followed.position node_kind x followed.reached
+              followed.is_link read f.1,
+        )
       ]
 
   trail_reached : (at : ℕ) (bs : List Block) → IsFollowed u shard at → Trail (IsDurableAt u) u.held at bs
@@ -62,10 +69,14 @@ module _ (u : View) (seat : IsSeat u) (shard : ℕ) (small : shard < shards) whe
   trail_reached at [] followed trail = ((λ b h. absurd (in_none b h)), followed)
   trail_reached at (c ∷ bs) followed trail =
       let first = next_reached at c followed trail.0 trail.1 in
-      let rest = trail_reached c.first_word bs (own_link_followed c trail.0 first) trail.2 in
-      ((λ b h. elim (head_or_rest c b bs h) as (λ _. MayReach u shard b node_kind) [ inl same ↦ subst (λ (x : Block). MayReach u shard x node_kind) same first | inr r ↦ rest.0 b r ]), rest.1)
+      let rest = trail_reached c.first_word bs (own_link_followed c trail.0 first) trail.2 in (
+        (λ b h. elim (head_or_rest c b bs h) as (λ _. MayReach u shard b node_kind)
+            [ inl same ↦ subst (λ (x : Block). MayReach u shard x node_kind) same first | inr r ↦ rest.0 b r ]),
+        rest.1,
+      )
 
-module _ (u : View) (seat : IsSeat u) (key : ℕ) (small : shard_of key < shards) (table : Block) (before : List Block) (come : HasCome IsDurableAt u (shard_of key) key table before) where
+module _ (u : View) (seat : IsSeat u) (key : ℕ) (small : shard_of key < shards) (table : Block) (before : List Block)
+    (come : HasCome IsDurableAt u (shard_of key) key table before) where
   module _ (root_is : kind_of u (shard_of key) ≡ table_kind) where
     pub table_is_reached : MayReach u (shard_of key) table (kind_of u (shard_of key))
     table_is_reached = root_reach u (shard_of key) table (kind_of u (shard_of key)) (pointer_to table) come.owned refl
@@ -96,22 +107,27 @@ module _ (u : View) (seat : IsSeat u) (key : ℕ) (small : shard_of key < shards
   begins_chain map gives =
       let image = now_image u in
       let now = now_completes u in
-      let along = is_along IsDurableAt u image seat (shard_of key) key map table before (settled_in u image now.mixes) come (gives.each image now.mixes) in
+      let along = is_along IsDurableAt u image seat (shard_of key) key map table before (settled_in u image now.mixes) come
+      (gives.each image now.mixes) in
       let k = bucket_of key in
       path_left (but table (LeadsTo (Contains u.held))) image (shard_of key) k (table.first_word + k) before along.rest
-      (subst (λ (bs : List Block). IsPath (but table (LeadsTo (Contains u.held))) image (shard_of key) k (table.first_word + k) bs) along.is (along.chains k (bucket_below key)).path)
+      (subst (λ (bs : List Block). IsPath (but table (LeadsTo (Contains u.held))) image (shard_of key) k (table.first_word + k) bs) along.is
+      (along.chains k (bucket_below key)).path)
 
 -- of the last node of a trail: it is apart from the table and from the nodes before, so its words are none of their links
-module _ (u : View) (seat : IsSeat u) (key : ℕ) (small : shard_of key < shards) (map : Map) (gives : GivesMap u (shard_of key) map) (table b : Block) (before : List Block)
+module _ (u : View) (seat : IsSeat u) (key : ℕ) (small : shard_of key < shards) (map : Map) (gives : GivesMap u (shard_of key) map)
+    (table b : Block) (before : List Block)
     (come : HasCome IsDurableAt u (shard_of key) key table (before ++ (b ∷ []))) where
-  path_all : IsPath (but table (LeadsTo (Contains u.held))) (now_image u) (shard_of key) (bucket_of key) (table.first_word + bucket_of key) (before ++ (b ∷ []))
+  path_all : IsPath (but table (LeadsTo (Contains u.held))) (now_image u) (shard_of key) (bucket_of key) (table.first_word + bucket_of key)
+      (before ++ (b ∷ []))
   path_all = begins_chain u seat key small table (before ++ (b ∷ [])) come map gives
 
   b_in : Contains (before ++ (b ∷ [])) b
   b_in = Contains-append_right before (b ∷ []) b (in_head b [])
 
   b_is : ((word : ℕ) × but table (LeadsTo (Contains u.held)) word b) × IsNode (now_image u) (shard_of key) (bucket_of key) b
-  b_is = in_path (but table (LeadsTo (Contains u.held))) (now_image u) (shard_of key) (bucket_of key) (table.first_word + bucket_of key) (before ++ (b ∷ [])) b path_all b_in
+  b_is = in_path (but table (LeadsTo (Contains u.held))) (now_image u) (shard_of key) (bucket_of key) (table.first_word + bucket_of key)
+      (before ++ (b ∷ [])) b path_all b_in
 
   pub last_held : Contains u.held b
   last_held = b_is.0.1.0.0
@@ -125,7 +141,8 @@ module _ (u : View) (seat : IsSeat u) (key : ℕ) (small : shard_of key < shards
   pub last_not_before : (c : Block) → Contains before c → c ≢ b
   last_not_before c h same =
       not_of (now_image u) (key_in (now_image u) c) (b ∷ []) b
-      (path_cross (but table (LeadsTo (Contains u.held))) (now_image u) (shard_of key) (bucket_of key) (table.first_word + bucket_of key) before (b ∷ []) c path_all h) (in_head b [])
+      (path_cross (but table (LeadsTo (Contains u.held))) (now_image u) (shard_of key) (bucket_of key) (table.first_word + bucket_of key) before
+      (b ∷ []) c path_all h) (in_head b [])
       (ap (key_in (now_image u)) (sym same))
 
   -- the link that leads to it lies in none of its words, nor at the root
@@ -133,15 +150,21 @@ module _ (u : View) (seat : IsSeat u) (key : ℕ) (small : shard_of key < shards
   link_outside word inside is = elim (behind_is (table.first_word + bucket_of key) before) as (λ _. ⊥) [
     | inl only ↦
         last_not_table (one_holder (Contains u.held) (are_placed u seat) b table word last_held come.held_table inside
-        (subst (IsIn table) (sym (is ∙ only.1)) (record { from = omega arith; until = let below = bucket_below key in let size = come.size in omega arith })))
+        (subst (IsIn table) (sym (is ∙ only.1)) (record {
+          from = omega arith;
+          until = let below = bucket_below key in let size = come.size in
+              omega arith;
+        })))
     | inr last ↦
-        let held = trail_held (IsDurableAt u) u.held (table.first_word + bucket_of key) (before ++ (b ∷ [])) last.0 come.trail (Contains-append_left before (b ∷ []) last.0 last.1) in
+        let held = trail_held (IsDurableAt u) u.held (table.first_word + bucket_of key) (before ++ (b ∷ [])) last.0 come.trail
+        (Contains-append_left before (b ∷ []) last.0 last.1) in
         last_not_before last.0 last.1 (one_holder (Contains u.held) (are_placed u seat) last.0 b word held last_held
         (subst (IsIn last.0) (sym (is ∙ last.2)) (first_in (Contains u.held) (are_placed u seat) last.0 held)) inside)
   ]
 
 -- a link behind a trail lies behind the roots
-pub link_behind_roots : (u : View) (key : ℕ) (table : Block) (before : List Block) (root : ℕ) → IsSeat u → Contains u.roots root → HasCome IsDurableAt u (shard_of key) key table before
+pub link_behind_roots : (u : View) (key : ℕ) (table : Block) (before : List Block) (root : ℕ) → IsSeat u → Contains u.roots root
+    → HasCome IsDurableAt u (shard_of key) key table before
     → root_word root ≢ link_behind (table.first_word + bucket_of key) before
 link_behind_roots u key table before root seat owned come is = elim (behind_is (table.first_word + bucket_of key) before) as (λ _. ⊥) [
   | inl only ↦ let behind = (seat.placed table come.held_table).behind in let below = seat.roots_are root owned in omega (arith, only.1)
@@ -152,8 +175,10 @@ link_behind_roots u key table before root seat owned come is = elim (behind_is (
 ]
 
 -- a trail whose last link is stored to is one up to that link
-pub trail_kept : (u w : View) (p x : ℕ) → IsSeat u → MayHaveStored p x u w → (table : Block) (image : Image) (shard k at : ℕ) (bs : List Block) → p ≡ link_behind at bs
-    → ((c : Block) → Contains bs c → at ≢ c.first_word) → IsPath (but table (LeadsTo (Contains u.held))) image shard k at bs → IsOwn u.held u.roots at → Trail (IsDurableAt u) u.held at bs
+pub trail_kept : (u w : View) (p x : ℕ) → IsSeat u → MayHaveStored p x u w → (table : Block) (image : Image) (shard k at : ℕ) (bs : List Block)
+    → p ≡ link_behind at bs
+    → ((c : Block) → Contains bs c → at ≢ c.first_word) → IsPath (but table (LeadsTo (Contains u.held))) image shard k at bs
+    → IsOwn u.held u.roots at → Trail (IsDurableAt u) u.held at bs
     → Trail (IsDurableAt w) w.held at bs
 trail_kept u w p x seat may table image shard k at [] is apart path own trail = tt
 trail_kept u w p x seat may table image shard k at (b ∷ bs) is apart path own trail =

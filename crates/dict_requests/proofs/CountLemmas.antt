@@ -21,23 +21,31 @@ use Rattle.dict_requests.proofs.TrailLemmas.{now_image, now_completes, settling_
 use Rattle.dict_requests.proofs.QuietLemmas.{quiet_then}
 
 -- the keys without the first that is this one
-but_one : (x : ℕ) (keys : List ℕ) → Contains keys x → (rest : List ℕ) × (length keys ≡ suc (length rest)) × ((y : ℕ) → y ≢ x → Contains keys y → Contains rest y)
+but_one : (x : ℕ) (keys : List ℕ) → Contains keys x → (rest : List ℕ) × (length keys ≡ suc (length rest))
+    × ((y : ℕ) → y ≢ x → Contains keys y → Contains rest y)
 but_one x [] h = absurd (in_none x h)
-but_one x (k ∷ keys) h = elim (cases_eq k x) as (λ _. (rest : List ℕ) × (length (k ∷ keys) ≡ suc (length rest)) × ((y : ℕ) → y ≢ x → Contains (k ∷ keys) y → Contains rest y)) [
-  | inl same ↦ (keys, refl, λ y other hy. elim (head_or_rest k y keys hy) as (λ _. Contains keys y) [ inl e ↦ absurd (other (sym e ∙ same)) | inr r ↦ r ])
-  | inr differs ↦ elim (head_or_rest k x keys h) as (λ _. (rest : List ℕ) × (length (k ∷ keys) ≡ suc (length rest)) × ((y : ℕ) → y ≢ x → Contains (k ∷ keys) y → Contains rest y)) [
-    | inl e ↦ absurd (differs e)
-    | inr r ↦
-        let more = but_one x keys r in (
-          k ∷ more.0,
-          ap suc more.1,
-          λ y other hy. elim (head_or_rest k y keys hy) as (λ _. Contains (k ∷ more.0) y) [
-            | inl e ↦ subst (Contains (k ∷ more.0)) e (in_head k more.0)
-            | inr s ↦ in_rest k y more.0 (more.2 y other s)
-          ],
-        )
-  ]
-]
+but_one x (k ∷ keys) h = elim (cases_eq k x) as (λ _. (rest : List ℕ) × (length (k ∷ keys) ≡ suc (length rest))
+    × ((y : ℕ) → y ≢ x → Contains (k ∷ keys) y → Contains rest y)) [
+      | inl same ↦ (
+        keys,
+        refl,
+        λ y other hy. elim (head_or_rest k y keys hy) as
+            (λ _. Contains keys y) [ inl e ↦ absurd (other (sym e ∙ same)) | inr r ↦ r ],
+      )
+      | inr differs ↦ elim (head_or_rest k x keys h) as (λ _. (rest : List ℕ) × (length (k ∷ keys) ≡ suc (length rest))
+          × ((y : ℕ) → y ≢ x → Contains (k ∷ keys) y → Contains rest y)) [
+            | inl e ↦ absurd (differs e)
+            | inr r ↦
+                let more = but_one x keys r in (
+                  k ∷ more.0,
+                  ap suc more.1,
+                  λ y other hy. elim (head_or_rest k y keys hy) as (λ _. Contains (k ∷ more.0) y) [
+                    | inl e ↦ subst (Contains (k ∷ more.0)) e (in_head k more.0)
+                    | inr s ↦ in_rest k y more.0 (more.2 y other s)
+                  ],
+                )
+          ]
+    ]
 
 -- nodes with keys of their own are no more than the keys that have a value
 few_nodes : (image : Image) (keys : List ℕ) (bs : List Block) (leads : Leading) (shard k at : ℕ) → IsPath leads image shard k at bs
@@ -55,9 +63,11 @@ module _ (v : View) (key at : ℕ) (table : Block) (seat : IsSeat v) (walk : IsW
       let image = now_image v in
       let completes = now_completes v in
       let k = bucket_of key in
-      let along = is_along IsSettling v image seat (shard_of key) key lists.map table walk.before (settling_in v image completes) walk.come (lists.gives.each image completes.mixes) in
+      let along = is_along IsSettling v image seat (shard_of key) key lists.map table walk.before (settling_in v image completes) walk.come
+      (lists.gives.each image completes.mixes) in
       let path : IsPath (but table (LeadsTo (Contains v.held))) image (shard_of key) k (table.first_word + k) (walk.before ++ along.rest) =
-      subst (λ (bs : List Block). IsPath (but table (LeadsTo (Contains v.held))) image (shard_of key) k (table.first_word + k) bs) along.is (along.chains k (bucket_below key)).path in
+      subst (λ (bs : List Block). IsPath (but table (LeadsTo (Contains v.held))) image (shard_of key) k (table.first_word + k) bs) along.is
+      (along.chains k (bucket_below key)).path in
       let all = few_nodes image keys (walk.before ++ along.rest) (but table (LeadsTo (Contains v.held))) (shard_of key) k (table.first_word + k) path
       (λ b h.
       let is = (in_path (but table (LeadsTo (Contains v.held))) image (shard_of key) k (table.first_word + k) (walk.before ++ along.rest) b path h).1 in
@@ -72,19 +82,22 @@ pub lists_later : (v w : View) (shard : ℕ) (keys : List ℕ) → Grown v w →
 lists_later v w shard keys grown lists = record { map = lists.map; gives = gives_grown v w grown shard lists.map lists.gives; all = lists.all }
 
 -- a walk, and quiet calls behind it
-pub quiet_walk : (key more : ℕ) (table : Block) (link : Spot) (v u w : View) → IsSeat u → IsWalking key table link v u → IsQuiet more u w → IsQuietWalk more (shard_of key) v w
+pub quiet_walk : (key more : ℕ) (table : Block) (link : Spot) (v u w : View) → IsSeat u → IsWalking key table link v u → IsQuiet more u w
+    → IsQuietWalk more (shard_of key) v w
 quiet_walk key more table link v u w seat walking quiet = record {
   small = 3 * length walking.walk.before + more;
   quiet = quiet_then (3 * length walking.walk.before) more (3 * length walking.walk.before + more) v u w (omega arith) walking.quiet quiet;
   few = λ keys lists.
-      let few = few_passed u key (word_of link) table seat walking.walk keys (lists_later v u (shard_of key) keys (grown_keeps v u walking.quiet.unchanged) lists) in omega arith;
+      let few = few_passed u key (word_of link) table seat walking.walk keys
+      (lists_later v u (shard_of key) keys (grown_keeps v u walking.quiet.unchanged) lists) in omega arith;
 }
 
 -- the calls of a search, and some more that take no superblock
 pub moves_few : (small large shard : ℕ) (v u w : View) → small ≤ 488 → IsQuietWalk 5 shard v u → IsRow small large 0 u w → MovesFew large shard v w
 moves_few small large shard v u w s walk row keys lists =
     let few = walk.few keys lists in
-    row_more (walk.small + small) (0 + large) 0 (500 + 4 * length keys) large 0 v w (omega arith) (omega arith) (omega arith) (row_then walk.small 0 0 small large 0 v u w walk.quiet.calls row)
+    row_more (walk.small + small) (0 + large) 0 (500 + 4 * length keys) large 0 v w (omega arith) (omega arith) (omega arith)
+    (row_then walk.small 0 0 small large 0 v u w walk.quiet.calls row)
 
 pub moves_quiet : (large shard : ℕ) (v u : View) → IsQuietWalk 5 shard v u → MovesFew large shard v u
 moves_quiet large shard v u walk keys lists =

@@ -43,16 +43,21 @@ without_missing map key none q = elim (cases_eq key q) as (λ _. map q ≡ witho
 
 -- in an image with the values of the way to a key's node that is a node, and the map has its value
 pub come_is : (reads : View → Reading) (w : View) (image : Image) (key : ℕ) (table : Block) (before : List Block) (node : Block) → IsSeat w
-    → ((word value : ℕ) → IsOwn w.held w.roots word → reads w word value → image word ≡ value) → HasCome reads w (shard_of key) key table (before ++ (node ∷ []))
-    → key_in image node ≡ key → (map : Map) → IsMapIn w image (shard_of key) map → (map key ≡ Some (value_in image node)) × IsNode image (shard_of key) (bucket_of key) node
+    → ((word value : ℕ) → IsOwn w.held w.roots word → reads w word value → image word ≡ value)
+    → HasCome reads w (shard_of key) key table (before ++ (node ∷ []))
+    → key_in image node ≡ key → (map : Map) → IsMapIn w image (shard_of key) map → (map key ≡ Some (value_in image node))
+    × IsNode image (shard_of key) (bucket_of key) node
 come_is reads w image key table before node seat has come key_is map is_map =
     let k = bucket_of key in
     let along = is_along reads w image seat (shard_of key) key map table (before ++ (node ∷ [])) has come is_map in
     let path : IsPath (but table (LeadsTo (Contains w.held))) image (shard_of key) k (table.first_word + k) ((before ++ (node ∷ [])) ++ along.rest) =
-    subst (λ (bs : List Block). IsPath (but table (LeadsTo (Contains w.held))) image (shard_of key) k (table.first_word + k) bs) along.is (along.chains k (bucket_below key)).path in
+    subst (λ (bs : List Block). IsPath (but table (LeadsTo (Contains w.held))) image (shard_of key) k (table.first_word + k) bs) along.is
+    (along.chains k (bucket_below key)).path in
     let h = Contains-append_left (before ++ (node ∷ [])) along.rest node (Contains-append_right before (node ∷ []) node (in_head node [])) in
-    let there = found_in (but table (LeadsTo (Contains w.held))) image (shard_of key) k (table.first_word + k) ((before ++ (node ∷ [])) ++ along.rest) node path h in
-    let is = (in_path (but table (LeadsTo (Contains w.held))) image (shard_of key) k (table.first_word + k) ((before ++ (node ∷ [])) ++ along.rest) node path h).1 in (
+    let there = found_in (but table (LeadsTo (Contains w.held))) image (shard_of key) k (table.first_word + k)
+    ((before ++ (node ∷ [])) ++ along.rest) node path h in
+    let is = (in_path (but table (LeadsTo (Contains w.held))) image (shard_of key) k (table.first_word + k)
+    ((before ++ (node ∷ [])) ++ along.rest) node path h).1 in (
       found_at map image (shard_of key) key along.nodes along.means refl ∙ ap (λ (bs : List Block). find image key bs) along.is
           ∙ ap (λ q. find image q ((before ++ (node ∷ [])) ++ along.rest)) (sym key_is) ∙ there,
       is,
@@ -66,21 +71,25 @@ found_is w key place seat found map gives image completes =
     let room = found.room in
     let key_is : key_in image node ≡ key = completes.seen (node.first_word + 1) key
     (in_block node (node.first_word + 1) (found_held w key place found) (record { from = omega arith; until = omega arith })) found.key_seen in
-    come_is IsSettling w image key found.table found.before node seat (settling_in w image completes) found.come key_is map (gives.each image completes.mixes)
+    come_is IsSettling w image key found.table found.before node seat (settling_in w image completes) found.come key_is map
+    (gives.each image completes.mixes)
 
 -- the map has a key whose node was found
-pub found_has : (w : View) (key : ℕ) (place : Place) → IsSeat w → IsFoundPlace w key place → (map : Map) → GivesMap w (shard_of key) map → map key ≢ None
+pub found_has : (w : View) (key : ℕ) (place : Place) → IsSeat w → IsFoundPlace w key place → (map : Map) → GivesMap w (shard_of key) map
+    → map key ≢ None
 found_has w key place seat found map gives none =
     let has = (found_is w key place seat found map gives (now_image w) (now_completes w)).0 in
     let clash : Some (value_in (now_image w) place.node) ≡ None = sym has ∙ none in
     absurd (cc)
 
 -- nothing was found, so nothing was to be done
-pub deletes_nothing : (v w : View) (key : ℕ) → KeepsOwn v w → Runs v w → ((map : Map) → GivesMap v (shard_of key) map → map key ≡ None) → Deletes key false v w
+pub deletes_nothing : (v w : View) (key : ℕ) → KeepsOwn v w → Runs v w → ((map : Map) → GivesMap v (shard_of key) map → map key ≡ None)
+    → Deletes key false v w
 deletes_nothing v w key keeps runs none = record {
   runs = runs;
   gives = λ map gives.
-      gives_same w (shard_of key) map (without_key map key) (without_missing map key (none map gives)) (gives_grown v w (grown_keeps v w keeps) (shard_of key) map gives);
+      gives_same w (shard_of key) map (without_key map key) (without_missing map key (none map gives))
+      (gives_grown v w (grown_keeps v w keeps) (shard_of key) map gives);
   tells = λ map gives. ((λ yes. absurd (search rules)), λ has. absurd (has (none map gives)));
 }
 
@@ -100,10 +109,12 @@ pub shard_still : (v u : View) (shard : ℕ) → IsSeat u → KeepsOwn v u → u
 shard_still v u shard seat keeps kinds is = shard_grown v u shard seat (grown_keeps v u keeps) kinds is
 
 -- the calls of a search, and some more
-pub few_calls : (small large most words shard : ℕ) (v u w : View) → small ≤ 500 + 2 * words → large ≤ 3 → IsQuietWalk 5 shard v u → IsRow small large most u w → MakesFew words most shard v w
+pub few_calls : (small large most words shard : ℕ) (v u w : View) → small ≤ 500 + 2 * words → large ≤ 3 → IsQuietWalk 5 shard v u
+    → IsRow small large most u w → MakesFew words most shard v w
 few_calls small large most words shard v u w s l walk row keys lists =
     let few = walk.few keys lists in
-    row_more (walk.small + small) (0 + large) (0 + most) (512 + 2 * words + 4 * length keys) 3 most v w (omega arith) (omega arith) (omega arith) (row_then walk.small 0 0 small large most v u w walk.quiet.calls row)
+    row_more (walk.small + small) (0 + large) (0 + most) (512 + 2 * words + 4 * length keys) 3 most v w (omega arith) (omega arith)
+    (omega arith) (row_then walk.small 0 0 small large most v u w walk.quiet.calls row)
 
 pub few_quiet : (words most shard : ℕ) (v u : View) → IsQuietWalk 5 shard v u → MakesFew words most shard v u
 few_quiet words most shard v u walk keys lists =

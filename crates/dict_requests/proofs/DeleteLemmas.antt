@@ -44,7 +44,8 @@ pub record IsFoundNode (u : View) (key : ℕ) (place : Place) (table : Block) (b
   pub come : HasCome IsDurableAt u (shard_of key) key table before
   pub link : IsDurableAt u (word_of place.link) (pointer_to place.node)
 
-module _ (u : View) (seat : IsSeat u) (key : ℕ) (place : Place) (next : ℕ) (taken : IsReadPlace IsDurableAt u key place next) (map₀ : Map) (gives₀ : GivesMap u (shard_of key) map₀)
+module _ (u : View) (seat : IsSeat u) (key : ℕ) (place : Place) (next : ℕ) (taken : IsReadPlace IsDurableAt u key place next) (map₀ : Map)
+    (gives₀ : GivesMap u (shard_of key) map₀)
     (root_is : kind_of u (shard_of key) ≡ table_kind) where
   node : Block
   node = place.node
@@ -64,17 +65,20 @@ module _ (u : View) (seat : IsSeat u) (key : ℕ) (place : Place) (next : ℕ) (
 
   -- the link that leads to the node
   pub link_kind : IsLinkOf u (shard_of key) (word_of place.link) node_kind
-  link_kind = subst (λ p. IsLinkOf u (shard_of key) p node_kind) (sym taken.at_is) (link_followed u seat key (shard_below key) taken.table taken.before come_to root_is)
+  link_kind = subst (λ p. IsLinkOf u (shard_of key) p node_kind) (sym taken.at_is)
+      (link_followed u seat key (shard_below key) taken.table taken.before come_to root_is)
 
   pub link_own : IsOwn u.held u.roots (word_of place.link)
   link_own = subst (IsOwn u.held u.roots) (sym taken.at_is) (behind_own IsDurableAt u (shard_of key) key taken.table taken.before seat come_to)
 
   -- it holds a pointer to the node
   pub link_holds : IsDurableAt u (word_of place.link) (pointer_to place.node)
-  link_holds = subst (λ p. IsDurableAt u p (pointer_to place.node)) (sym taken.at_is) (last_settled taken.before (taken.table.first_word + bucket_of key) taken.come.trail) where
-    last_settled : (bs : List Block) (at : ℕ) → Trail (IsDurableAt u) u.held at (bs ++ (place.node ∷ [])) → IsDurableAt u (link_behind at bs) (pointer_to place.node)
-    last_settled [] at trail = trail.1
-    last_settled (b ∷ bs) at trail = last_settled bs b.first_word trail.2
+  link_holds = subst (λ p. IsDurableAt u p (pointer_to place.node)) (sym taken.at_is)
+      (last_settled taken.before (taken.table.first_word + bucket_of key) taken.come.trail) where
+        last_settled : (bs : List Block) (at : ℕ) → Trail (IsDurableAt u) u.held at (bs ++ (place.node ∷ []))
+            → IsDurableAt u (link_behind at bs) (pointer_to place.node)
+        last_settled [] at trail = trail.1
+        last_settled (b ∷ bs) at trail = last_settled bs b.first_word trail.2
 
   pub node_word_own : (word : ℕ) → IsIn place.node word → IsOwn u.held u.roots word
   node_word_own word inside = in_block place.node word node_held inside
@@ -86,13 +90,15 @@ module _ (u : View) (seat : IsSeat u) (key : ℕ) (place : Place) (next : ℕ) (
   first_in_node = record { from = omega arith; until = let room = node_room in omega arith }
 
   pub outside : (word : ℕ) → IsIn place.node word → word ≢ word_of place.link
-  outside word inside is = link_outside u seat key (shard_below key) map₀ gives₀ taken.table place.node taken.before taken.come word inside (is ∙ taken.at_is)
+  outside word inside is = link_outside u seat key (shard_below key) map₀ gives₀ taken.table place.node taken.before taken.come word inside (is
+      ∙ taken.at_is)
 
   -- what is behind the node is null or may be reached
   pub may_link : ReachesOnlyHeld u → MayPublish u (shard_of key) next node_kind
   may_link only =
       let zero_more : place.node.first_word ≡ place.node.first_word + 0 = omega arith in
-      let read : MayRead u (place.node.first_word + 0) next = subst (λ w. MayRead u w next) zero_more (seen_read u place.node.first_word next taken.next_is.seen) in
+      let read : MayRead u (place.node.first_word + 0) next = subst (λ w. MayRead u w next) zero_more
+      (seen_read u place.node.first_word next taken.next_is.seen) in
       let is : IsLink node_kind place.node.words 0 node_kind = in_node place.node.words (let room = node_room in omega arith) in
       elim (only.links (shard_of key) place.node node_kind 0 node_kind next node_reached is read) as (λ _. MayPublish u (shard_of key) next node_kind) [
         | inl null ↦ no_block null
@@ -100,14 +106,18 @@ module _ (u : View) (seat : IsSeat u) (key : ℕ) (place : Place) (next : ℕ) (
       ]
 
   module _ (w : View) (may : MayHaveStored (word_of place.link) next u w) (kinds : w.kinds ≡ u.kinds) where
-    out : (map : Map) → GivesMap u (shard_of key) map → (image : Image) → MixesOwn w image → image (word_of place.link) ≡ next → IsMapIn w image (shard_of key) (without_key map key)
-    out map gives = take_out u w seat (shard_of key) key (shard_below key) map gives taken.table taken.before (place.node ∷ []) taken.come (word_of place.link) next (pointer_to place.node)
-        taken.at_is link_holds may place.node refl taken.key_is (node_word_own (place.node.first_word + 1) key_in_node) taken.next_is (node_word_own place.node.first_word first_in_node)
+    out : (map : Map) → GivesMap u (shard_of key) map → (image : Image) → MixesOwn w image → image (word_of place.link) ≡ next
+        → IsMapIn w image (shard_of key) (without_key map key)
+    out map gives = take_out u w seat (shard_of key) key (shard_below key) map gives taken.table taken.before (place.node ∷ []) taken.come
+        (word_of place.link) next (pointer_to place.node)
+        taken.at_is link_holds may place.node refl taken.key_is (node_word_own (place.node.first_word + 1) key_in_node) taken.next_is
+        (node_word_own place.node.first_word first_in_node)
 
     pub unlink_left : ReachesOnlyHeld u → MayChange (shard_of key) (λ map. without_key map key) u w
     unlink_left only = record {
       either = λ map gives.
-          either u w seat (shard_of key) key (shard_below key) map gives taken.table taken.before (place.node ∷ []) taken.come (word_of place.link) next (pointer_to place.node)
+          either u w seat (shard_of key) key (shard_below key) map gives taken.table taken.before (place.node ∷ []) taken.come
+          (word_of place.link) next (pointer_to place.node)
           taken.at_is link_holds may (without_key map key) (out map gives);
       only = only_after u w (shard_of key) (word_of place.link) next node_kind seat (shard_below key) may kinds only link_kind (may_link only);
       table = table_stored (shard_of key) (word_of place.link) next u w
@@ -115,9 +125,11 @@ module _ (u : View) (seat : IsSeat u) (key : ℕ) (place : Place) (next : ℕ) (
       others = others_after u w (shard_of key) (word_of place.link) next node_kind seat (shard_below key) may kinds only link_kind (may_link only);
     }
 
-    pub unlinked : IsDurableAt w (word_of place.link) next → (map : Map) → GivesMap u (shard_of key) map → GivesMap w (shard_of key) (without_key map key)
+    pub unlinked : IsDurableAt w (word_of place.link) next → (map : Map) → GivesMap u (shard_of key) map
+        → GivesMap w (shard_of key) (without_key map key)
     unlinked settled map gives =
-        exactly u w seat (shard_of key) key (shard_below key) map gives taken.table taken.before (place.node ∷ []) taken.come (word_of place.link) next (pointer_to place.node)
+        exactly u w seat (shard_of key) key (shard_below key) map gives taken.table taken.before (place.node ∷ []) taken.come
+        (word_of place.link) next (pointer_to place.node)
         taken.at_is link_holds may (without_key map key) (out map gives) settled
 
     -- afterwards nothing reaches the node
@@ -127,21 +139,25 @@ module _ (u : View) (seat : IsSeat u) (key : ℕ) (place : Place) (next : ℕ) (
           let kept = λ (word : ℕ) (value : ℕ) (own : IsOwn u.held u.roots word) (differs : word ≢ word_of place.link) (was : IsDurableAt u word value).
           settled_stays u w word value (may.others word own differs) was in
           gone w seat_w (shard_of key) (without_key map₀ key) (unlinked settled map₀ gives₀) taken.table
-          (subst (λ (rs : List ℕ). Contains rs (shard_of key)) (sym may.roots) taken.come.owned) (subst (λ (bs : List Block). Contains bs taken.table) (sym may.held) taken.come.held_table) taken.come.size
+          (subst (λ (rs : List ℕ). Contains rs (shard_of key)) (sym may.roots) taken.come.owned)
+          (subst (λ (bs : List Block). Contains bs taken.table) (sym may.held) taken.come.held_table) taken.come.size
           (kept (root_word (shard_of key)) (pointer_to taken.table) (in_root (shard_of key) (root_word (shard_of key)) taken.come.owned refl)
           (λ e. link_behind_roots u key taken.table taken.before (shard_of key) seat taken.come.owned come_to (e ∙ taken.at_is)) taken.come.root)
           place.node key kind (last_not_table u seat key (shard_below key) map₀ gives₀ taken.table place.node taken.before taken.come)
-          (kept (place.node.first_word + 1) key (node_word_own (place.node.first_word + 1) key_in_node) (outside (place.node.first_word + 1) key_in_node) taken.key_is)
+          (kept (place.node.first_word + 1) key (node_word_own (place.node.first_word + 1) key_in_node)
+          (outside (place.node.first_word + 1) key_in_node) taken.key_is)
           (own_same u w (place.node.first_word + 1) may.held may.roots (node_word_own (place.node.first_word + 1) key_in_node))
           (cond-true (nat_eq key key) None (map₀ key) (eq-eqb key key refl)) (subst (λ r. MayReach w r place.node kind) (sym same) reached)
       | inr differs ↦
-          elim (reached_after u w (shard_of key) (word_of place.link) next node_kind seat (shard_below key) may kinds only link_kind (may_link only) root place.node kind reached) as (λ _. ⊥) [
+          elim (reached_after u w (shard_of key) (word_of place.link) next node_kind seat (shard_below key) may kinds only link_kind
+          (may_link only) root place.node kind reached) as (λ _. ⊥) [
             | inl before ↦ only.alone (shard_of key) root place.node node_kind kind (shard_below key) differs node_reached before
             | inr fresh ↦ differs (sym fresh.0)
           ]
     ]
 
-pub found_node : (u : View) → IsSeat u → (key : ℕ) (place : Place) (next : ℕ) (taken : IsReadPlace IsDurableAt u key place next) (map₀ : Map) → GivesMap u (shard_of key) map₀
+pub found_node : (u : View) → IsSeat u → (key : ℕ) (place : Place) (next : ℕ) (taken : IsReadPlace IsDurableAt u key place next) (map₀ : Map)
+    → GivesMap u (shard_of key) map₀
     → kind_of u (shard_of key) ≡ table_kind → IsFoundNode u key place taken.table taken.before
 found_node u seat key place next taken map₀ gives₀ root_is = record {
   held = node_held u seat key place next taken map₀ gives₀ root_is;

@@ -35,18 +35,21 @@ all_quiet v u seat keeps kinds all = record {
 }
 
 -- a settled way to a link stays one where the link is stored to
-pub come_kept : (u w : View) (key p x : ℕ) (table : Block) (before : List Block) (map : Map) → IsSeat u → GivesMap u (shard_of key) map → HasCome IsDurableAt u (shard_of key) key table before
+pub come_kept : (u w : View) (key p x : ℕ) (table : Block) (before : List Block) (map : Map) → IsSeat u → GivesMap u (shard_of key) map
+    → HasCome IsDurableAt u (shard_of key) key table before
     → p ≡ link_behind (table.first_word + bucket_of key) before → MayHaveStored p x u w → HasCome IsDurableAt w (shard_of key) key table before
 come_kept u w key p x table before map seat gives come at may = record {
   owned = subst (λ (rs : List ℕ). Contains rs (shard_of key)) (sym may.roots) come.owned;
   in_shard = come.in_shard;
   held_table = subst (λ (bs : List Block). Contains bs table) (sym may.held) come.held_table;
   size = come.size;
-  root = settled_stays u w (root_word (shard_of key)) (pointer_to table) (may.others (root_word (shard_of key)) (in_root (shard_of key) (root_word (shard_of key)) come.owned refl)
+  root = settled_stays u w (root_word (shard_of key)) (pointer_to table)
+      (may.others (root_word (shard_of key)) (in_root (shard_of key) (root_word (shard_of key)) come.owned refl)
       (λ e. link_behind_roots u key table before (shard_of key) seat come.owned come (e ∙ at))) come.root;
   trail = trail_kept u w p x seat may table (now_image u) (shard_of key) (bucket_of key) (table.first_word + bucket_of key) before at
       (λ c h e.
-      let c_is = (in_path (but table (LeadsTo (Contains u.held))) (now_image u) (shard_of key) (bucket_of key) (table.first_word + bucket_of key) before c path h).0.1 in
+      let c_is = (in_path (but table (LeadsTo (Contains u.held))) (now_image u) (shard_of key) (bucket_of key)
+      (table.first_word + bucket_of key) before c path h).0.1 in
       c_is.1 (one_holder (Contains u.held) (are_placed u seat) c table (table.first_word + bucket_of key) c_is.0.0 come.held_table
       (subst (IsIn c) (sym e) (first_in (Contains u.held) (are_placed u seat) c c_is.0.0))
       (record { from = omega arith; until = let below = bucket_below key in let size = come.size in omega arith })))
@@ -55,7 +58,8 @@ come_kept u w key p x table before map seat gives come at may = record {
   path : IsPath (but table (LeadsTo (Contains u.held))) (now_image u) (shard_of key) (bucket_of key) (table.first_word + bucket_of key) before
   path = begins_chain u seat key (shard_below key) table before come map gives
 
-module _ (u w : View) (seat : IsSeat u) (seat_w : IsSeat w) (key : ℕ) (place : Place) (next : ℕ) (taken : IsReadPlace IsDurableAt u key place next) (map : Map) (gives : GivesMap u (shard_of key) map)
+module _ (u w : View) (seat : IsSeat u) (seat_w : IsSeat w) (key : ℕ) (place : Place) (next : ℕ)
+    (taken : IsReadPlace IsDurableAt u key place next) (map : Map) (gives : GivesMap u (shard_of key) map)
     (only : ReachesOnlyHeld u) (root_is : kind_of u (shard_of key) ≡ table_kind) (kinds : w.kinds ≡ u.kinds) where
   held_u : Contains u.held place.node
   held_u = node_held u seat key place next taken map gives root_is
@@ -68,13 +72,16 @@ module _ (u w : View) (seat : IsSeat u) (seat_w : IsSeat w) (key : ℕ) (place :
         | inl is ↦ (
           sym is,
           only_node u seat (shard_of key) map gives taken.table taken.come.owned taken.come.held_table taken.come.size taken.come.root place.node kind
-              (last_not_table u seat key (shard_below key) map gives taken.table place.node taken.before taken.come) (subst (λ r. MayReach u r place.node kind) (sym is) may_node),
+              (last_not_table u seat key (shard_below key) map gives taken.table place.node taken.before taken.come)
+              (subst (λ r. MayReach u r place.node kind) (sym is) may_node),
         )
-        | inr differs ↦ absurd (only.alone (shard_of key) root place.node node_kind kind (shard_below key) differs (node_reached u seat key place next taken map gives root_is) may_node)
+        | inr differs ↦ absurd (only.alone (shard_of key) root place.node node_kind kind (shard_below key) differs
+            (node_reached u seat key place next taken map gives root_is) may_node)
       ]
 
   pub leads_to_node : (c : Block) → LeadsTo (Contains u.held) (pointer_to place.node) c → c ≡ place.node
-  leads_to_node c leads = (held_once (Contains u.held) (are_placed u seat)).one (pointer_to place.node) c place.node leads (leads_held u place.node seat held_u)
+  leads_to_node c leads = (held_once (Contains u.held) (are_placed u seat)).one (pointer_to place.node) c place.node leads
+      (leads_held u place.node seat held_u)
 
   pub next_value : (a : Block) (value : ℕ) → a ≡ place.node → u.volatile (a.first_word + 0) ≡ Some value → value ≡ next
   next_value a value same seen =
@@ -82,40 +89,51 @@ module _ (u w : View) (seat : IsSeat u) (seat_w : IsSeat w) (key : ℕ) (place :
       seen_value u place.node.first_word value next (subst (λ q. u.volatile q ≡ Some value) at seen) taken.next_is.seen
 
   pub not_root : (root : ℕ) → Contains u.roots root → root_word root ≢ word_of place.link
-  not_root root owned e = link_behind_roots u key taken.table taken.before root seat owned (come_to u seat key place next taken map gives root_is) (e ∙ taken.at_is)
+  not_root root owned e = link_behind_roots u key taken.table taken.before root seat owned
+      (come_to u seat key place next taken map gives root_is) (e ∙ taken.at_is)
 
   -- a node that is taken out
-  pub all_unlinked : (may : MayHaveStored (word_of place.link) next u w) → IsDurableAt w (word_of place.link) next → ReachesOnlyHeld w → ReachesAllHeld u → ReachesAllHeldBut place.node w
+  pub all_unlinked : (may : MayHaveStored (word_of place.link) next u w) → IsDurableAt w (word_of place.link) next → ReachesOnlyHeld w
+      → ReachesAllHeld u → ReachesAllHeldBut place.node w
   all_unlinked may settled only_w all = record {
     only = only_w;
     all = λ c h other.
         let r = all.all c (subst (λ (bs : List Block). Contains bs c) may.held h) in
-        elim (sees_after u w seat (shard_of key) (word_of place.link) next (pointer_to place.node) (shard_below key) may kinds only (link_kind u seat key place next taken map gives root_is)
-        (may_link u seat key place next taken map gives root_is only) (link_holds u seat key place next taken map gives root_is) not_root (λ d. d ≡ place.node)
+        elim (sees_after u w seat (shard_of key) (word_of place.link) next (pointer_to place.node) (shard_below key) may kinds only
+        (link_kind u seat key place next taken map gives root_is)
+        (may_link u seat key place next taken map gives root_is only) (link_holds u seat key place next taken map gives root_is) not_root
+        (λ d. d ≡ place.node)
         (λ d leads. inl (leads_to_node d leads))
         (λ a d value same seen leads.
         inr (target_sees w (shard_of key) (word_of place.link) next d link_there settled.seen
-        (subst (λ q. LeadsTo (Contains w.held) q d) (next_value a value same seen) (subst (λ (bs : List Block). Contains bs d) (sym may.held) leads.0, leads.1))))
-        one_kind r.0 c r.1 r.2) as (λ _. (root : ℕ) × (kind : ℕ) × Reaches w root c kind) [ inl reached ↦ (r.0, r.1, reached) | inr same ↦ absurd (other same) ];
+        (subst (λ q. LeadsTo (Contains w.held) q d) (next_value a value same seen)
+        (subst (λ (bs : List Block). Contains bs d) (sym may.held) leads.0, leads.1))))
+        one_kind r.0 c r.1 r.2) as (λ _. (root : ℕ) × (kind : ℕ) × Reaches w root c kind)
+        [ inl reached ↦ (r.0, r.1, reached) | inr same ↦ absurd (other same) ];
   } where
     link_there : SeesLink w (shard_of key) (word_of place.link)
     link_there = subst (λ q. SeesLink w (shard_of key) q) (sym taken.at_is)
-        (come_sees w key taken.table taken.before seat_w (come_kept u w key (word_of place.link) next taken.table taken.before map seat gives (come_to u seat key place next taken map gives root_is) taken.at_is may) (kind_kept u w (shard_of key) kinds ∙ root_is))
+        (come_sees w key taken.table taken.before seat_w (come_kept u w key (word_of place.link) next taken.table taken.before map seat gives
+        (come_to u seat key place next taken map gives root_is) taken.at_is may) (kind_kept u w (shard_of key) kinds ∙ root_is))
 
   -- a node that is taken out and freed
-  pub all_removed : (may : MayHaveStored (word_of place.link) next u w) → IsDurableAt w (word_of place.link) next → (x : View) → MayHaveFreed place.node w x → x.kinds ≡ w.kinds → (Contains x.held place.node → ⊥) → ReachesOnlyHeld x
+  pub all_removed : (may : MayHaveStored (word_of place.link) next u w) → IsDurableAt w (word_of place.link) next → (x : View)
+      → MayHaveFreed place.node w x → x.kinds ≡ w.kinds → (Contains x.held place.node → ⊥) → ReachesOnlyHeld x
       → ReachesAllHeld u → ReachesAllHeld x
   all_removed may settled x freeing kinds_x gone only_x all = record {
     only = only_x;
     all = λ c h.
         let in_u : Contains u.held c = subst (λ (bs : List Block). Contains bs c) may.held (freeing.only c h) in
         let r = all.all c in_u in
-        elim (sees_after u w seat (shard_of key) (word_of place.link) next (pointer_to place.node) (shard_below key) may kinds only (link_kind u seat key place next taken map gives root_is)
-        (may_link u seat key place next taken map gives root_is only) (link_holds u seat key place next taken map gives root_is) not_root (λ d. d ≡ place.node)
+        elim (sees_after u w seat (shard_of key) (word_of place.link) next (pointer_to place.node) (shard_below key) may kinds only
+        (link_kind u seat key place next taken map gives root_is)
+        (may_link u seat key place next taken map gives root_is only) (link_holds u seat key place next taken map gives root_is) not_root
+        (λ d. d ≡ place.node)
         (λ d leads. inl (leads_to_node d leads))
         (λ a d value same seen leads.
         inr (target_sees w (shard_of key) (word_of place.link) next d link_w settled.seen
-        (subst (λ q. LeadsTo (Contains w.held) q d) (next_value a value same seen) (subst (λ (bs : List Block). Contains bs d) (sym may.held) leads.0, leads.1))))
+        (subst (λ q. LeadsTo (Contains w.held) q d) (next_value a value same seen)
+        (subst (λ (bs : List Block). Contains bs d) (sym may.held) leads.0, leads.1))))
         one_kind r.0 c r.1 r.2) as (λ _. (root : ℕ) × (kind : ℕ) × Reaches x root c kind) [
           | inl reached ↦ (
             r.0,
@@ -128,4 +146,5 @@ module _ (u w : View) (seat : IsSeat u) (seat_w : IsSeat w) (key : ℕ) (place :
   } where
     link_w : SeesLink w (shard_of key) (word_of place.link)
     link_w = subst (λ q. SeesLink w (shard_of key) q) (sym taken.at_is)
-        (come_sees w key taken.table taken.before seat_w (come_kept u w key (word_of place.link) next taken.table taken.before map seat gives (come_to u seat key place next taken map gives root_is) taken.at_is may) (kind_kept u w (shard_of key) kinds ∙ root_is))
+        (come_sees w key taken.table taken.before seat_w (come_kept u w key (word_of place.link) next taken.table taken.before map seat gives
+        (come_to u seat key place next taken map gives root_is) taken.at_is may) (kind_kept u w (shard_of key) kinds ∙ root_is))

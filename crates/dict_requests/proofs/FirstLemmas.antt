@@ -52,7 +52,8 @@ empty_before : (v u w : View) (list head : ℕ) → v.next ≤ u.next → FoundE
 empty_before v u w list head later found = record { last = seen_before v u w (w.head_look list) head later found.last; empty = found.empty }
 
 -- a refusal in a later call
-pub refused_before : (bytes before behind most : ℕ) (looks : Looks) (v u w : View) → Runs v u → SameRefusals v u → u.taken ≤ v.taken + before → before + behind ≤ most
+pub refused_before : (bytes before behind most : ℕ) (looks : Looks) (v u w : View) → Runs v u → SameRefusals v u → u.taken ≤ v.taken + before
+    → before + behind ≤ most
     → IsRefused bytes behind looks u w → IsRefused bytes most looks v w
 refused_before bytes before behind most looks v u w runs same taken sum refused =
     let later : v.next ≤ u.next = let drew = runs.drew in omega arith in
@@ -72,7 +73,8 @@ refused_before bytes before behind most looks v u w runs same taken sum refused 
     }
 
 -- the cause of a refusal, and of a stop, over calls before
-pub put_fails : (bytes : ℕ) (fault : AllocFault) (v u w : View) → Runs v u → KeepsOwn v u → SameRefusals v u → u.taken ≤ v.taken + 0 → ((looks : Looks) → fault ≡ Full looks → KeepsOwn u w) → FailsBy bytes fault u w
+pub put_fails : (bytes : ℕ) (fault : AllocFault) (v u w : View) → Runs v u → KeepsOwn v u → SameRefusals v u → u.taken ≤ v.taken + 0
+    → ((looks : Looks) → fault ≡ Full looks → KeepsOwn u w) → FailsBy bytes fault u w
     → PutFails bytes fault v w
 put_fails bytes (Full looks) v u w runs before same taken after fails = (
   refused_before bytes 0 0 0 looks v u w runs same taken (omega arith) (record {
@@ -85,10 +87,13 @@ put_fails bytes (Full looks) v u w runs before same taken after fails = (
   }),
   keeps_own_then v u w before (after looks refl),
 )
-put_fails bytes (Stopped stopped) v u w runs before same taken after fails = (stops_then stopped.step v u w runs fails.0, same_refusals_then v u w same fails.1)
+put_fails bytes (Stopped stopped) v u w runs before same taken after fails =
+    (stops_then stopped.step v u w runs fails.0, same_refusals_then v u w same fails.1)
 
-module _ (v t u w : View) (seat_t : IsSeat t) (seat : IsSeat u) (key first x : ℕ) (value : List ℕ) (table n : Block) (shard : IsShard v (shard_of key)) (missing : IsMissing v key table)
-    (seat_v : IsSeat v) (keeps : KeepsOwn v t) (follows : FollowsLink (table.first_word + bucket_of key) first v t) (grown_u : Grown t u) (makes : HasNode n key first value t u)
+module _ (v t u w : View) (seat_t : IsSeat t) (seat : IsSeat u) (key first x : ℕ) (value : List ℕ) (table n : Block)
+    (shard : IsShard v (shard_of key)) (missing : IsMissing v key table)
+    (seat_v : IsSeat v) (keeps : KeepsOwn v t) (follows : FollowsLink (table.first_word + bucket_of key) first v t) (grown_u : Grown t u)
+    (makes : HasNode n key first value t u)
     (points : x ≡ pointer_to n) (may : MayHaveStored (table.first_word + bucket_of key) x u w)
     (kinds_t : t.kinds ≡ v.kinds) (kinds_u : u.kinds ≡ t.kinds) (kinds_w : w.kinds ≡ u.kinds) where
   settle : (word y : ℕ) → IsOwn t.held t.roots word → IsSettling t word y → IsDurableAt u word y
@@ -123,24 +128,32 @@ module _ (v t u w : View) (seat_t : IsSeat t) (seat : IsSeat u) (key first x : �
   was = settle (table.first_word + bucket_of key) first own_t follows.settling
 
   none_u : (map : Map) → GivesMap u (shard_of key) map → map key ≡ None
-  none_u map gives = same_map u seat (shard_of key) map shard.map gives (gives_grown v u grown_all (shard_of key) shard.map shard.gives) key ∙ missing.none shard.map shard.gives
+  none_u map gives = same_map u seat (shard_of key) map shard.map gives (gives_grown v u grown_all (shard_of key) shard.map shard.gives) key
+      ∙ missing.none shard.map shard.gives
 
-  new_map : (map : Map) → GivesMap u (shard_of key) map → (image : Image) → MixesOwn w image → image (table.first_word + bucket_of key) ≡ x → IsMapIn w image (shard_of key) (with_key map key value)
+  new_map : (map : Map) → GivesMap u (shard_of key) map → (image : Image) → MixesOwn w image → image (table.first_word + bucket_of key) ≡ x
+      → IsMapIn w image (shard_of key) (with_key map key value)
   new_map = new_key t u seat grown_u kinds_u only_t key first value n makes.held makes.new makes.node makes.key_is makes.next_is
-      (followed_leads u seat (shard_of key) (shard_below key) (table.first_word + bucket_of key) first (bucket_followed u seat key (shard_below key) table [] come_u still.kind_is) was still.only)
-      w still.only table [] [] come_u come_u (table.first_word + bucket_of key) x first refl was may points own_t come_t.held_table was (own_grown t u (table.first_word + bucket_of key) grown_u own_t) still.kind_is kinds_w refl none_u
+      (followed_leads u seat (shard_of key) (shard_below key) (table.first_word + bucket_of key) first
+      (bucket_followed u seat key (shard_below key) table [] come_u still.kind_is) was still.only)
+      w still.only table [] [] come_u come_u (table.first_word + bucket_of key) x first refl was may points own_t come_t.held_table was
+      (own_grown t u (table.first_word + bucket_of key) grown_u own_t) still.kind_is kinds_w refl none_u
 
   pub first_left : MayChange (shard_of key) (λ map. with_key map key value) v w
   first_left = change_after (shard_of key) (λ map. with_key map key value) v u w grown_all kinds_all seat shard.only
       (put_left t u seat grown_u kinds_u only_t key first value n makes.held makes.new makes.node makes.key_is makes.next_is
-      (followed_leads u seat (shard_of key) (shard_below key) (table.first_word + bucket_of key) first (bucket_followed u seat key (shard_below key) table [] come_u still.kind_is) was still.only)
-      w still.only table [] [] come_u come_u (table.first_word + bucket_of key) x first refl was may points own_t come_t.held_table was (own_grown t u (table.first_word + bucket_of key) grown_u own_t) still.kind_is kinds_w new_map)
+      (followed_leads u seat (shard_of key) (shard_below key) (table.first_word + bucket_of key) first
+      (bucket_followed u seat key (shard_below key) table [] come_u still.kind_is) was still.only)
+      w still.only table [] [] come_u come_u (table.first_word + bucket_of key) x first refl was may points own_t come_t.held_table was
+      (own_grown t u (table.first_word + bucket_of key) grown_u own_t) still.kind_is kinds_w new_map)
 
   pub first_done : IsDurableAt w (table.first_word + bucket_of key) x → Changes (shard_of key) (λ map. with_key map key value) v w
   first_done settled = changes_after (shard_of key) (λ map. with_key map key value) v u w grown_all
       (put_done t u seat grown_u kinds_u only_t key first value n makes.held makes.new makes.node makes.key_is makes.next_is
-      (followed_leads u seat (shard_of key) (shard_below key) (table.first_word + bucket_of key) first (bucket_followed u seat key (shard_below key) table [] come_u still.kind_is) was still.only)
-      w still.only table [] [] come_u come_u (table.first_word + bucket_of key) x first refl was may points own_t come_t.held_table was (own_grown t u (table.first_word + bucket_of key) grown_u own_t) still.kind_is kinds_w new_map settled)
+      (followed_leads u seat (shard_of key) (shard_below key) (table.first_word + bucket_of key) first
+      (bucket_followed u seat key (shard_below key) table [] come_u still.kind_is) was still.only)
+      w still.only table [] [] come_u come_u (table.first_word + bucket_of key) x first refl was may points own_t come_t.held_table was
+      (own_grown t u (table.first_word + bucket_of key) grown_u own_t) still.kind_is kinds_w new_map settled)
 
   -- all that is held is reached still, the new node in front of the bucket's others
   pub all_first : IsSeat w → IsDurableAt w (table.first_word + bucket_of key) x → ReachesAllHeld v → ReachesAllHeld w
@@ -150,12 +163,14 @@ module _ (v t u w : View) (seat_t : IsSeat t) (seat : IsSeat u) (key first x : �
       | inl same ↦ (shard_of key, node_kind, subst (λ (d : Block). Reaches w (shard_of key) d node_kind) (sym same) n_reached)
       | inr before ↦
           let r = all.all c (subst (λ (bs : List Block). Contains bs c) keeps.held before) in
-          elim (past r.0 c r.1 (sees_grown v u grown_all kinds_all r.0 c r.1 r.2)) as (λ _. (root : ℕ) × (kind : ℕ) × Reaches w root c kind) [ inl on ↦ (r.0, r.1, on) | inr none ↦ absurd none ]
+          elim (past r.0 c r.1 (sees_grown v u grown_all kinds_all r.0 c r.1 r.2)) as (λ _. (root : ℕ) × (kind : ℕ)
+          × Reaches w root c kind) [ inl on ↦ (r.0, r.1, on) | inr none ↦ absurd none ]
     ];
   } where
     n_reached : Reaches w (shard_of key) n node_kind
     n_reached = target_sees w (shard_of key) (table.first_word + bucket_of key) x n
-        (come_sees w key table [] seat_w (come_kept u w key (table.first_word + bucket_of key) x table [] still.map seat still.gives come_u refl may) (kind_kept u w (shard_of key) kinds_w ∙ still.kind_is))
+        (come_sees w key table [] seat_w (come_kept u w key (table.first_word + bucket_of key)
+        x table [] still.map seat still.gives come_u refl may) (kind_kept u w (shard_of key) kinds_w ∙ still.kind_is))
         settled.seen (subst (λ q. LeadsTo (Contains w.held) q n) (sym points) (leads_held w n seat_w (stays_held u w may.held n makes.held)))
 
     n_next : w.volatile n.first_word ≡ Some first
@@ -165,13 +180,18 @@ module _ (v t u w : View) (seat_t : IsSeat t) (seat : IsSeat u) (key first x : �
         let inside : IsIn n (n.first_word + 0) = record { from = omega arith; until = omega arith } in
         subst (λ q. w.volatile q ≡ Some first) zero_more
         ((may.others (n.first_word + 0) (in_block n (n.first_word + 0) makes.held inside)
-        (λ e. new_block_outside t u n seat grown_u makes.held makes.new (table.first_word + bucket_of key) own_t (subst (IsIn n) e inside))).volatile first makes.next_is.seen)
+        (λ e. new_block_outside t u n seat grown_u makes.held makes.new (table.first_word + bucket_of key) own_t
+        (subst (IsIn n) e inside))).volatile first makes.next_is.seen)
 
     past : (root : ℕ) (c : Block) (k : ℕ) → Reaches u root c k → Reaches w root c k ⊎ ⊥
-    past = sees_after u w seat (shard_of key) (table.first_word + bucket_of key) x first (shard_below key) may kinds_w still.only (link_followed u seat key (shard_below key) table [] come_u still.kind_is)
+    past = sees_after u w seat (shard_of key) (table.first_word + bucket_of key) x first (shard_below key) may kinds_w still.only
+        (link_followed u seat key (shard_below key) table [] come_u still.kind_is)
         (publish t u seat grown_u kinds_u only_t key first value n makes.held makes.new makes.node makes.key_is makes.next_is
-        (followed_leads u seat (shard_of key) (shard_below key) (table.first_word + bucket_of key) first (bucket_followed u seat key (shard_below key) table [] come_u still.kind_is) was still.only)
-        w still.only table [] [] come_u come_u (table.first_word + bucket_of key) x first refl was may points own_t come_t.held_table was (own_grown t u (table.first_word + bucket_of key) grown_u own_t) still.kind_is kinds_w)
+        (followed_leads u seat (shard_of key) (shard_below key) (table.first_word + bucket_of key) first
+        (bucket_followed u seat key (shard_below key) table [] come_u still.kind_is) was still.only)
+        w still.only table [] [] come_u come_u (table.first_word + bucket_of key) x first refl was may points own_t come_t.held_table was
+        (own_grown t u (table.first_word + bucket_of key) grown_u own_t) still.kind_is kinds_w)
         was (λ root owned e. link_behind_roots u key table [] root seat owned come_u e) (λ d. ⊥)
-        (λ d leads. inr (target_sees w (shard_of key) n.first_word first d (node_link w (shard_of key) n seat_w n_reached) n_next (stays_held u w may.held d leads.0, leads.1)))
+        (λ d leads. inr (target_sees w (shard_of key) n.first_word first d (node_link w (shard_of key) n seat_w n_reached) n_next
+        (stays_held u w may.held d leads.0, leads.1)))
         (λ a d read none seen leads. absurd none) (λ root a kind none reached. absurd none)

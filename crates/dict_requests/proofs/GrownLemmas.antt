@@ -38,7 +38,8 @@ link_to _ _ _ _ (in_table words position below) = refl
 link_to _ _ _ _ (in_node words some) = refl
 
 -- the word of a link is the seat's own
-pub link_own : (v : View) (a : Block) (from position to : ℕ) → Contains v.held a → IsLink from a.words position to → IsOwn v.held v.roots (a.first_word + position)
+pub link_own : (v : View) (a : Block) (from position to : ℕ) → Contains v.held a → IsLink from a.words position to
+    → IsOwn v.held v.roots (a.first_word + position)
 link_own v a from position to h is =
     in_block a (a.first_word + position) h (record { from = omega arith; until = let i = link_inside from a.words position to is in omega arith })
 
@@ -96,7 +97,8 @@ grown_store word value v u w a may new = record {
 }
 
 -- a block that wasn't held has no word that was own
-pub new_block_outside : (v u : View) (b : Block) → IsSeat u → Grown v u → Contains u.held b → (Contains v.held b → ⊥) → (word : ℕ) → IsOwn v.held v.roots word → IsIn b word → ⊥
+pub new_block_outside : (v u : View) (b : Block) → IsSeat u → Grown v u → Contains u.held b → (Contains v.held b → ⊥) → (word : ℕ)
+    → IsOwn v.held v.roots word → IsIn b word → ⊥
 new_block_outside v u b seat grown h fresh word (in_block a _ own inside) in_b =
     fresh (subst (Contains v.held) (one_holder (Contains u.held) (are_placed u seat) a b word (grown.keeps a own) h inside in_b) own)
 new_block_outside v u b seat grown h fresh word (in_root i _ own is) in_b =
@@ -112,7 +114,8 @@ module _ (v w : View) (grown : Grown v w) where
   mixes_grown image mixes = record { each = λ word own. read_grown word (image word) own (mixes.each word (own_grown v w word grown own)) }
 
   pub map_grown : (image : Image) (shard : ℕ) (map : Map) → IsMapIn v image shard map → IsMapIn w image shard map
-  map_grown image shard map is = map_wider (LeadsTo (Contains v.held)) (LeadsTo (Contains w.held)) image shard map (λ word b used leads. (grown.keeps b leads.0, leads.1)) is
+  map_grown image shard map is = map_wider (LeadsTo (Contains v.held)) (LeadsTo (Contains w.held)) image shard map
+      (λ word b used leads. (grown.keeps b leads.0, leads.1)) is
 
   pub gives_grown : (shard : ℕ) (map : Map) → GivesMap v shard map → GivesMap w shard map
   gives_grown shard map gives = record { each = λ image mixes. map_grown image shard map (gives.each image (mixes_grown image mixes)) }
@@ -134,9 +137,16 @@ module _ (v w : View) (grown : Grown v w) where
         (λ b kind start.
         let owned = subst (λ (rs : List ℕ). Contains rs root) grown.roots start.owned in
         let read = read_grown (root_word root) start.value (in_root root (root_word root) owned refl) start.read in
-        by_start b kind (record { owned = owned; kind_is = start.kind_is ∙ kind_kept v w root kinds; value = start.value; read = read; leads = led_before start.value b (only.roots root start.value owned read) start.leads }))
+        by_start b kind (record {
+          owned = owned;
+          kind_is = start.kind_is ∙ kind_kept v w root kinds;
+          value = start.value;
+          read = read;
+          leads = led_before start.value b (only.roots root start.value owned read) start.leads;
+        }))
         (λ a b from kind reached has link.
-        let read = read_grown (a.first_word + link.position) link.value (link_own v a from link.position kind (reached_held v root a from has) link.is_link) link.read in
+        let read = read_grown (a.first_word + link.position) link.value
+        (link_own v a from link.position kind (reached_held v root a from has) link.is_link) link.read in
         by_link a b from kind has (record {
           position = link.position;
           is_link = link.is_link;
@@ -154,7 +164,8 @@ module _ (v w : View) (grown : Grown v w) where
           let has = reached_before root a from reached in
           null_or_held value (only.links root a from position kind value has is_link
           (read_grown (a.first_word + position) value (link_own v a from position kind (reached_held v root a from has) is_link) may));
-      alone = λ shard root b kind other small differs p q. only.alone shard root b kind other small differs (reached_before shard b kind p) (reached_before root b other q);
+      alone = λ shard root b kind other small differs p q. only.alone shard root b kind other small differs (reached_before shard b kind p)
+          (reached_before root b other q);
     }
 
   pub others_grown : w.kinds ≡ v.kinds → (shard : ℕ) → KeepsOtherShards shard v w

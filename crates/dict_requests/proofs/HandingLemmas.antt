@@ -49,7 +49,8 @@ module _ (b : Block) (v w : View) (seat : IsSeat v) (loose : IsLoose b v) (offer
   offered_only only = only_freed v w b seat offered call.goes_on.kinds only loose.held loose.unreached
 
   pub offered_gives : (shard : ℕ) (map : Map) → IsShard v shard → GivesMap v shard map → GivesMap w shard map
-  offered_gives shard map is gives = gives_freed v w b seat offered call.goes_on.kinds is.only loose.held loose.unreached shard map is.kind_is is.owned gives
+  offered_gives shard map is gives = gives_freed v w b seat offered call.goes_on.kinds is.only loose.held loose.unreached shard map is.kind_is
+      is.owned gives
 
   pub offered_all : ReachesAllHeldBut b v → ReachesAllHeld w
   offered_all all = all_freed v w b seat offered call.goes_on.kinds loose.held loose.unreached offers.blocks.new all
@@ -76,7 +77,8 @@ module _ (b : Block) (v w : View) (seat : IsSeat w) (accepts : Accepts b v w) (c
   accepted_loose only = record {
     held = accepts.blocks.has;
     unreached = λ root kind reached.
-        accepts.blocks.new (reached_held v root b kind (reached_before v w (accepts_grown b v w accepts) call.goes_on.kinds seat only root b kind reached));
+        accepts.blocks.new (reached_held v root b kind (reached_before v w
+        (accepts_grown b v w accepts) call.goes_on.kinds seat only root b kind reached));
   }
 
   pub accepted_all : ReachesAllHeld v → ReachesAllHeldBut b w
@@ -110,16 +112,20 @@ node_comes w b c value comes node = record {
 }
 
 -- what a bring leaves of other shards
-module _ (v w : View) (b : Block) (shard : ℕ) (may : Map → Map) (seat : IsSeat v) (loose : IsLoose b v) (change : MayBring b shard may v w) (small : shard < shards) where
+module _ (v w : View) (b : Block) (shard : ℕ) (may : Map → Map) (seat : IsSeat v) (loose : IsLoose b v) (change : MayBring b shard may v w)
+    (small : shard < shards) where
   pub bring_others : (other : ℕ) (map : Map) → other ≢ shard → IsShard v other → GivesMap v other map → GivesMap w other map
   bring_others other map differs is gives =
-      others_give (without b v) w shard may (less_seat b v seat loose.held) small (bring_change b v seat loose.held loose.unreached is.only shard may w change) other map differs
-      (less_shard b v seat loose.held loose.unreached is.only other is) (less_gives b v seat loose.held loose.unreached is.only other is.owned is.kind_is map gives)
+      others_give (without b v) w shard may (less_seat b v seat loose.held) small
+      (bring_change b v seat loose.held loose.unreached is.only shard may w change) other map differs
+      (less_shard b v seat loose.held loose.unreached is.only other is)
+      (less_gives b v seat loose.held loose.unreached is.only other is.owned is.kind_is map gives)
 
   pub bring_shards : (after : Map → Map) → HasShards v → Changes shard after v w → HasShards w
   bring_shards after has changes =
       let only = (has.each shard small).only in
-      shards_on (without b v) w shard may (less_seat b v seat loose.held) small (bring_change b v seat loose.held loose.unreached only shard may w change) after
+      shards_on (without b v) w shard may (less_seat b v seat loose.held) small
+      (bring_change b v seat loose.held loose.unreached only shard may w change) after
       (record { each = λ other below. less_shard b v seat loose.held loose.unreached only other (has.each other below) })
       (change_less b v seat loose.held loose.unreached only shard after w changes)
 
@@ -132,23 +138,28 @@ set_grown v w shard grown owned = set_kept v w shard (grown.words (root_word sha
 
 pub set_offered : (v w : View) (b : Block) (shard : ℕ) → Offers b v w → Contains v.roots shard → RootIsSet v shard → RootIsSet w shard
 set_offered v w b shard offers owned =
-    set_kept v w shard (offers.words (root_word shard) (in_root shard (root_word shard) (subst (λ (rs : List ℕ). Contains rs shard) offers.blocks.roots owned) refl))
+    set_kept v w shard (offers.words (root_word shard) (in_root shard (root_word shard)
+    (subst (λ (rs : List ℕ). Contains rs shard) offers.blocks.roots owned) refl))
 
-pub set_changed : (v w : View) (shard other : ℕ) (may : Map → Map) → MayChange shard may v w → Contains v.roots other → RootIsSet v other → RootIsSet w other
+pub set_changed : (v w : View) (shard other : ℕ) (may : Map → Map) → MayChange shard may v w → Contains v.roots other → RootIsSet v other
+    → RootIsSet w other
 set_changed v w shard other may change owned set = elim (cases_eq other shard) as (λ _. RootIsSet w other) [
   | inl same ↦ subst (RootIsSet w) (sym same) (record {
     value = set.value;
-    seen = change.table.root set.value (subst (Contains v.roots) same owned) (subst (λ n. v.volatile (root_word n) ≡ Some set.value) same set.seen) set.some;
+    seen = change.table.root set.value (subst (Contains v.roots) same owned)
+        (subst (λ n. v.volatile (root_word n) ≡ Some set.value) same set.seen) set.some;
     some = set.some;
   })
   | inr differs ↦ set_kept v w other (change.others.root_words other owned differs) set
 ]
 
-pub set_brought : (v w : View) (b : Block) (shard other : ℕ) (may : Map → Map) → MayBring b shard may v w → Contains v.roots other → RootIsSet v other → RootIsSet w other
+pub set_brought : (v w : View) (b : Block) (shard other : ℕ) (may : Map → Map) → MayBring b shard may v w → Contains v.roots other
+    → RootIsSet v other → RootIsSet w other
 set_brought v w b shard other may change owned set = elim (cases_eq other shard) as (λ _. RootIsSet w other) [
   | inl same ↦ subst (RootIsSet w) (sym same) (record {
     value = set.value;
-    seen = change.table.root set.value (subst (Contains v.roots) same owned) (subst (λ n. v.volatile (root_word n) ≡ Some set.value) same set.seen) set.some;
+    seen = change.table.root set.value (subst (Contains v.roots) same owned)
+        (subst (λ n. v.volatile (root_word n) ≡ Some set.value) same set.seen) set.some;
     some = set.some;
   })
   | inr differs ↦ set_kept v w other (change.others.root_words other owned differs) set

@@ -46,10 +46,13 @@ but_only : (at : ℕ) (bs : List Block) (c : Block) → Contains (but_at at bs) 
 but_only at [] c h = absurd (in_none c h)
 but_only at (b ∷ bs) c h = elim (cases_eq b.first_word at) as (λ _. Contains (b ∷ bs) c × (c.first_word ≢ at)) [
   | inl same ↦
-      let r = but_only at bs c (subst (λ (l : List Block). Contains l c) (cond-true (nat_eq b.first_word at) (but_at at bs) (b ∷ but_at at bs) (eq-eqb b.first_word at same)) h) in
+      let r = but_only at bs c (subst (λ (l : List Block). Contains l c)
+      (cond-true (nat_eq b.first_word at) (but_at at bs) (b ∷ but_at at bs) (eq-eqb b.first_word at same)) h) in
       (in_rest b c bs r.0, r.1)
   | inr other ↦
-      elim (head_or_rest b c (but_at at bs) (subst (λ (l : List Block). Contains l c) (cond-false (nat_eq b.first_word at) (but_at at bs) (b ∷ but_at at bs) (ne_eqb b.first_word at other)) h)) as (λ _. Contains (b ∷ bs) c × (c.first_word ≢ at)) [
+      elim (head_or_rest b c (but_at at bs) (subst (λ (l : List Block). Contains l c)
+      (cond-false (nat_eq b.first_word at) (but_at at bs) (b ∷ but_at at bs) (ne_eqb b.first_word at other)) h)) as
+      (λ _. Contains (b ∷ bs) c × (c.first_word ≢ at)) [
         | inl is ↦ (subst (Contains (b ∷ bs)) is (in_head b bs), λ e. other (ap (λ (x : Block). x.first_word) is ∙ e))
         | inr rest ↦ let r = but_only at bs c rest in (in_rest b c bs r.0, r.1)
       ]
@@ -59,13 +62,15 @@ but_keeps : (at : ℕ) (bs : List Block) (c : Block) → Contains bs c → c.fir
 but_keeps at [] c h differs = absurd (in_none c h)
 but_keeps at (b ∷ bs) c h differs = elim (cases_eq b.first_word at) as (λ _. Contains (but_at at (b ∷ bs)) c) [
   | inl same ↦
-      subst (λ (l : List Block). Contains l c) (sym (cond-true (nat_eq b.first_word at) (but_at at bs) (b ∷ but_at at bs) (eq-eqb b.first_word at same)))
+      subst (λ (l : List Block). Contains l c) (sym (cond-true (nat_eq b.first_word at) (but_at at bs) (b ∷ but_at at bs)
+      (eq-eqb b.first_word at same)))
       (elim (head_or_rest b c bs h) as (λ _. Contains (but_at at bs) c) [
         | inl is ↦ absurd (differs (sym (ap (λ (x : Block). x.first_word) is) ∙ same))
         | inr rest ↦ but_keeps at bs c rest differs
       ])
   | inr other ↦
-      subst (λ (l : List Block). Contains l c) (sym (cond-false (nat_eq b.first_word at) (but_at at bs) (b ∷ but_at at bs) (ne_eqb b.first_word at other)))
+      subst (λ (l : List Block). Contains l c) (sym (cond-false (nat_eq b.first_word at) (but_at at bs) (b ∷ but_at at bs)
+      (ne_eqb b.first_word at other)))
       (elim (head_or_rest b c bs h) as (λ _. Contains (b ∷ but_at at bs) c) [
         | inl is ↦ subst (Contains (b ∷ but_at at bs)) is (in_head b (but_at at bs))
         | inr rest ↦ in_rest b c (but_at at bs) (but_keeps at bs c rest differs)
@@ -150,7 +155,12 @@ module _ (n : Block) (v : View) (seat : IsSeat v) (held : Contains v.held n) whe
   pub less_follows : (w : View) (at word : ℕ) → FollowsLink at word v w → FollowsLink at word (without n v) (without n w)
   less_follows w at word follows = record {
     goes = record {
-      runs = record { ran = follows.goes.runs.ran; running = follows.goes.runs.running; drew = follows.goes.runs.drew; below = follows.goes.runs.below };
+      runs = record {
+        ran = follows.goes.runs.ran;
+        running = follows.goes.runs.running;
+        drew = follows.goes.runs.drew;
+        below = follows.goes.runs.below;
+      };
       pending = follows.goes.pending;
     };
     settling = settling_less n w at word follows.settling;
@@ -165,7 +175,13 @@ module _ (n : Block) (v : View) (seat : IsSeat v) (held : Contains v.held n) whe
       less_gives map gives = gives_freed v (without n v) n seat less_freed refl only held unreached shard map root_is owned gives
 
     pub less_shard : (shard : ℕ) → IsShard v shard → IsShard (without n v) shard
-    less_shard shard is = record { owned = is.owned; kind_is = is.kind_is; only = less_only; map = is.map; gives = less_gives shard is.owned is.kind_is is.map is.gives }
+    less_shard shard is = record {
+      owned = is.owned;
+      kind_is = is.kind_is;
+      only = less_only;
+      map = is.map;
+      gives = less_gives shard is.owned is.kind_is is.map is.gives;
+    }
 
     pub less_all : ReachesAllHeldBut n v → ReachesAllHeld (without n v)
     less_all all = all_freed v (without n v) n seat less_freed refl held unreached less_gone all
@@ -182,7 +198,8 @@ module _ (n : Block) (v : View) (seat : IsSeat v) (held : Contains v.held n) whe
         kinds = change.others.kinds;
         root_words = λ root owned differs. keeps_back n v w (root_word root) (change.others.root_words root owned differs);
         blocks = λ a h differs none.
-            let r = change.others.blocks a (less_held a h differs) (λ kind reached. none kind (reached_freed v (without n v) n seat less_freed refl only held unreached shard a kind reached)) in
+            let r = change.others.blocks a (less_held a h differs) (λ kind reached. none kind
+            (reached_freed v (without n v) n seat less_freed refl only held unreached shard a kind reached)) in
             (r.0, λ word inside. keeps_back n v w word (r.1 word inside));
       };
       stays = stays;
@@ -220,7 +237,8 @@ module _ (n : Block) (v : View) (seat : IsSeat v) (held : Contains v.held n) whe
       not_it : (c : Block) (kind : ℕ) → MayReach v (shard_of key) c kind → c ≢ n
       not_it c kind reached same = unreached (shard_of key) kind (subst (λ (x : Block). MayReach v (shard_of key) x kind) same reached)
 
-      less_trail : (at : ℕ) (bs : List Block) → IsFollowed v (shard_of key) at → Trail (IsSettling v) v.held at bs → Trail (IsSettling (without n v)) (without n v).held at bs
+      less_trail : (at : ℕ) (bs : List Block) → IsFollowed v (shard_of key) at → Trail (IsSettling v) v.held at bs
+          → Trail (IsSettling (without n v)) (without n v).held at bs
       less_trail at [] followed trail = tt
       less_trail at (b ∷ bs) followed trail =
           let reached : MayReach v (shard_of key) b node_kind =
@@ -231,9 +249,11 @@ module _ (n : Block) (v : View) (seat : IsSeat v) (held : Contains v.held n) whe
             less_trail b.first_word bs (own_link_followed v seat (shard_of key) (shard_below key) b trail.0 reached) trail.2,
           )
 
-      pub less_come : (table : Block) (before : List Block) → HasCome IsSettling v (shard_of key) key table before → HasCome IsSettling (without n v) (shard_of key) key table before
+      pub less_come : (table : Block) (before : List Block) → HasCome IsSettling v (shard_of key) key table before
+          → HasCome IsSettling (without n v) (shard_of key) key table before
       less_come table before come =
-          let reached : MayReach v (shard_of key) table (kind_of v (shard_of key)) = root_reach v (shard_of key) table (kind_of v (shard_of key)) (pointer_to table) come.owned refl
+          let reached : MayReach v (shard_of key) table (kind_of v (shard_of key)) =
+          root_reach v (shard_of key) table (kind_of v (shard_of key)) (pointer_to table) come.owned refl
           (seen_read v (root_word (shard_of key)) (pointer_to table) come.root.seen) (leads_held v table seat come.held_table) in
           record {
             owned = come.owned;
@@ -256,12 +276,16 @@ module _ (n : Block) (v : View) (seat : IsSeat v) (held : Contains v.held n) whe
       less_missing table is missing =
           record {
             come = less_come table [] missing.come;
-            none = λ map gives. same_map (without n v) less_seat (shard_of key) map is.map gives (less_gives (shard_of key) is.owned is.kind_is is.map is.gives) key ∙ missing.none is.map is.gives;
+            none = λ map gives. same_map (without n v) less_seat (shard_of key) map is.map gives
+                (less_gives (shard_of key) is.owned is.kind_is is.map is.gives) key ∙ missing.none is.map is.gives;
           }
 
       less_spot : (s : Spot) → (IsIn n (word_of s) → ⊥) → IsOwnSpot v s → IsOwnSpot (without n v) s
-      less_spot (InBlock b index) out own =
-          (less_held b own.0 (λ same. out (subst (λ (x : Block). IsIn x (b.first_word + index)) same (record { from = omega arith; until = let below = own.1 in omega arith }))), own.1)
+      less_spot (InBlock b index) out own = (
+        less_held b own.0 (λ same. out (subst (λ (x : Block). IsIn x (b.first_word + index)) same
+            (record { from = omega arith; until = let below = own.1 in omega arith }))),
+        own.1,
+      )
       less_spot (Root i) out own = own
 
       pub less_place : (place : Place) (next : ℕ) → IsReadPlace IsSettling v key place next → IsReadPlace IsSettling (without n v) key place next
@@ -285,9 +309,14 @@ module _ (n : Block) (v : View) (seat : IsSeat v) (held : Contains v.held n) whe
         out inside = elim (behind_is (taken.table.first_word + bucket_of key) taken.before) as (λ _. ⊥) [
           | inl only ↦
               is_it taken.table (word_of place.link) come.held_table
-              (subst (IsIn taken.table) (sym (taken.at_is ∙ only.1)) (record { from = omega arith; until = let below = bucket_below key in let size = taken.come.size in omega arith })) inside
+              (subst (IsIn taken.table) (sym (taken.at_is ∙ only.1)) (record {
+                from = omega arith;
+                until = let below = bucket_below key in
+                    let size = taken.come.size in omega arith;
+              })) inside
           | inr last ↦
-              let h = trail_held (IsSettling (without n v)) (without n v).held (taken.table.first_word + bucket_of key) (taken.before ++ (place.node ∷ [])) last.0 come.trail
+              let h = trail_held (IsSettling (without n v)) (without n v).held (taken.table.first_word + bucket_of key)
+              (taken.before ++ (place.node ∷ [])) last.0 come.trail
               (Contains-append_left taken.before (place.node ∷ []) last.0 last.1) in
               is_it last.0 (word_of place.link) h
               (subst (IsIn last.0) (sym (taken.at_is ∙ last.2)) (first_in (Contains v.held) (are_placed v seat) last.0 (less_was last.0 h))) inside

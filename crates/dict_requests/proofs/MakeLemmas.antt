@@ -26,7 +26,8 @@ room_for bytes words size = by_case (8 * words) size where
   by_case _ (of_class c least) = least.holds
   by_case _ (of_superblocks large) = omega arith
 
-module _ (bytes : ℕ) (b : Block) (v u t : View) (seat : IsSeat u) (allocates : Allocates bytes b v u) (small : ℕ) (within : StoresWithin b small u t) where
+module _ (bytes : ℕ) (b : Block) (v u t : View) (seat : IsSeat u) (allocates : Allocates bytes b v u) (small : ℕ)
+    (within : StoresWithin b small u t) where
   grown_first : Grown v u
   grown_first = grown_allocates bytes b v u allocates
 
@@ -37,7 +38,8 @@ module _ (bytes : ℕ) (b : Block) (v u t : View) (seat : IsSeat u) (allocates :
   grown_within = record {
     keeps = λ a h. stays_held u t within.held a (grown_first.keeps a h);
     roots = within.roots ∙ grown_first.roots;
-    words = λ word own. keeps_word_then v u t word (grown_first.words word own) (within.outside word (own_grown v u word grown_first own) (new_outside word own));
+    words = λ word own. keeps_word_then v u t word (grown_first.words word own)
+        (within.outside word (own_grown v u word grown_first own) (new_outside word own));
   }
 
   pub refusals_within : SameRefusals v t
@@ -57,13 +59,15 @@ module _ (bytes : ℕ) (b : Block) (v u t : View) (seat : IsSeat u) (allocates :
   }
 
   -- and the node is made
-  pub made : (key next : ℕ) (value : List ℕ) (w : View) → 3 + value_words (length value) ≤ b.words → WritesNode b key next value u t → KeepsOwn t w → Fences t w → SameRefusals t w
+  pub made : (key next : ℕ) (value : List ℕ) (w : View) → 3 + value_words (length value) ≤ b.words → WritesNode b key next value u t
+      → KeepsOwn t w → Fences t w → SameRefusals t w
       → MakesNode b key next value v w
   made key next value w room writes quiet fences refusals = record {
     runs = runs_then v t w (runs_then v u t allocates.runs writes.done.runs) fences.runs;
     new = allocates.blocks.new;
     held = subst (λ (bs : List Block). Contains bs b) (sym quiet.held) held_t;
-    only = λ a h. allocates.blocks.only a (subst (λ (bs : List Block). Contains bs a) (within.held) (subst (λ (bs : List Block). Contains bs a) quiet.held h));
+    only = λ a h. allocates.blocks.only a (subst (λ (bs : List Block). Contains bs a) (within.held)
+        (subst (λ (bs : List Block). Contains bs a) quiet.held h));
     room = room;
     settles = settles_all writes.done w quiet fences;
     written = record {
@@ -83,7 +87,8 @@ module _ (bytes : ℕ) (b : Block) (v u t : View) (seat : IsSeat u) (allocates :
         settles t w (b.first_word + i) x own (quiet.words (b.first_word + i) own) (record { each = fences.durable }) settling
 
 -- the calls of a request for a node, and of what is done behind it
-pub made_row : (bytes small few : ℕ) (v u w : View) → small ≤ few → IsLargeCall (span_of bytes) v u → IsRow small 0 0 u w → IsRow few 1 (span_of bytes) v w
+pub made_row : (bytes small few : ℕ) (v u w : View) → small ≤ few → IsLargeCall (span_of bytes) v u → IsRow small 0 0 u w
+    → IsRow few 1 (span_of bytes) v w
 made_row bytes small few v u w less large row =
     row_more (0 + small) (1 + 0) (span_of bytes + 0) few 1 (span_of bytes) v w (omega arith) (omega arith) (omega arith)
     (row_then 0 1 (span_of bytes) small 0 0 v u w (row_large (span_of bytes) v u large) row)

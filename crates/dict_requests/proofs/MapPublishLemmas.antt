@@ -39,12 +39,14 @@ trail_held reads held at (c ∷ bs) b trail h = elim (head_or_rest c b bs h) as 
 ]
 
 -- the link behind a trail is the seat's own
-pub behind_own : (reads : View → Reading) (v : View) (shard key : ℕ) (table : Block) (before : List Block) → IsSeat v → HasCome reads v shard key table before
+pub behind_own : (reads : View → Reading) (v : View) (shard key : ℕ) (table : Block) (before : List Block) → IsSeat v
+    → HasCome reads v shard key table before
     → IsOwn v.held v.roots (link_behind (table.first_word + bucket_of key) before)
 behind_own reads v shard key table before seat come =
     elim (behind_is (table.first_word + bucket_of key) before) as (λ _. IsOwn v.held v.roots (link_behind (table.first_word + bucket_of key) before)) [
       | inl only ↦ subst (IsOwn v.held v.roots) (sym only.1) (bucket_own v table (bucket_of key) come.held_table come.size (bucket_below key))
-      | inr last ↦ subst (IsOwn v.held v.roots) (sym last.2) (first_own v last.0 seat (trail_held (reads v) v.held (table.first_word + bucket_of key) before last.0 come.trail last.1))
+      | inr last ↦ subst (IsOwn v.held v.roots) (sym last.2) (first_own v last.0 seat
+          (trail_held (reads v) v.held (table.first_word + bucket_of key) before last.0 come.trail last.1))
     ]
 
 -- the first part of a trail is one
@@ -52,7 +54,8 @@ pub trail_left : (reads : Reading) (held : List Block) (at : ℕ) (xs ys : List 
 trail_left reads held at [] ys trail = tt
 trail_left reads held at (x ∷ xs) ys trail = (trail.0, trail.1, trail_left reads held x.first_word xs ys trail.2)
 
-pub come_left : (reads : View → Reading) (v : View) (shard key : ℕ) (table : Block) (xs ys : List Block) → HasCome reads v shard key table (xs ++ ys) → HasCome reads v shard key table xs
+pub come_left : (reads : View → Reading) (v : View) (shard key : ℕ) (table : Block) (xs ys : List Block)
+    → HasCome reads v shard key table (xs ++ ys) → HasCome reads v shard key table xs
 come_left reads v shard key table xs ys come = record {
   owned = come.owned;
   in_shard = come.in_shard;
@@ -69,11 +72,14 @@ pub record HoldsNode (image : Image) (shard key : ℕ) (value : List ℕ) (next 
   pub value_is : value_in image n ≡ value
   pub next_is : image n.first_word ≡ next
 
-module _ (u w : View) (seat : IsSeat u) (shard key : ℕ) (small : shard < shards) (map : Map) (gives : GivesMap u shard map) (table : Block) (before drop : List Block)
-    (come : HasCome IsDurableAt u shard key table (before ++ drop)) (p x y : ℕ) (at : p ≡ link_behind (table.first_word + bucket_of key) before) (was : IsDurableAt u p y)
+module _ (u w : View) (seat : IsSeat u) (shard key : ℕ) (small : shard < shards) (map : Map) (gives : GivesMap u shard map) (table : Block)
+    (before drop : List Block)
+    (come : HasCome IsDurableAt u shard key table (before ++ drop)) (p x y : ℕ) (at : p ≡ link_behind (table.first_word + bucket_of key) before)
+    (was : IsDurableAt u p y)
     (may : MayHaveStored p x u w) where
   own_p : IsOwn u.held u.roots p
-  own_p = subst (IsOwn u.held u.roots) (sym at) (behind_own IsDurableAt u shard key table before seat (come_left IsDurableAt u shard key table before drop come))
+  own_p = subst (IsOwn u.held u.roots) (sym at) (behind_own IsDurableAt u shard key table before seat
+      (come_left IsDurableAt u shard key table before drop come))
 
   -- a mixture afterwards, with the old value in the link, is one before
   pub old_mixes : (image : Image) → MixesOwn w image → MixesOwn u (put image p y)
@@ -88,7 +94,8 @@ module _ (u w : View) (seat : IsSeat u) (shard key : ℕ) (small : shard < shard
   old_along : (image : Image) → MixesOwn w image → IsAlong u (put image p y) shard key map table (before ++ drop)
   old_along image mixes =
       let old = old_mixes image mixes in
-      is_along IsDurableAt u (put image p y) seat shard key map table (before ++ drop) (settled_in u (put image p y) old) come (gives.each (put image p y) old)
+      is_along IsDurableAt u (put image p y) seat shard key map table (before ++ drop) (settled_in u (put image p y) old) come
+      (gives.each (put image p y) old)
 
   in_w : (image : Image) (other : Map) → IsMapIn u image shard other → IsMapIn w image shard other
   in_w image other is = subst (λ (held : List Block). IsMap (LeadsTo (Contains held)) image shard other) (sym may.held) is
@@ -105,17 +112,24 @@ module _ (u w : View) (seat : IsSeat u) (shard key : ℕ) (small : shard < shard
   -- so each mixture gives the one map or the other, and where the link is settled the other
   pub either : (other : Map) → ((image : Image) → MixesOwn w image → image p ≡ x → IsMapIn w image shard other) → GivesEither w shard map other
   either other new = record {
-    each = λ image mixes. elim (may.stored (image p) (mixes.each p (own_same u w p may.held may.roots own_p))) as (λ _. IsMapIn w image shard map ⊎ IsMapIn w image shard other) [
-      | inl stored ↦ inr (new image mixes stored)
-      | inr read ↦ inl (gives_old image mixes read)
-    ];
+    each = λ image mixes. elim (may.stored (image p) (mixes.each p (own_same u w p may.held may.roots own_p))) as
+        (λ _. IsMapIn w image shard map ⊎ IsMapIn w image shard other) [
+          | inl stored ↦ inr (new image mixes stored)
+          | inr read ↦ inl (gives_old image mixes read)
+        ];
   }
 
-  pub exactly : (other : Map) → ((image : Image) → MixesOwn w image → image p ≡ x → IsMapIn w image shard other) → IsDurableAt w p x → GivesMap w shard other
-  exactly other new settled = record { each = λ image mixes. new image mixes (settled_in w image mixes p x (own_same u w p may.held may.roots own_p) settled) }
+  pub exactly : (other : Map) → ((image : Image) → MixesOwn w image → image p ≡ x → IsMapIn w image shard other) → IsDurableAt w p x
+      → GivesMap w shard other
+  exactly other new settled = record {
+    each = λ image mixes. new image mixes
+        (settled_in w image mixes p x (own_same u w p may.held may.roots own_p) settled);
+  }
 
-  module _ (n : Block) (value : List ℕ) (next : ℕ) (n_held : Contains u.held n) (apart : n ≢ table) (free : IsIn n p → ⊥) (outside : (word : ℕ) → IsIn n word → word ≢ p)
-      (is_node : (image : Image) → MixesOwn u image → HoldsNode image shard key value next n) (points : x ≡ pointer_to n) (link : IsDurableAt u (link_behind p drop) next)
+  module _ (n : Block) (value : List ℕ) (next : ℕ) (n_held : Contains u.held n) (apart : n ≢ table) (free : IsIn n p → ⊥) (outside : (word : ℕ)
+      → IsIn n word → word ≢ p)
+      (is_node : (image : Image) → MixesOwn u image → HoldsNode image shard key value next n) (points : x ≡ pointer_to n)
+      (link : IsDurableAt u (link_behind p drop) next)
       (own_next : IsOwn u.held u.roots (link_behind p drop)) where
     put_in : (image : Image) (mixes : MixesOwn w image) (along : IsAlong u (put image p y) shard key map table (before ++ drop)) → image p ≡ x
         → find (put image p y) key (before ++ along.rest) ≡ None → ((b : Block) → Contains drop b → key_in (put image p y) b ≡ key)
@@ -128,10 +142,12 @@ module _ (u w : View) (seat : IsSeat u) (shard key : ℕ) (small : shard < shard
         let first : image n.first_word ≡ next =
         (same_but_put image p y).each n.first_word (outside n.first_word (first_in (Contains u.held) (are_placed u seat) n n_held)) ∙ is.next_is in
         in_w image (with_key map key value)
-        (put_node (Contains u.held) (are_placed u seat) (put image p y) image p shard (bucket_of key) small (same_but_put image p y) table along.nodes before drop along.rest (n ∷ [])
+        (put_node (Contains u.held) (are_placed u seat) (put image p y) image p shard (bucket_of key) small
+        (same_but_put image p y) table along.nodes before drop along.rest (n ∷ [])
         along.there along.chains (bucket_below key) (along.is ∙ append_assoc before drop along.rest) at n key value n_held apart
         (subst (λ v. LeadsTo (Contains u.held) v n) (sym (stored ∙ points)) (leads_held u n seat n_held))
-        (first ∙ sym (settled_in u (put image p y) old (link_behind p drop) next own_next link)) moved.0 (moved.1.key ∙ is.key_is) (moved.1.value ∙ is.value_is) refl none dropped map along.means)
+        (first ∙ sym (settled_in u (put image p y) old (link_behind p drop) next own_next link)) moved.0 (moved.1.key ∙ is.key_is)
+        (moved.1.value ∙ is.value_is) refl none dropped map along.means)
 
     -- a key that wasn't there
     pub put_new : drop ≡ [] → map key ≡ None → (image : Image) → MixesOwn w image → image p ≡ x → IsMapIn w image shard (with_key map key value)
@@ -150,13 +166,17 @@ module _ (u w : View) (seat : IsSeat u) (shard key : ℕ) (small : shard < shard
         let along = old_along image mixes in
         let k = bucket_of key in
         let key_is : key_in (put image p y) b ≡ key = settled_in u (put image p y) (old_mixes image mixes) (b.first_word + 1) key own key_there in
-        let all : along.nodes k ≡ before ++ (b ∷ along.rest) = along.is ∙ ap (λ (ds : List Block). (before ++ ds) ++ along.rest) one ∙ append_assoc before (b ∷ []) along.rest in
+        let all : along.nodes k ≡ before ++ (b ∷ along.rest) = along.is ∙ ap (λ (ds : List Block). (before ++ ds) ++ along.rest) one
+        ∙ append_assoc before (b ∷ []) along.rest in
         let path : IsPath (but table (LeadsTo (Contains u.held))) (put image p y) shard k (table.first_word + k) (before ++ (b ∷ along.rest)) =
-        subst (λ (bs : List Block). IsPath (but table (LeadsTo (Contains u.held))) (put image p y) shard k (table.first_word + k) bs) all (along.chains k (bucket_below key)).path in
-        let behind = (path_right (but table (LeadsTo (Contains u.held))) (put image p y) shard k (table.first_word + k) before (b ∷ along.rest) path).2 in
+        subst (λ (bs : List Block). IsPath (but table (LeadsTo (Contains u.held))) (put image p y) shard k (table.first_word + k) bs) all
+        (along.chains k (bucket_below key)).path in
+        let behind = (path_right (but table (LeadsTo (Contains u.held))) (put image p y) shard k (table.first_word + k) before
+        (b ∷ along.rest) path).2 in
         let ahead = none_of (put image p y) key before (λ c h e.
         not_of (put image p y) (key_in (put image p y) c) (b ∷ along.rest) b
-        (path_cross (but table (LeadsTo (Contains u.held))) (put image p y) shard k (table.first_word + k) before (b ∷ along.rest) c path h) (in_head b along.rest) (key_is ∙ sym e)) in
+        (path_cross (but table (LeadsTo (Contains u.held))) (put image p y) shard k (table.first_word + k) before (b ∷ along.rest) c path h)
+        (in_head b along.rest) (key_is ∙ sym e)) in
         put_in image mixes along stored
         (find_in_none (put image p y) key before along.rest ahead (ap (λ q. find (put image p y) q along.rest) (sym key_is) ∙ behind))
         (λ c h. elim (head_or_rest b c [] (subst (λ (bs : List Block). Contains bs c) one h)) as (λ _. key_in (put image p y) c ≡ key) [
@@ -174,6 +194,7 @@ module _ (u w : View) (seat : IsSeat u) (shard key : ℕ) (small : shard < shard
       let key_is : key_in (put image p y) b ≡ key = settled_in u (put image p y) old (b.first_word + 1) key own key_there in
       in_w image (without_key map key)
       (subst (λ q. IsMap (LeadsTo (Contains u.held)) image shard (without_key map q)) key_is
-      (take_node (Contains u.held) (are_placed u seat) (put image p y) image p shard (bucket_of key) small (same_but_put image p y) table along.nodes before drop along.rest []
+      (take_node (Contains u.held) (are_placed u seat) (put image p y) image p shard (bucket_of key) small
+      (same_but_put image p y) table along.nodes before drop along.rest []
       along.there along.chains (bucket_below key) (along.is ∙ append_assoc before drop along.rest) at b
       (stored ∙ sym (settled_in u (put image p y) old b.first_word x own_first next)) one refl map along.means))

@@ -38,7 +38,8 @@ value_same image other b same fits =
     ∙ ap (λ (ws : List ℕ). take (length_in image b) (bytes_of_words ws)) words
 
 -- another view of which no more may be read
-pub node_carried : (v w : View) (b : Block) (value : List ℕ) → ((word x : ℕ) → IsIn b word → b.first_word + 2 ≤ word → MayRead w word x → MayRead v word x)
+pub node_carried : (v w : View) (b : Block) (value : List ℕ) → ((word x : ℕ) → IsIn b word → b.first_word + 2 ≤ word → MayRead w word x
+    → MayRead v word x)
     → IsNodeOf v b value → IsNodeOf w b value
 node_carried v w b value before node = record { short = node.short; fits = node.fits; each = by_image } where
   by_image : (image : Image) → MixesBlock (known_of w) b image → value_in image b ≡ value
@@ -53,17 +54,20 @@ node_carried v w b value before node = record { short = node.short; fits = node.
       (subst (λ n. 3 + value_words n ≤ b.words) (sym len) node.fits) ∙ there
 
 -- so over calls that don't store to its words
-pub node_kept : (v w : View) (b : Block) (value : List ℕ) → ((word : ℕ) → IsIn b word → b.first_word + 2 ≤ word → KeepsWord v w word) → IsNodeOf v b value → IsNodeOf w b value
+pub node_kept : (v w : View) (b : Block) (value : List ℕ) → ((word : ℕ) → IsIn b word → b.first_word + 2 ≤ word → KeepsWord v w word)
+    → IsNodeOf v b value → IsNodeOf w b value
 node_kept v w b value keeps = node_carried v w b value (λ word x inside behind may. read_before v w word x (keeps word inside behind) may)
 
 -- a key's node whose place is settled has the map's value
-module _ (u : View) (seat : IsSeat u) (key : ℕ) (place : Place) (next : ℕ) (taken : IsReadPlace IsDurableAt u key place next) (held : Contains u.held place.node) where
+module _ (u : View) (seat : IsSeat u) (key : ℕ) (place : Place) (next : ℕ) (taken : IsReadPlace IsDurableAt u key place next)
+    (held : Contains u.held place.node) where
   pub has_value : (map : Map) → GivesMap u (shard_of key) map → (image : Image) → MixesOwn u image
       → (map key ≡ Some (value_in image place.node)) × IsNode image (shard_of key) (bucket_of key) place.node
   has_value map gives image mixes =
       let node = place.node in
       let room = taken.room in
-      let key_is : key_in image node ≡ key = settled_in u image mixes (node.first_word + 1) key (in_block node (node.first_word + 1) held (record { from = omega arith; until = omega arith })) taken.key_is in
+      let key_is : key_in image node ≡ key = settled_in u image mixes (node.first_word + 1) key
+      (in_block node (node.first_word + 1) held (record { from = omega arith; until = omega arith })) taken.key_is in
       come_is IsDurableAt u image key taken.table taken.before node seat (settled_in u image mixes) taken.come key_is map (gives.each image mixes)
 
   pub node_there : (map : Map) → GivesMap u (shard_of key) map → IsNodeOf u place.node (value_in (now_image u) place.node)
@@ -86,15 +90,18 @@ module _ (u : View) (seat : IsSeat u) (key : ℕ) (place : Place) (next : ℕ) (
         readable_same u image word (mixes word (record { from = omega arith; until = high }))) there.1.fits ∙ same
 
 -- and keeps it where it is taken out
-module _ (v u w : View) (key : ℕ) (place : Place) (next : ℕ) (seat : IsSeat u) (shard : IsShard v (shard_of key)) (grown : Grown v u) (kinds : u.kinds ≡ v.kinds) (taken : IsReadPlace IsDurableAt u key place next)
-    (may : MayHaveStored (word_of place.link) next u w) (kinds_w : w.kinds ≡ u.kinds) (seat_w : IsSeat w) (settled : IsDurableAt w (word_of place.link) next) where
+module _ (v u w : View) (key : ℕ) (place : Place) (next : ℕ) (seat : IsSeat u) (shard : IsShard v (shard_of key)) (grown : Grown v u)
+    (kinds : u.kinds ≡ v.kinds) (taken : IsReadPlace IsDurableAt u key place next)
+    (may : MayHaveStored (word_of place.link) next u w) (kinds_w : w.kinds ≡ u.kinds) (seat_w : IsSeat w)
+    (settled : IsDurableAt w (word_of place.link) next) where
   pub taken_out : Contains v.held place.node → IsTakenOut key place.node v w
   taken_out was =
       let still = shard_grown v u (shard_of key) seat grown kinds shard in
       let held = grown.keeps place.node was in
       record {
         value = value_in (now_image u) place.node;
-        had = λ map gives. (has_value u seat key place next taken held map (gives_grown v u grown (shard_of key) map gives) (now_image u) (now_completes u).mixes).0;
+        had = λ map gives. (has_value u seat key place next taken held map (gives_grown v u grown (shard_of key) map gives) (now_image u)
+            (now_completes u).mixes).0;
         gives = (left_unlinked v u key place next seat shard grown kinds taken w may kinds_w settled).gives;
         was = was;
         reached = (
@@ -104,12 +111,14 @@ module _ (v u w : View) (key : ℕ) (place : Place) (next : ℕ) (seat : IsSeat 
         );
         loose = left_loose v u key place next seat shard grown kinds taken w may kinds_w seat_w settled;
         node = node_kept u w place.node (value_in (now_image u) place.node)
-            (λ word inside behind. may.others word (in_block place.node word held inside) (outside u seat key place next taken still.map still.gives still.kind_is word inside))
+            (λ word inside behind. may.others word (in_block place.node word held inside)
+            (outside u seat key place next taken still.map still.gives still.kind_is word inside))
             (node_there u seat key place next taken held still.map still.gives);
       }
 
 -- over quiet calls before
-pub taken_behind : (v u w : View) (key : ℕ) (b : Block) → KeepsOwn v u → u.kinds ≡ v.kinds → IsSeat u → ReachesOnlyHeld v → IsTakenOut key b u w → IsTakenOut key b v w
+pub taken_behind : (v u w : View) (key : ℕ) (b : Block) → KeepsOwn v u → u.kinds ≡ v.kinds → IsSeat u → ReachesOnlyHeld v → IsTakenOut key b u w
+    → IsTakenOut key b v w
 taken_behind v u w key b keeps kinds seat only out = record {
   value = out.value;
   had = λ map gives. out.had map (gives_grown v u (grown_keeps v u keeps) (shard_of key) map gives);

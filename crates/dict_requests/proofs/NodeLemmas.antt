@@ -19,7 +19,8 @@ use Rattle.dict_requests.proofs.GrownLemmas.{keeps_none}
 use Rattle.dict_requests.proofs.TrailLemmas.{settles, settling_stays}
 
 -- a store, then its write-back
-pub writes : (b : Block) (index value : ℕ) (v u w : View) → IsOwnSpot v (InBlock b index) → MayHaveStored (b.first_word + index) value v u → Stores (b.first_word + index) value v u
+pub writes : (b : Block) (index value : ℕ) (v u w : View) → IsOwnSpot v (InBlock b index) → MayHaveStored (b.first_word + index) value v u
+    → Stores (b.first_word + index) value v u
     → KeepsOwn u w → WritesBack (InBlock b index) u w → Writes (b.first_word + index) value v w
 writes b index value v u w own may stored keeps written =
     let word = b.first_word + index in
@@ -53,7 +54,8 @@ within_then b m n k v u w few p q = record {
 }
 
 -- a word of the block that may be stored to
-pub within_word : (b : Block) (word value : ℕ) (v w : View) → IsIn b word → MayHaveStored word value v w → IsRow 2 0 0 v w → SameRefusals v w → StoresWithin b 2 v w
+pub within_word : (b : Block) (word value : ℕ) (v w : View) → IsIn b word → MayHaveStored word value v w → IsRow 2 0 0 v w → SameRefusals v w
+    → StoresWithin b 2 v w
 within_word b word value v w inside may row refusals = record {
   held = may.held;
   roots = may.roots;
@@ -72,7 +74,8 @@ pub pending_then : (b : Block) (v u w : View) → KeepsPendingBut b v u → Keep
 pending_then b v u w p q = record { runs = runs_then v u w p.runs q.runs; pending = λ word out h. q.pending word out (p.pending word out h) }
 
 -- what was settling before another word was written is so still
-pub settling_over : (v w : View) (word value other stored : ℕ) → word ≢ other → IsOwn v.held v.roots word → MayHaveStored other stored v w → Writes other stored v w → IsSettling v word value → IsSettling w word value
+pub settling_over : (v w : View) (word value other stored : ℕ) → word ≢ other → IsOwn v.held v.roots word → MayHaveStored other stored v w
+    → Writes other stored v w → IsSettling v word value → IsSettling w word value
 settling_over v w word value other stored differs own may writes settling =
     settling_stays v w word value (may.others word own differs) (λ h. inl (writes.pending word differs h)) settling
 
@@ -86,7 +89,8 @@ module _ (b : Block) (value : List ℕ) (count : ℕ) (v u w : View) (held : Con
   within_more m k few before row refusals =
       within_then b m 2 k v u w few before (within_word b (b.first_word + (3 + count)) (image_of_bytes value count) u w is_in may row refusals)
 
-  pub writing_more : IsWriting b value count v u → Writes (b.first_word + (3 + count)) (image_of_bytes value count) u w → IsRow 2 0 0 u w → SameRefusals u w
+  pub writing_more : IsWriting b value count v u → Writes (b.first_word + (3 + count)) (image_of_bytes value count) u w → IsRow 2 0 0 u w
+      → SameRefusals u w
       → IsWriting b value (count + 1) v w
   writing_more writing write row refusals = record {
     within = within_more (2 * count) (2 * (count + 1)) (omega arith) writing.within row refusals;
@@ -98,7 +102,8 @@ module _ (b : Block) (value : List ℕ) (count : ℕ) (v u w : View) (held : Con
       | inl last ↦ subst (λ j. IsSettling w (b.first_word + (3 + j)) (image_of_bytes value j)) (sym last) write.settling
       | inr other ↦
           let less : i < count = omega arith in
-          settling_over u w (b.first_word + (3 + i)) (image_of_bytes value i) (b.first_word + (3 + count)) (image_of_bytes value count) (λ e. other (omega arith))
+          settling_over u w (b.first_word + (3 + i)) (image_of_bytes value i) (b.first_word + (3 + count)) (image_of_bytes value count)
+          (λ e. other (omega arith))
           (in_block b (b.first_word + (3 + i)) held (record { from = omega arith; until = omega arith })) may write (writing.words i less)
     ];
   } where
@@ -112,7 +117,8 @@ writing_start b value v = record { within = within_none b v; done = inl refl; wo
 module _ (b : Block) (key next : ℕ) (value : List ℕ) (v u t s w : View) (held : Contains v.held b) (room : 3 + value_words (length value) ≤ b.words)
     (within : StoresWithin b (2 * value_words (length value)) v u) (may_length : MayHaveStored (b.first_word + 2) (length value) u t) where
   own_at : (x : View) → x.held ≡ v.held → x.roots ≡ v.roots → (i : ℕ) → i < 3 + value_words (length value) → IsOwn x.held x.roots (b.first_word + i)
-  own_at x h r i less = in_block b (b.first_word + i) (subst (λ (bs : List Block). Contains bs b) (sym h) held) (record { from = omega arith; until = omega arith })
+  own_at x h r i less = in_block b (b.first_word + i) (subst (λ (bs : List Block). Contains bs b) (sym h) held)
+      (record { from = omega arith; until = omega arith })
 
   in_at : (i : ℕ) → i < 3 → IsIn b (b.first_word + i)
   in_at i less = record { from = omega arith; until = omega arith }
@@ -131,13 +137,15 @@ module _ (b : Block) (key next : ℕ) (value : List ℕ) (v u t s w : View) (hel
       within_next row refusals = within_then b (2 * value_words (length value) + 4) 2 (2 * value_words (length value) + 6) v s w (omega arith) within_s
           (within_word b (b.first_word + 0) next s w (in_at 0 (omega arith)) may_next row refusals)
 
-      pub node_written : WritesValue b value v u → Writes (b.first_word + 2) (length value) u t → Writes (b.first_word + 1) key t s → Writes (b.first_word + 0) next s w
+      pub node_written : WritesValue b value v u → Writes (b.first_word + 2) (length value) u t → Writes (b.first_word + 1) key t s
+          → Writes (b.first_word + 0) next s w
           → WritesNode b key next value v w
       node_written first second third last = record {
         done = pending_then b v s w
             (pending_then b v t s
             (elim first.done as (λ _. KeepsPendingBut b v t) [
-              | inl same ↦ subst (λ (x : View). KeepsPendingBut b x t) same (pending_word b (b.first_word + 2) (length value) u t (in_at 2 (omega arith)) second)
+              | inl same ↦ subst (λ (x : View). KeepsPendingBut b x t) same
+                  (pending_word b (b.first_word + 2) (length value) u t (in_at 2 (omega arith)) second)
               | inr before ↦ pending_then b v u t before (pending_word b (b.first_word + 2) (length value) u t (in_at 2 (omega arith)) second)
             ])
             (pending_word b (b.first_word + 1) key t s (in_at 1 (omega arith)) third))
@@ -155,14 +163,17 @@ module _ (b : Block) (key next : ℕ) (value : List ℕ) (v u t s w : View) (hel
       } where
         over_key : (i x : ℕ) → 2 ≤ i → i < 3 + value_words (length value) → IsSettling t (b.first_word + i) x → IsSettling s (b.first_word + i) x
         over_key i x from less settling =
-            settling_over t s (b.first_word + i) x (b.first_word + 1) key (λ e. omega arith) (own_at t within_t.held within_t.roots i less) may_key third settling
+            settling_over t s (b.first_word + i) x (b.first_word + 1) key (λ e. omega arith)
+            (own_at t within_t.held within_t.roots i less) may_key third settling
 
         over_next : (i x : ℕ) → 1 ≤ i → i < 3 + value_words (length value) → IsSettling s (b.first_word + i) x → IsSettling w (b.first_word + i) x
         over_next i x from less settling =
-            settling_over s w (b.first_word + i) x (b.first_word + 0) next (λ e. omega arith) (own_at s within_s.held within_s.roots i less) may_next last settling
+            settling_over s w (b.first_word + i) x (b.first_word + 0) next (λ e. omega arith)
+            (own_at s within_s.held within_s.roots i less) may_next last settling
 
 -- one more null word of a block
-module _ (b : Block) (count : ℕ) (v u w : View) (held : Contains u.held b) (inside : count < b.words) (may : MayHaveStored (b.first_word + count) 0 u w) where
+module _ (b : Block) (count : ℕ) (v u w : View) (held : Contains u.held b) (inside : count < b.words)
+    (may : MayHaveStored (b.first_word + count) 0 u w) where
   pub clear_more : (k : ℕ) → 2 * count + 2 ≤ k → IsClearing b count v u → IsRow 2 0 0 u w → SameRefusals u w → StoresWithin b k v w
   clear_more k few before row refusals = within_then b (2 * count) 2 k v u w few before.within
       (within_word b (b.first_word + count) 0 u w (record { from = omega arith; until = omega arith }) may row refusals)
@@ -189,10 +200,12 @@ pub clearing_start : (b : Block) (v : View) → IsClearing b 0 v v
 clearing_start b v = record { within = within_none b v; done = inl refl; nulls = λ i below. absurd (omega arith) }
 
 -- link and key of a node that is there, and a fence behind them
-module _ (b : Block) (key next : ℕ) (v t s w : View) (held : Contains v.held b) (room : 3 ≤ b.words) (may_key : MayHaveStored (b.first_word + 1) key v t)
+module _ (b : Block) (key next : ℕ) (v t s w : View) (held : Contains v.held b) (room : 3 ≤ b.words)
+    (may_key : MayHaveStored (b.first_word + 1) key v t)
     (may_next : MayHaveStored (b.first_word + 0) next t s) (keeps : KeepsOwn s w) where
   own_in : (x : View) → x.held ≡ v.held → (i : ℕ) → i < 2 → IsOwn x.held x.roots (b.first_word + i)
-  own_in x h i less = in_block b (b.first_word + i) (subst (λ (bs : List Block). Contains bs b) (sym h) held) (record { from = omega arith; until = omega arith })
+  own_in x h i less = in_block b (b.first_word + i) (subst (λ (bs : List Block). Contains bs b) (sym h) held)
+      (record { from = omega arith; until = omega arith })
 
   pub head_written : Writes (b.first_word + 1) key v t → Writes (b.first_word + 0) next t s → Fences s w → WritesHead b key next v w
   head_written first second fences = record {
@@ -203,7 +216,8 @@ module _ (b : Block) (key next : ℕ) (v t s w : View) (held : Contains v.held b
         fences.durable word (own_same t s word may_next.held may_next.roots (own_same v t word may_key.held may_key.roots own)) both;
     next_is = settled 0 next (omega arith) second.settling;
     key_is = settled 1 key (omega arith)
-        (settling_over t s (b.first_word + 1) key (b.first_word + 0) next (λ e. omega arith) (own_in t may_key.held 1 (omega arith)) may_next second first.settling);
+        (settling_over t s (b.first_word + 1) key (b.first_word + 0) next (λ e. omega arith)
+        (own_in t may_key.held 1 (omega arith)) may_next second first.settling);
   } where
     settled : (i x : ℕ) → i < 2 → IsSettling s (b.first_word + i) x → IsDurableAt w (b.first_word + i) x
     settled i x less settling =

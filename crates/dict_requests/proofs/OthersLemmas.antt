@@ -32,7 +32,11 @@ module _ (v w : View) (shard other : ℕ) (seat : IsSeat v) (only : ReachesOnlyH
   limit word c = LeadsTo (Contains v.held) word c × ((kind : ℕ) × MayReach v other c kind)
 
   kept_placed : ArePlaced kept
-  kept_placed = record { apart = λ a c ha hc. seat.apart a c ha.0 hc.0; behind = λ a ha. (seat.placed a ha.0).behind; some = λ a ha. (seat.placed a ha.0).some }
+  kept_placed = record {
+    apart = λ a c ha hc. seat.apart a c ha.0 hc.0;
+    behind = λ a ha. (seat.placed a ha.0).behind;
+    some = λ a ha. (seat.placed a ha.0).some;
+  }
 
   unreached : (c : Block) → kept c → (kind : ℕ) → MayReach v shard c kind → ⊥
   unreached c h kind reached = only.alone shard other c kind h.1.0 small (λ e. differs (sym e)) reached h.1.1
@@ -57,8 +61,10 @@ module _ (v w : View) (shard other : ℕ) (seat : IsSeat v) (only : ReachesOnlyH
     by_image : (image : Image) → MixesOwn w image → IsMapIn w image other map
     by_image image mixes =
         let first : IsMap limit (readable v image) other map = map_wider (LeadsTo (Contains v.held)) limit (readable v image) other map
-        (λ word c used leads. (leads, used_reached v other root_is owned seat (readable v image) (readable_mixes v image) c used)) (gives.each (readable v image) (readable_mixes v image)) in
-        let second : IsMap limit image other map = map_stays kept kept_placed limit (λ word c leads. (leads.0.0, leads.1)) (readable v image) image other
+        (λ word c used leads. (leads, used_reached v other root_is owned seat (readable v image) (readable_mixes v image) c used))
+        (gives.each (readable v image) (readable_mixes v image)) in
+        let second : IsMap limit image other map = map_stays kept kept_placed limit (λ word c leads. (leads.0.0, leads.1))
+        (readable v image) image other
         (same_root image mixes) (same_inside image mixes) map first in
         map_wider limit (LeadsTo (Contains w.held)) image other map (λ word c used leads. (stays c (leads.0.0, leads.1), leads.0.1)) second
 
@@ -83,7 +89,13 @@ module _ (v w : View) (shard : ℕ) (may : Map → Map) (seat : IsSeat v) (small
       map = after is.map;
       gives = subst (λ n. GivesMap w n (after is.map)) (sym same) (changes.gives is.map (subst (λ n. GivesMap v n is.map) same is.gives));
     }
-    | inr differs ↦ record { owned = owned_on other is.owned; kind_is = kind_on other is.kind_is; only = change.only; map = is.map; gives = others_give other is.map differs is is.gives }
+    | inr differs ↦ record {
+      owned = owned_on other is.owned;
+      kind_is = kind_on other is.kind_is;
+      only = change.only;
+      map = is.map;
+      gives = others_give other is.map differs is is.gives;
+    }
   ]
 
   pub shards_on : (after : Map → Map) → HasShards v → Changes shard after v w → HasShards w

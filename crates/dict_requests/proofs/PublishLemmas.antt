@@ -23,7 +23,8 @@ use Rattle.dict_requests.proofs.GrownLemmas.{are_placed, stays_held, kind_kept, 
 -- the word is a link that the root may be followed to, and what it leads to is of the kind
 pub data IsLinkOf (u : View) (shard : ℕ) (p : ℕ) : ℕ → Type 0 where
   is_root : Contains u.roots shard → p ≡ root_word shard → IsLinkOf u shard p (kind_of u shard)
-  is_link : (a : Block) (from position kind : ℕ) → MayReach u shard a from → IsLink from a.words position kind → p ≡ a.first_word + position → IsLinkOf u shard p kind
+  is_link : (a : Block) (from position kind : ℕ) → MayReach u shard a from → IsLink from a.words position kind → p ≡ a.first_word + position
+      → IsLinkOf u shard p kind
 
 -- a block that nothing reaches yet, and whose links are null or lead to what the root may reach
 pub record IsFresh (u : View) (shard : ℕ) (n : Block) (kind : ℕ) : Type 0 where
@@ -56,14 +57,16 @@ put_mixes u image p y may mixes = record {
   ];
 }
 
-module _ (u w : View) (shard p x kind : ℕ) (seat : IsSeat u) (small : shard < shards) (may : MayHaveStored p x u w) (kinds : w.kinds ≡ u.kinds) (only : ReachesOnlyHeld u)
+module _ (u w : View) (shard p x kind : ℕ) (seat : IsSeat u) (small : shard < shards) (may : MayHaveStored p x u w) (kinds : w.kinds ≡ u.kinds)
+    (only : ReachesOnlyHeld u)
     (link : IsLinkOf u shard p kind) (publish : MayPublish u shard x kind) where
   -- the link is the seat's own
   own_link : IsOwn u.held u.roots p
   own_link = by_case kind link where
     by_case : (k : ℕ) → IsLinkOf u shard p k → IsOwn u.held u.roots p
     by_case _ (is_root owned at) = in_root shard p owned at
-    by_case _ (is_link a from position k reached is at) = subst (IsOwn u.held u.roots) (sym at) (link_own u a from position k (reached_held u shard a from reached) is)
+    by_case _ (is_link a from position k reached is at) = subst (IsOwn u.held u.roots) (sym at)
+        (link_own u a from position k (reached_held u shard a from reached) is)
 
   held_back : (b : Block) → Contains w.held b → Contains u.held b
   held_back b h = subst (λ (bs : List Block). Contains bs b) may.held h
@@ -77,7 +80,8 @@ module _ (u w : View) (shard p x kind : ℕ) (seat : IsSeat u) (small : shard < 
         let behind = (seat.placed a (reached_held u shard a from reached)).behind in
         let below = seat.roots_are root owned in absurd (omega arith)
 
-  pub link_at_link : (root : ℕ) (a : Block) (from position to : ℕ) → MayReach u root a from → IsLink from a.words position to → a.first_word + position ≡ p → (root ≡ shard) × (to ≡ kind)
+  pub link_at_link : (root : ℕ) (a : Block) (from position to : ℕ) → MayReach u root a from → IsLink from a.words position to
+      → a.first_word + position ≡ p → (root ≡ shard) × (to ≡ kind)
   link_at_link root a from position to reached is at = by_case kind link where
     by_case : (k : ℕ) → IsLinkOf u shard p k → (root ≡ shard) × (to ≡ k)
     by_case _ (is_root owned at') =
@@ -87,7 +91,8 @@ module _ (u w : View) (shard p x kind : ℕ) (seat : IsSeat u) (small : shard < 
         (subst (IsIn a) at (link_in a from position to is)) (subst (IsIn h) (sym at') (link_in h from' position' k is')) in
         let one : root ≡ shard = elim (cases_eq root shard) as (λ _. root ≡ shard) [
           | inl e ↦ e
-          | inr differs ↦ absurd (only.alone shard root h from' from small (λ e. differs (sym e)) reached' (subst (λ (b : Block). MayReach u root b from) same reached))
+          | inr differs ↦ absurd (only.alone shard root h from' from small (λ e. differs (sym e)) reached'
+              (subst (λ (b : Block). MayReach u root b from) same reached))
         ] in
         (one, link_to from a.words position to is ∙ sym (link_to from' h.words position' k is'))
 
@@ -114,7 +119,8 @@ module _ (u w : View) (shard p x kind : ℕ) (seat : IsSeat u) (small : shard < 
     by_case (no_block e) = absurd (not_null x (8 * b.first_word) leads.1 e)
     by_case (old f to_f reached) =
         let same = (held_once (Contains u.held) (are_placed u seat)).one x f b to_f leads in
-        inl (subst (λ r. MayReach u r b k) (sym is_shard) (subst (λ j. MayReach u shard b j) (sym is_kind) (subst (λ (c : Block). MayReach u shard c kind) same reached)))
+        inl (subst (λ r. MayReach u r b k) (sym is_shard) (subst (λ j. MayReach u shard b j) (sym is_kind)
+        (subst (λ (c : Block). MayReach u shard c kind) same reached)))
     by_case (new n to_n fresh) =
         let same = (held_once (Contains u.held) (are_placed u seat)).one x n b to_n leads in
         inr (is_shard, record { leads = leads; kind_is = is_kind; fresh = subst (λ (c : Block). IsFresh u shard c kind) same fresh })
@@ -129,35 +135,40 @@ module _ (u w : View) (shard p x kind : ℕ) (seat : IsSeat u) (small : shard < 
         let kind_is = start.kind_is ∙ kind_kept u w root kinds in
         let before = λ (read : MayRead u (root_word root) start.value). root_reach u root b k start.value owned kind_is read leads in
         elim (cases_eq (root_word root) p) as (λ _. MayReach u root b k ⊎ ((root ≡ shard) × IsNew b k)) [
-          | inl at ↦ elim (may.stored start.value (subst (λ q. MayRead w q start.value) at start.read)) as (λ _. MayReach u root b k ⊎ ((root ≡ shard) × IsNew b k)) [
-            | inl stored ↦
-                let is = root_at_link root owned at in
-                by_value b k root is.0 (kind_is ∙ is.1) (subst (λ v. LeadsTo (Contains u.held) v b) stored leads)
-            | inr read ↦ inl (before (subst (λ q. MayRead u q start.value) (sym at) read))
-          ]
-          | inr other ↦ inl (before (read_before u w (root_word root) start.value (may.others (root_word root) (in_root root (root_word root) owned refl) other) start.read))
+          | inl at ↦ elim (may.stored start.value (subst (λ q. MayRead w q start.value) at start.read)) as
+              (λ _. MayReach u root b k ⊎ ((root ≡ shard) × IsNew b k)) [
+                | inl stored ↦
+                    let is = root_at_link root owned at in
+                    by_value b k root is.0 (kind_is ∙ is.1) (subst (λ v. LeadsTo (Contains u.held) v b) stored leads)
+                | inr read ↦ inl (before (subst (λ q. MayRead u q start.value) (sym at) read))
+              ]
+          | inr other ↦ inl (before (read_before u w (root_word root) start.value
+              (may.others (root_word root) (in_root root (root_word root) owned refl) other) start.read))
         ]
 
-    from_link : (a b : Block) (from k : ℕ) → MayReach w root a from → MayReach u root a from ⊎ ((root ≡ shard) × IsNew a from) → LinkReaches (MayRead w) w a from b k
+    from_link : (a b : Block) (from k : ℕ) → MayReach w root a from → MayReach u root a from ⊎ ((root ≡ shard) × IsNew a from)
+        → LinkReaches (MayRead w) w a from b k
         → MayReach u root b k ⊎ ((root ≡ shard) × IsNew b k)
     from_link a b from k reached (inl has) l =
         let leads : LeadsTo (Contains u.held) l.value b = (held_back b l.leads.0, l.leads.1) in
         let before = λ (read : MayRead u (a.first_word + l.position) l.value).
         link_reach u root a b from l.position k l.value has l.is_link read leads in
         elim (cases_eq (a.first_word + l.position) p) as (λ _. MayReach u root b k ⊎ ((root ≡ shard) × IsNew b k)) [
-          | inl at ↦ elim (may.stored l.value (subst (λ q. MayRead w q l.value) at l.read)) as (λ _. MayReach u root b k ⊎ ((root ≡ shard) × IsNew b k)) [
-            | inl stored ↦
-                let is = link_at_link root a from l.position k has l.is_link at in
-                by_value b k root is.0 is.1 (subst (λ v. LeadsTo (Contains u.held) v b) stored leads)
-            | inr read ↦ inl (before (subst (λ q. MayRead u q l.value) (sym at) read))
-          ]
+          | inl at ↦ elim (may.stored l.value (subst (λ q. MayRead w q l.value) at l.read)) as
+              (λ _. MayReach u root b k ⊎ ((root ≡ shard) × IsNew b k)) [
+                | inl stored ↦
+                    let is = link_at_link root a from l.position k has l.is_link at in
+                    by_value b k root is.0 is.1 (subst (λ v. LeadsTo (Contains u.held) v b) stored leads)
+                | inr read ↦ inl (before (subst (λ q. MayRead u q l.value) (sym at) read))
+              ]
           | inr other ↦ inl (before (read_before u w (a.first_word + l.position) l.value
               (may.others (a.first_word + l.position) (link_own u a from l.position k (reached_held u root a from has) l.is_link) other) l.read))
         ]
     from_link a b from k reached (inr has) l =
         let is_link : IsLink kind a.words l.position k = subst (λ j. IsLink j a.words l.position k) has.1.kind_is l.is_link in
         let read = read_before u w (a.first_word + l.position) l.value
-        (may.others (a.first_word + l.position) (link_own u a from l.position k has.1.leads.0 l.is_link) (not_new_link a from l.position k has.1 l.is_link)) l.read in
+        (may.others (a.first_word + l.position) (link_own u a from l.position k has.1.leads.0 l.is_link)
+        (not_new_link a from l.position k has.1 l.is_link)) l.read in
         elim (has.1.fresh.links l.position k l.value is_link read) as (λ _. MayReach u root b k ⊎ ((root ≡ shard) × IsNew b k)) [
           | inl null ↦ absurd (not_null l.value (8 * b.first_word) l.leads.1 null)
           | inr f ↦
@@ -177,7 +188,8 @@ module _ (u w : View) (shard p x kind : ℕ) (seat : IsSeat u) (small : shard < 
     by_case (new n to_n fresh) = inr (n, (stays_held u w may.held n to_n.0, to_n.1))
 
   -- what any of the seat's own words holds afterwards, where it held null or a pointer before
-  value_after : (word value : ℕ) → IsOwn u.held u.roots word → MayRead w word value → (MayRead u word value → IsNullOrHeld u value) → IsNullOrHeld w value
+  value_after : (word value : ℕ) → IsOwn u.held u.roots word → MayRead w word value → (MayRead u word value → IsNullOrHeld u value)
+      → IsNullOrHeld w value
   value_after word value own read before = elim (cases_eq word p) as (λ _. IsNullOrHeld w value) [
     | inl at ↦ elim (may.stored value (subst (λ q. MayRead w q value) at read)) as (λ _. IsNullOrHeld w value) [
       | inl stored ↦ subst (IsNullOrHeld w) (sym stored) published_value
@@ -194,7 +206,8 @@ module _ (u w : View) (shard p x kind : ℕ) (seat : IsSeat u) (small : shard < 
         value_after (root_word root) value (in_root root (root_word root) was refl) read (only.roots root value was);
     links = λ root a from position to value reached is read.
         elim (reached_after root a from reached) as (λ _. IsNullOrHeld w value) [
-          | inl has ↦ value_after (a.first_word + position) value (link_own u a from position to (reached_held u root a from has) is) read (only.links root a from position to value has is)
+          | inl has ↦ value_after (a.first_word + position) value (link_own u a from position to (reached_held u root a from has) is) read
+              (only.links root a from position to value has is)
           | inr has ↦
               let is_link : IsLink kind a.words position to = subst (λ j. IsLink j a.words position to) has.1.kind_is is in
               let was = read_before u w (a.first_word + position) value
@@ -222,8 +235,13 @@ module _ (u w : View) (shard p x kind : ℕ) (seat : IsSeat u) (small : shard < 
   others_after = record {
     roots = may.roots;
     kinds = kinds;
-    root_words = λ root owned differs. may.others (root_word root) (in_root root (root_word root) owned refl) (λ at. differs (root_at_link root owned at).0);
-    blocks = λ b h unreached. (stays_held u w may.held b h, λ word inside. may.others word (in_block b word h inside) (λ at. elsewhere b h unreached word inside at));
+    root_words = λ root owned differs. may.others (root_word root) (in_root root (root_word root) owned refl)
+        (λ at. differs (root_at_link root owned at).0);
+    blocks = λ b h unreached. (
+      stays_held u w may.held b h,
+      λ word inside. may.others word (in_block b word h inside)
+          (λ at. elsewhere b h unreached word inside at),
+    );
   } where
     elsewhere : (b : Block) → Contains u.held b → ((k : ℕ) → MayReach u shard b k → ⊥) → (word : ℕ) → IsIn b word → word ≡ p → ⊥
     elsewhere b h unreached word inside at = by_case kind link where

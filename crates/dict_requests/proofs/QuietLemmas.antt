@@ -32,11 +32,13 @@ pub goes_then : (v u w : View) → GoesPending v u → GoesPending u w → GoesP
 goes_then v u w a b = record { runs = runs_then v u w a.runs b.runs; pending = λ other h. b.pending other (a.pending other h) }
 
 -- a word that is settling is so after quiet calls
-pub still_settling : (v w : View) (word value : ℕ) → IsOwn v.held v.roots word → KeepsOwn v w → GoesPending v w → IsSettling v word value → IsSettling w word value
+pub still_settling : (v w : View) (word value : ℕ) → IsOwn v.held v.roots word → KeepsOwn v w → GoesPending v w → IsSettling v word value
+    → IsSettling w word value
 still_settling v w word value own keeps goes settling = settling_stays v w word value (keeps.words word own) (λ h. inl (goes.pending word h)) settling
 
 -- a link that is loaded and then written back
-pub follows : (s : Spot) (word : ℕ) (v u w : View) → IsOwnSpot v s → Loads (word_of s) word v u → KeepsOwn v u → WritesBack s u w → KeepsOwn u w → FollowsLink (word_of s) word v w
+pub follows : (s : Spot) (word : ℕ) (v u w : View) → IsOwnSpot v s → Loads (word_of s) word v u → KeepsOwn v u → WritesBack s u w → KeepsOwn u w
+    → FollowsLink (word_of s) word v w
 follows s word v u w own loads keeps writes keeps' = record {
   goes = record { runs = runs_then v u w loads.runs writes.runs; pending = λ other h. writes.pending other (loads.pending other h) };
   settling = record {

@@ -39,10 +39,12 @@ output_more words old out x count count_is fits same is =
     let out_is : out ≡ bs ++ rest = is ∙ ap (λ (front : List ℕ). front ++ rest) (take_all (length old) bs (omega arith)) in
     let k = length old - 8 * count in
     let front : take (8 * count) out ≡ bs = ap (take (8 * count)) out_is ∙ ap (λ n. take n (bs ++ rest)) (sym long) ∙ take-append_seam bs rest in
-    let middle : take (length out - 8 * count) (little_bytes 8 x) ≡ take k (little_bytes 8 x) = ap (λ n. take (n - 8 * count) (little_bytes 8 x)) same in
+    let middle : take (length out - 8 * count) (little_bytes 8 x) ≡ take k (little_bytes 8 x) =
+    ap (λ n. take (n - 8 * count) (little_bytes 8 x)) same in
     let next : 8 * count + 8 ≡ 8 * (count + 1) = omega arith in
     let behind : drop (8 * count + 8) out ≡ drop (8 * (count + 1)) old =
-    ap (drop (8 * count + 8)) out_is ∙ ap (λ n. drop (n + 8) (bs ++ rest)) (sym long) ∙ drop-append-add bs rest 8 ∙ drop-drop 8 (8 * count) old ∙ ap (λ n. drop n old) next in
+    ap (drop (8 * count + 8)) out_is ∙ ap (λ n. drop (n + 8) (bs ++ rest)) (sym long) ∙ drop-append-add bs rest 8 ∙ drop-drop 8 (8 * count) old
+    ∙ ap (λ n. drop n old) next in
     let whole : length old ≡ length bs + k = omega arith in
     let all : take (length old) (bytes_of_words (words ++ (x ∷ []))) ≡ bs ++ take k (little_bytes 8 x) =
     ap (take (length old)) (bytes_more words x) ∙ ap (λ n. take n (bs ++ little_bytes 8 x)) whole ∙ take-append-add bs (little_bytes 8 x) k in
@@ -74,12 +76,14 @@ reading_more b count x old out new v u w held inside fits reading loads quiet is
           | inl last ↦
               let past : length words ≤ i = omega arith in
               let none : i - length words ≡ 0 = omega arith in
-              let at : get_or (words ++ (x ∷ [])) i 0 ≡ x = get_or-append_right words (x ∷ []) (length words) i 0 refl past ∙ ap (λ n. get_or (x ∷ []) n 0) none in
+              let at : get_or (words ++ (x ∷ [])) i 0 ≡ x = get_or-append_right words (x ∷ []) (length words) i 0 refl past
+              ∙ ap (λ n. get_or (x ∷ []) n 0) none in
               subst (λ j. w.volatile (b.first_word + (3 + j)) ≡ Some x) (sym last) loads.seen ∙ ap (λ n. Some n) (sym at)
           | inr other ↦
               let less : i < count = omega arith in
               let own : IsOwn u.held u.roots (b.first_word + (3 + i)) =
-              in_block b (b.first_word + (3 + i)) (stays_held v u reading.quiet.unchanged.held b held) (record { from = omega arith; until = omega arith }) in
+              in_block b (b.first_word + (3 + i)) (stays_held v u reading.quiet.unchanged.held b held)
+              (record { from = omega arith; until = omega arith }) in
               let at : get_or (words ++ (x ∷ [])) i 0 ≡ get_or words i 0 = get_or_append_left words (x ∷ []) 0 i (omega arith) in
               (quiet.unchanged.words (b.first_word + (3 + i)) own).volatile (slice_index words i) (reading.read.seen i less) ∙ ap (λ n. Some n) (sym at)
         ];
@@ -110,7 +114,8 @@ value_length image b =
 
 -- its first bytes are those of its first words
 value_front : (image : Image) (b : Block) (words : List ℕ) (count : ℕ) → count ≤ length_in image b → length words ≡ value_words count
-    → ((i : ℕ) → i < value_words count → image (b.first_word + (3 + i)) ≡ slice_index words i) → take count (bytes_of_words words) ≡ take count (value_in image b)
+    → ((i : ℕ) → i < value_words count → image (b.first_word + (3 + i)) ≡ slice_index words i)
+    → take count (bytes_of_words words) ≡ take count (value_in image b)
 value_front image b words count few many each =
     let n = length_in image b in
     let from = b.first_word + 3 in
@@ -129,10 +134,12 @@ value_front image b words count few many each =
     ap (λ m. take n (bytes_of_words (words_from image from m))) sum ∙ ap (λ (ws : List ℕ). take n (bytes_of_words ws)) (words_from_both image from a c)
     ∙ ap (take n) (flat_map-append (little_bytes 8) front rest) in
     ap (λ (ws : List ℕ). take count (bytes_of_words ws)) same
-    ∙ sym (ap (take count) value ∙ take-take count n (bytes_of_words front ++ bytes_of_words rest) few ∙ take-append-le count (bytes_of_words front) (bytes_of_words rest) (omega arith))
+    ∙ sym (ap (take count) value ∙ take-take count n (bytes_of_words front ++ bytes_of_words rest) few
+    ∙ take-append-le count (bytes_of_words front) (bytes_of_words rest) (omega arith))
 
 -- the value's first bytes stand in front of what was there
-answered : (n c : ℕ) (old value mid : List ℕ) → length value ≡ n → c ≡ min n (length old) → mid ≡ take c value → mid ++ drop c old ≡ take (length old) value ++ drop n old
+answered : (n c : ℕ) (old value mid : List ℕ) → length value ≡ n → c ≡ min n (length old) → mid ≡ take c value
+    → mid ++ drop c old ≡ take (length old) value ++ drop n old
 answered n c old value mid long least is = elim (cases_lt n (length old)) as (λ _. mid ++ drop c old ≡ take (length old) value ++ drop n old) [
   | inl less ↦
       let e : c ≡ n = omega arith in
@@ -145,11 +152,13 @@ answered n c old value mid long least is = elim (cases_lt n (length old)) as (λ
 ]
 
 -- the length of a node's value was loaded
-module _ (b : Block) (n : ℕ) (v u : View) (held : Contains v.held b) (room : 3 ≤ b.words) (keeps : KeepsOwn v u) (loads : Loads (b.first_word + 2) n v u) where
+module _ (b : Block) (n : ℕ) (v u : View) (held : Contains v.held b) (room : 3 ≤ b.words) (keeps : KeepsOwn v u)
+    (loads : Loads (b.first_word + 2) n v u) where
   length_own : IsOwn u.held u.roots (b.first_word + 2)
   length_own = in_block b (b.first_word + 2) (stays_held v u keeps.held b held) (record { from = omega arith; until = omega arith })
 
-  pub node_fits : (shard bucket : ℕ) → ((image : Image) → Completes v image → IsNode image shard bucket b) → (3 + value_words n ≤ b.words) × (n ≤ largest_value)
+  pub node_fits : (shard bucket : ℕ) → ((image : Image) → Completes v image → IsNode image shard bucket b) → (3 + value_words n ≤ b.words)
+      × (n ≤ largest_value)
   node_fits shard bucket node =
       let image = now_image u in
       let is = node image (completes_before v u image (grown_keeps v u keeps) (now_completes u)) in
@@ -170,7 +179,8 @@ module _ (b : Block) (n : ℕ) (v u : View) (held : Contains v.held b) (room : 3
     }
 
     -- and then its first words
-    pub value_read : (c : ℕ) (old mid : List ℕ) → 3 + value_words n ≤ b.words → c ≡ min n (length old) → ReadsWords b (take c old) mid u w → ReadsValue b n old (mid ++ drop c old) v w
+    pub value_read : (c : ℕ) (old mid : List ℕ) → 3 + value_words n ≤ b.words → c ≡ min n (length old) → ReadsWords b (take c old) mid u w
+        → ReadsValue b n old (mid ++ drop c old) v w
     value_read c old mid fits least reads = record {
       runs = elim reads.done as (λ _. Runs v w) [
         | inl still ↦ subst (λ (s : View). Runs v s) (sym still) loads.runs
@@ -185,11 +195,14 @@ module _ (b : Block) (n : ℕ) (v u : View) (held : Contains v.held b) (room : 3
           let front : take c (bytes_of_words words) ≡ take c (value_in image b) = value_front image b words c (omega arith) many
           (λ i less.
           completes.seen (b.first_word + (3 + i)) (slice_index words i)
-          (in_block b (b.first_word + (3 + i)) (stays_held u w keeps'.held b (stays_held v u keeps.held b held)) (record { from = omega arith; until = omega arith }))
+          (in_block b (b.first_word + (3 + i)) (stays_held u w keeps'.held b (stays_held v u keeps.held b held))
+          (record { from = omega arith; until = omega arith }))
           (reads.read.seen i (omega arith))) in
-          let none : drop (8 * value_words (length (take c old))) (take c old) ≡ [] = drop_all (8 * value_words (length (take c old))) (take c old) (omega arith) in
+          let none : drop (8 * value_words (length (take c old))) (take c old) ≡ [] =
+          drop_all (8 * value_words (length (take c old))) (take c old) (omega arith) in
           let mid_is : mid ≡ take c (value_in image b) =
-          reads.read.bytes ∙ ap (λ (a : List ℕ). take (length (take c old)) (bytes_of_words words) ++ a) none ∙ append-nil (take (length (take c old)) (bytes_of_words words))
+          reads.read.bytes ∙ ap (λ (a : List ℕ). take (length (take c old)) (bytes_of_words words) ++ a) none
+          ∙ append-nil (take (length (take c old)) (bytes_of_words words))
           ∙ ap (λ m. take m (bytes_of_words words)) cut ∙ front in (
             ap (λ m. Some m) (sym long),
             answered n c old (value_in image b) mid long least mid_is ∙ ap (λ m. take (length old) (value_in image b) ++ drop m old) (sym long),

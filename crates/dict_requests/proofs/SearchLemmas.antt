@@ -35,7 +35,8 @@ module _ (v w : View) (shard word : ℕ) (seat : IsSeat w) (is : IsShard v shard
   -- it is null or leads to a held block
   pub root_null_or_held : IsNullOrHeld w word
   root_null_or_held =
-      (only_grown v w grown kinds seat is.only).roots shard word (subst (λ (rs : List ℕ). Contains rs shard) (sym keeps.roots) is.owned) (seen_read w (root_word shard) word follows.settling.seen)
+      (only_grown v w grown kinds seat is.only).roots shard word (subst (λ (rs : List ℕ). Contains rs shard) (sym keeps.roots) is.owned)
+      (seen_read w (root_word shard) word follows.settling.seen)
 
   root_is : now_image w (root_word shard) ≡ word
   root_is = (now_completes w).seen (root_word shard) word root_own follows.settling.seen
@@ -55,7 +56,8 @@ module _ (v w : View) (shard word : ℕ) (seat : IsSeat w) (is : IsShard v shard
     by_case : IsMapIn w (now_image w) shard is.map → table.words ≡ buckets
     by_case (is_empty null none) = absurd (not_null word (8 * table.first_word) leads.1 (sym root_is ∙ null))
     by_case (has_table t nodes there chains means) =
-        let same = (held_once (Contains w.held) (are_placed w seat)).one word t table (subst (λ x. LeadsTo (Contains w.held) x t) root_is there.leads_there) leads in
+        let same = (held_once (Contains w.held) (are_placed w seat)).one word t table
+        (subst (λ x. LeadsTo (Contains w.held) x t) root_is there.leads_there) leads in
         ap (λ (b : Block). b.words) (sym same) ∙ there.size
 
   -- where it is null the shard is empty

@@ -37,11 +37,13 @@ module _ (count : ℕ) (seats : ℕ → View) (image : Image) (share : ShareHeap
   root_read : (i root : ℕ) → i < count → Contains (seats i).roots root → MayRead (seats i) (root_word root) (image (root_word root))
   root_read i root below owned = (mixed.mixes i below).each (root_word root) (in_root root (root_word root) owned refl)
 
-  by_root : (i root : ℕ) (b : Block) → i < count → Contains (seats i).roots root → Leads image (image (root_word root)) b → MayReach (seats i) root b (kind_of (seats i) root)
+  by_root : (i root : ℕ) (b : Block) → i < count → Contains (seats i).roots root → Leads image (image (root_word root)) b
+      → MayReach (seats i) root b (kind_of (seats i) root)
   by_root i root b below owned leads =
       let read = root_read i root below owned in
       let value = image (root_word root) in
-      root_reach (seats i) root b (kind_of (seats i) root) value owned refl read (held_there i value b below ((share.only i below).roots root value owned read) leads)
+      root_reach (seats i) root b (kind_of (seats i) root) value owned refl read
+      (held_there i value b below ((share.only i below).roots root value owned read) leads)
 
   link_read : (i root : ℕ) (a : Block) (from position kind : ℕ) → i < count → MayReach (seats i) root a from → IsLink from a.words position kind
       → MayRead (seats i) (a.first_word + position) (image (a.first_word + position))
@@ -57,7 +59,8 @@ module _ (count : ℕ) (seats : ℕ → View) (image : Image) (share : ShareHeap
       (held_there i value b below ((share.only i below).links root a from position kind value reached is read) leads)
 
   -- what the image reaches from chosen roots, a seat reaches from one of them
-  pub reached_by : (chosen : ℕ → Type 0) (b : Block) (kind : ℕ) → ReachFrom image chosen (kinds_of image) dict_links b kind → IsReachedBy count seats chosen b kind
+  pub reached_by : (chosen : ℕ → Type 0) (b : Block) (kind : ℕ) → ReachFrom image chosen (kinds_of image) dict_links b kind
+      → IsReachedBy count seats chosen b kind
   reached_by chosen = closure_least (IsReachedBy count seats chosen)
       (λ b kind start.
       let own = share.owner start.root start.below in
@@ -66,14 +69,16 @@ module _ (count : ℕ) (seats : ℕ → View) (image : Image) (share : ShareHeap
         below = own.1;
         root = start.root;
         is_chosen = start.is_chosen;
-        reached = subst (MayReach (seats own.0) start.root b) (sym (start.kind_is ∙ mixed.kinds own.0 own.1 start.root start.below)) (by_root own.0 start.root b own.1 own.2 start.leads);
+        reached = subst (MayReach (seats own.0) start.root b) (sym (start.kind_is ∙ mixed.kinds own.0 own.1 start.root start.below))
+            (by_root own.0 start.root b own.1 own.2 start.leads);
       })
       (λ a b from kind reached has link. record {
         seat = has.seat;
         below = has.below;
         root = has.root;
         is_chosen = has.is_chosen;
-        reached = by_link_of has.seat has.root a b from link.position kind has.below has.reached (link_in_block image a from link.position kind link.listed) link.leads;
+        reached = by_link_of has.seat has.root a b from link.position kind has.below has.reached
+            (link_in_block image a from link.position kind link.listed) link.leads;
       })
 
   -- what a trace of the image looks at is null or leads to a held block
@@ -97,10 +102,12 @@ module _ (count : ℕ) (seats : ℕ → View) (image : Image) (share : ShareHeap
         | inr c ↦ out.outside.nowhere c.0 (record { pointer = c.1.1; names = mixed.names there.0 there.1 c.0 c.1.0 })
       ]
 
-  module _ (i shard : ℕ) (below : i < count) (small : shard < shards) (root_is : kind_of (seats i) shard ≡ table_kind) (owned : Contains (seats i).roots shard) where
+  module _ (i shard : ℕ) (below : i < count) (small : shard < shards) (root_is : kind_of (seats i) shard ≡ table_kind)
+      (owned : Contains (seats i).roots shard) where
     -- the owner reaches what a walk through its shard meets
     path_met : (table : Block) (k at : ℕ) (bs : List Block) → IsPath (but table (Leads image)) image shard k at bs
-        → ((c : Block) → Leads image (image at) c → MayReach (seats i) shard c node_kind) → (b : Block) → Contains bs b → MayReach (seats i) shard b node_kind
+        → ((c : Block) → Leads image (image at) c → MayReach (seats i) shard c node_kind) → (b : Block) → Contains bs b
+        → MayReach (seats i) shard b node_kind
     path_met table k at [] path start b h = absurd (in_none b h)
     path_met table k at (c ∷ bs) path start b h =
         let first = start c path.0.0 in
@@ -116,10 +123,12 @@ module _ (count : ℕ) (seats : ℕ → View) (image : Image) (share : ShareHeap
     met : (b : Block) → IsUsed (Leads image) image shard b → (kind : ℕ) × MayReach (seats i) shard b kind
     met b (as_table there) = (kind_of (seats i) shard, by_root i shard b below owned there.leads_there)
     met b (as_node table nodes k there chains k_below h) =
-        let is : IsLink (kind_of (seats i) shard) table.words k node_kind = subst (λ kind. IsLink kind table.words k node_kind) (sym root_is) (in_table table.words k (omega (arith, there.size))) in (
+        let is : IsLink (kind_of (seats i) shard) table.words k node_kind =
+        subst (λ kind. IsLink kind table.words k node_kind) (sym root_is) (in_table table.words k (omega (arith, there.size))) in (
           node_kind,
           path_met table k (table.first_word + k) (nodes k) (chains k k_below).path
-              (λ c leads. by_link_of i shard table c (kind_of (seats i) shard) k node_kind below (by_root i shard table below owned there.leads_there) is leads) b h,
+              (λ c leads. by_link_of i shard table c (kind_of (seats i) shard) k node_kind below
+              (by_root i shard table below owned there.leads_there) is leads) b h,
         )
 
     -- and no other root of any seat reaches it

@@ -30,9 +30,12 @@ use Rattle.dict_requests.proofs.ExactLemmas.{root_sees, sees_held, sees_grown}
 use Rattle.dict_requests.proofs.DeleteLemmas.{seen_value}
 use Rattle.dict_requests.proofs.PutLemmas.{one_reading}
 
-module _ (v u w : View) (seat : IsSeat u) (seat_w : IsSeat w) (grown : Grown v u) (only_v : ReachesOnlyHeld v) (shard x : ℕ) (table : Block) (small : shard < shards) (owned : Contains v.roots shard)
-    (held : Contains u.held table) (fresh : Contains v.held table → ⊥) (size : table.words ≡ buckets) (nulls : (i : ℕ) → i < buckets → IsDurableAt u (table.first_word + i) 0)
-    (points : x ≡ pointer_to table) (may : MayHaveStored (root_word shard) x u w) (empty : (map : Map) → GivesMap v shard map → (key : ℕ) → map key ≡ None)
+module _ (v u w : View) (seat : IsSeat u) (seat_w : IsSeat w) (grown : Grown v u) (only_v : ReachesOnlyHeld v) (shard x : ℕ) (table : Block)
+    (small : shard < shards) (owned : Contains v.roots shard)
+    (held : Contains u.held table) (fresh : Contains v.held table → ⊥) (size : table.words ≡ buckets) (nulls : (i : ℕ) → i < buckets
+    → IsDurableAt u (table.first_word + i) 0)
+    (points : x ≡ pointer_to table) (may : MayHaveStored (root_word shard) x u w) (empty : (map : Map) → GivesMap v shard map → (key : ℕ)
+    → map key ≡ None)
     (kinds : u.kinds ≡ v.kinds) (kinds_w : w.kinds ≡ u.kinds) where
   only_u : ReachesOnlyHeld u
   only_u = only_grown v u grown kinds seat only_v
@@ -62,9 +65,11 @@ module _ (v u w : View) (seat : IsSeat u) (seat_w : IsSeat w) (grown : Grown v u
     each = λ image mixes. by_root image mixes (may.stored (image (root_word shard)) (mixes.each (root_word shard)
         (own_same u w (root_word shard) may.held may.roots (in_root shard (root_word shard) owned_u refl))));
   } where
-    by_root : (image : Image) → MixesOwn w image → (image (root_word shard) ≡ x) ⊎ MayRead u (root_word shard) (image (root_word shard)) → IsMapIn w image shard map
+    by_root : (image : Image) → MixesOwn w image → (image (root_word shard) ≡ x) ⊎ MayRead u (root_word shard) (image (root_word shard))
+        → IsMapIn w image shard map
     by_root image mixes (inl stored) = table_made (LeadsTo (Contains w.held)) image shard table map
-        (subst (λ q. LeadsTo (Contains w.held) q table) (sym (stored ∙ points)) (leads_held w table seat_w (subst (λ (bs : List Block). Contains bs table) (sym may.held) held))) size
+        (subst (λ q. LeadsTo (Contains w.held) q table) (sym (stored ∙ points))
+        (leads_held w table seat_w (subst (λ (bs : List Block). Contains bs table) (sym may.held) held))) size
         (λ k below.
         let behind = (seat.placed table held).behind in
         let low = seat.roots_are shard owned_u in
@@ -82,10 +87,12 @@ module _ (v u w : View) (seat : IsSeat u) (seat_w : IsSeat w) (grown : Grown v u
   -- of the old blocks the root reaches no other than before
   pub table_reached : (b : Block) (kind : ℕ) → Contains v.held b → MayReach w shard b kind → MayReach v shard b kind
   table_reached b kind h reached =
-      elim (reached_after u w shard (root_word shard) x (kind_of u shard) seat small may kinds_w only_u link publish shard b kind reached) as (λ _. MayReach v shard b kind) [
+      elim (reached_after u w shard (root_word shard) x (kind_of u shard) seat small may kinds_w only_u link publish shard b kind reached) as
+      (λ _. MayReach v shard b kind) [
         | inl before ↦ reached_before v u grown kinds seat only_v shard b kind before
         | inr made ↦
-            let same = (held_once (Contains u.held) (are_placed u seat)).one x b table made.1.leads (subst (λ q. LeadsTo (Contains u.held) q table) (sym points) (leads_held u table seat held)) in
+            let same = (held_once (Contains u.held) (are_placed u seat)).one x b table made.1.leads
+            (subst (λ q. LeadsTo (Contains u.held) q table) (sym points) (leads_held u table seat held)) in
             absurd (fresh (subst (Contains v.held) same h))
       ]
 
@@ -94,12 +101,14 @@ module _ (v u w : View) (seat : IsSeat u) (seat_w : IsSeat w) (grown : Grown v u
     either = λ map gives. record { each = λ image mixes. inl ((table_gives map gives).each image mixes) };
     only = only_after u w shard (root_word shard) x (kind_of u shard) seat small may kinds_w only_u link publish;
     table = record { root = λ y owned seen some. absurd (some (seen_value v (root_word shard) y 0 seen null)) };
-    others = others_then shard v u w (λ b kind h reached. reached_before v u grown kinds seat only_v shard b kind reached) (others_grown v u grown kinds shard)
+    others = others_then shard v u w (λ b kind h reached. reached_before v u grown kinds seat only_v shard b kind reached)
+        (others_grown v u grown kinds shard)
         (others_after u w shard (root_word shard) x (kind_of u shard) seat small may kinds_w only_u link publish);
   }
 
   -- what loads see reached is so still, and the table too
-  pub table_all : u.volatile (root_word shard) ≡ Some 0 → w.volatile (root_word shard) ≡ Some x → ((a : Block) → Contains u.held a → (a ≡ table) ⊎ Contains v.held a) → ReachesAllHeld v → ReachesAllHeld w
+  pub table_all : u.volatile (root_word shard) ≡ Some 0 → w.volatile (root_word shard) ≡ Some x
+      → ((a : Block) → Contains u.held a → (a ≡ table) ⊎ Contains v.held a) → ReachesAllHeld v → ReachesAllHeld w
   table_all null seen either all = record {
     only = only_after u w shard (root_word shard) x (kind_of u shard) seat small may kinds_w only_u link publish;
     all = reached;
@@ -111,7 +120,8 @@ module _ (v u w : View) (seat : IsSeat u) (seat_w : IsSeat w) (grown : Grown v u
           kind_is = start.kind_is ∙ sym (kind_kept u w root kinds_w);
           value = start.value;
           read = (may.others (root_word root) (in_root root (root_word root) start.owned refl) (λ e.
-              let zero : start.value ≡ 0 = seen_value u (root_word shard) start.value 0 (subst (λ q. u.volatile q ≡ Some start.value) e start.read) null in
+              let zero : start.value ≡ 0 = seen_value u (root_word shard) start.value 0
+              (subst (λ q. u.volatile q ≡ Some start.value) e start.read) null in
               not_null start.value (8 * c.first_word) start.leads.1 zero)).volatile start.value start.read;
           leads = (stays_held u w may.held c start.leads.0, start.leads.1);
         })
@@ -133,13 +143,15 @@ module _ (v u w : View) (seat : IsSeat u) (seat_w : IsSeat w) (grown : Grown v u
         shard,
         kind_of w shard,
         root_sees w shard c (kind_of w shard) x (subst (λ (rs : List ℕ). Contains rs shard) (sym may.roots) owned_u) refl seen
-            (subst (λ (d : Block). LeadsTo (Contains w.held) x d) (sym same) (subst (λ q. LeadsTo (Contains w.held) q table) (sym points) (leads_held w table seat_w (stays_held u w may.held table held)))),
+            (subst (λ (d : Block). LeadsTo (Contains w.held) x d) (sym same)
+            (subst (λ q. LeadsTo (Contains w.held) q table) (sym points) (leads_held w table seat_w (stays_held u w may.held table held)))),
       )
       | inr was ↦ let r = all.all c was in (r.0, r.1, past r.0 c r.1 (sees_grown v u grown kinds r.0 c r.1 r.2))
     ]
 
 -- the table has no key
-pub table_missing : (v w : View) (key x : ℕ) (table : Block) → IsSeat w → Contains w.roots (shard_of key) → Contains w.held table → table.words ≡ buckets → x ≡ pointer_to table
+pub table_missing : (v w : View) (key x : ℕ) (table : Block) → IsSeat w → Contains w.roots (shard_of key) → Contains w.held table
+    → table.words ≡ buckets → x ≡ pointer_to table
     → IsDurableAt w (root_word (shard_of key)) x → (map₀ : Map) → GivesMap w (shard_of key) map₀ → ((q : ℕ) → map₀ q ≡ None) → IsMissing w key table
 table_missing v w key x table seat owned held size points settled map₀ gives₀ empty = record {
   come = record {

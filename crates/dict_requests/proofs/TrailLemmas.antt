@@ -60,7 +60,8 @@ completes_before v w image grown completes = record {
 pub first_own : (v : View) (b : Block) → IsSeat v → Contains v.held b → IsOwn v.held v.roots b.first_word
 first_own v b seat h = in_block b b.first_word h (record { from = omega arith; until = let some = (seat.placed b h).some in omega arith })
 
-pub bucket_own : (v : View) (table : Block) (k : ℕ) → Contains v.held table → table.words ≡ buckets → k < buckets → IsOwn v.held v.roots (table.first_word + k)
+pub bucket_own : (v : View) (table : Block) (k : ℕ) → Contains v.held table → table.words ≡ buckets → k < buckets
+    → IsOwn v.held v.roots (table.first_word + k)
 bucket_own v table k h size below = in_block table (table.first_word + k) h (record { from = omega arith; until = omega arith })
 
 pub bucket_below : (key : ℕ) → bucket_of key < buckets
@@ -71,11 +72,16 @@ pub trail_stays : (reads other : Reading) (v : View) (held : List Block) → IsS
     → ((word value : ℕ) → IsOwn v.held v.roots word → reads word value → other word value) → (at : ℕ) (bs : List Block) → IsOwn v.held v.roots at
     → Trail reads v.held at bs → Trail other held at bs
 trail_stays reads other v held seat keeps stays at [] own trail = tt
-trail_stays reads other v held seat keeps stays at (b ∷ bs) own trail =
-    (keeps b trail.0, stays at (pointer_to b) own trail.1, trail_stays reads other v held seat keeps stays b.first_word bs (first_own v b seat trail.0) trail.2)
+trail_stays reads other v held seat keeps stays at (b ∷ bs) own trail = (
+  keeps b trail.0,
+  stays at (pointer_to b) own trail.1,
+  trail_stays reads other v held seat keeps stays b.first_word bs
+      (first_own v b seat trail.0) trail.2,
+)
 
 -- one more block
-pub trail_more : (reads : Reading) (held : List Block) (at : ℕ) (bs : List Block) (b : Block) → Trail reads held at bs → Contains held b → reads (link_behind at bs) (pointer_to b)
+pub trail_more : (reads : Reading) (held : List Block) (at : ℕ) (bs : List Block) (b : Block) → Trail reads held at bs → Contains held b
+    → reads (link_behind at bs) (pointer_to b)
     → Trail reads held at (bs ++ (b ∷ []))
 trail_more reads held at [] b trail h read = (h, read, tt)
 trail_more reads held at (c ∷ bs) b trail h read = (trail.0, trail.1, trail_more reads held c.first_word bs b trail.2 h read)
@@ -88,7 +94,8 @@ pub leads_held : (v : View) (b : Block) → IsSeat v → Contains v.held b → L
 leads_held v b seat h = (h, record { tagged = refl; short = let s = (seat.placed b h).short in omega arith })
 
 -- in an image with the values of its links, a trail leads along its blocks
-pub along : (reads : Reading) (v : View) (image : Image) → IsSeat v → ((word value : ℕ) → IsOwn v.held v.roots word → reads word value → image word ≡ value)
+pub along : (reads : Reading) (v : View) (image : Image) → IsSeat v
+    → ((word value : ℕ) → IsOwn v.held v.roots word → reads word value → image word ≡ value)
     → (at : ℕ) (bs : List Block) → IsOwn v.held v.roots at → Trail reads v.held at bs → Leads_along (LeadsTo (Contains v.held)) image at bs
 along reads v image seat is at [] own trail = tt
 along reads v image seat is at (b ∷ bs) own trail = (
@@ -96,10 +103,12 @@ along reads v image seat is at (b ∷ bs) own trail = (
   along reads v image seat is b.first_word bs (first_own v b seat trail.0) trail.2,
 )
 
-pub settled_in : (v : View) (image : Image) → MixesOwn v image → (word value : ℕ) → IsOwn v.held v.roots word → IsDurableAt v word value → image word ≡ value
+pub settled_in : (v : View) (image : Image) → MixesOwn v image → (word value : ℕ) → IsOwn v.held v.roots word → IsDurableAt v word value
+    → image word ≡ value
 settled_in v image mixes word value own settled = durable_in v word value image own settled.seen settled.left mixes
 
-pub settling_in : (v : View) (image : Image) → Completes v image → (word value : ℕ) → IsOwn v.held v.roots word → IsSettling v word value → image word ≡ value
+pub settling_in : (v : View) (image : Image) → Completes v image → (word value : ℕ) → IsOwn v.held v.roots word → IsSettling v word value
+    → image word ≡ value
 settling_in v image completes word value own settling = completes.seen word value own settling.seen
 
 -- what is known of the shard in an image that has the values of a trail: the chain of the bucket begins with its blocks
@@ -114,7 +123,8 @@ pub record IsAlong (v : View) (image : Image) (shard key : ℕ) (map : Map) (tab
 module _ (reads : View → Reading) (v : View) (image : Image) (seat : IsSeat v) (shard key : ℕ) (map : Map) (table : Block) (before : List Block)
     (is : (word value : ℕ) → IsOwn v.held v.roots word → reads v word value → image word ≡ value) (come : HasCome reads v shard key table before) where
   root_leads : LeadsTo (Contains v.held) (image (root_word shard)) table
-  root_leads = subst (λ w. LeadsTo (Contains v.held) w table) (sym (is (root_word shard) (pointer_to table) (in_root shard (root_word shard) come.owned refl) come.root)) (leads_held v table seat come.held_table)
+  root_leads = subst (λ w. LeadsTo (Contains v.held) w table) (sym
+      (is (root_word shard) (pointer_to table) (in_root shard (root_word shard) come.owned refl) come.root)) (leads_held v table seat come.held_table)
 
   pub is_along : IsMapIn v image shard map → IsAlong v image shard key map table before
   is_along (is_empty null none) = absurd (not_null (image (root_word shard)) (8 * table.first_word) root_leads.1 null)
@@ -123,8 +133,10 @@ module _ (reads : View → Reading) (v : View) (image : Image) (seat : IsSeat v)
       let same : t ≡ table = once.one (image (root_word shard)) t table there.leads_there root_leads in
       let own = bucket_own v table (bucket_of key) come.held_table come.size (bucket_below key) in
       let chains' = subst (λ (b : Block). HasChains (LeadsTo (Contains v.held)) image shard b buckets nodes) same chains in
-      let more = extends (LeadsTo (Contains v.held)) (but table (LeadsTo (Contains v.held))) once (λ word b leads. leads.0) image shard (bucket_of key) (table.first_word + bucket_of key) before
-      (nodes (bucket_of key)) (along (reads v) v image seat is (table.first_word + bucket_of key) before own come.trail) (chains' (bucket_of key) (bucket_below key)) in
+      let more = extends (LeadsTo (Contains v.held)) (but table (LeadsTo (Contains v.held))) once (λ word b leads. leads.0) image shard
+      (bucket_of key) (table.first_word + bucket_of key) before
+      (nodes (bucket_of key)) (along (reads v) v image seat is (table.first_word + bucket_of key) before own come.trail)
+      (chains' (bucket_of key) (bucket_below key)) in
       record {
         nodes = nodes;
         there = subst (λ (b : Block). HasTable (LeadsTo (Contains v.held)) image shard b) same there;
@@ -135,7 +147,8 @@ module _ (reads : View → Reading) (v : View) (image : Image) (seat : IsSeat v)
       }
 
 -- a map at its key is what is found in the bucket
-pub found_at : (map : Map) (image : Image) (shard key : ℕ) (nodes : ℕ → List Block) → ((q : ℕ) → map q ≡ map_of image shard nodes q) → shard_of key ≡ shard
+pub found_at : (map : Map) (image : Image) (shard key : ℕ) (nodes : ℕ → List Block) → ((q : ℕ) → map q ≡ map_of image shard nodes q)
+    → shard_of key ≡ shard
     → map key ≡ find image key (nodes (bucket_of key))
 found_at map image shard key nodes means in_shard =
     means key ∙ cond-true (nat_eq (shard_of key) shard) (find image key (nodes (bucket_of key))) None (eq-eqb (shard_of key) shard in_shard)
@@ -144,13 +157,18 @@ found_at map image shard key nodes means in_shard =
 pub same_map : (v : View) → IsSeat v → (shard : ℕ) (a b : Map) → GivesMap v shard a → GivesMap v shard b → (q : ℕ) → a q ≡ b q
 same_map v seat shard a b p q =
     let now = now_completes v in
-    one_map (LeadsTo (Contains v.held)) (held_once (Contains v.held) (are_placed v seat)) (now_image v) shard a b (p.each (now_image v) now.mixes) (q.each (now_image v) now.mixes)
+    one_map (LeadsTo (Contains v.held)) (held_once (Contains v.held) (are_placed v seat)) (now_image v) shard a b
+    (p.each (now_image v) now.mixes) (q.each (now_image v) now.mixes)
 
 -- settled and settling words over calls that don't store to them
 pub settled_stays : (v w : View) (word value : ℕ) → KeepsWord v w word → IsDurableAt v word value → IsDurableAt w word value
-settled_stays v w word value keeps settled = record { seen = keeps.volatile value settled.seen; left = stays_durable v w word value keeps settled.seen settled.left }
+settled_stays v w word value keeps settled = record {
+  seen = keeps.volatile value settled.seen;
+  left = stays_durable v w word value keeps settled.seen settled.left;
+}
 
-pub settling_stays : (v w : View) (word value : ℕ) → KeepsWord v w word → (Contains v.pending word → Contains w.pending word ⊎ IsDurable w word) → IsSettling v word value → IsSettling w word value
+pub settling_stays : (v w : View) (word value : ℕ) → KeepsWord v w word → (Contains v.pending word → Contains w.pending word ⊎ IsDurable w word)
+    → IsSettling v word value → IsSettling w word value
 settling_stays v w word value keeps pending settling = record {
   seen = keeps.volatile value settling.seen;
   coming = elim settling.coming as (λ _. Contains w.pending word ⊎ (w.durable word ≡ Some value)) [
@@ -167,7 +185,8 @@ settling_stays v w word value keeps pending settling = record {
 }
 
 -- a fence settles them
-pub settles : (v w : View) (word value : ℕ) → IsOwn v.held v.roots word → KeepsWord v w word → Settles v w → IsSettling v word value → IsDurableAt w word value
+pub settles : (v w : View) (word value : ℕ) → IsOwn v.held v.roots word → KeepsWord v w word → Settles v w → IsSettling v word value
+    → IsDurableAt w word value
 settles v w word value own keeps all settling = record {
   seen = keeps.volatile value settling.seen;
   left = elim settling.coming as (λ _. w.durable word ≡ Some value) [
@@ -183,7 +202,8 @@ settles v w word value own keeps all settling = record {
 
 -- a place on the way stays one
 pub come_stays : (reads other : View → Reading) (v w : View) (shard key : ℕ) (table : Block) (before : List Block) → IsSeat v → Grown v w
-    → ((word value : ℕ) → IsOwn v.held v.roots word → reads v word value → other w word value) → HasCome reads v shard key table before → HasCome other w shard key table before
+    → ((word value : ℕ) → IsOwn v.held v.roots word → reads v word value → other w word value) → HasCome reads v shard key table before
+    → HasCome other w shard key table before
 come_stays reads other v w shard key table before seat grown stays come = record {
   owned = subst (λ (rs : List ℕ). Contains rs shard) (sym grown.roots) come.owned;
   in_shard = come.in_shard;

@@ -42,7 +42,8 @@ value_of_words image from value small words =
     let pad = 8 * n - length value in
     let bytes : List ℕ = value ++ replicate pad 0 in
     let long : length bytes ≡ 8 * length (words_from image from n) =
-    let count = length-words_from image from n in let sum = length-append value (replicate pad 0) in let zeros : length (replicate {A = ℕ} pad 0) ≡ pad = length-replicate pad 0 in omega arith in
+    let count = length-words_from image from n in let sum = length-append value (replicate pad 0) in
+    let zeros : length (replicate {A = ℕ} pad 0) ≡ pad = length-replicate pad 0 in omega arith in
     let is : bytes_of_words (words_from image from n) ≡ bytes = bytes_of_words-image_of_bytes (words_from image from n) bytes
     (λ i. let e = padded_at value pad i in let s = byte_anywhere value small i in omega arith) long
     (λ i below. let count = length-words_from image from n in

@@ -37,7 +37,8 @@ module _ (v : View) (key at : ℕ) (table : Block) (seat : IsSeat v) (walk : IsW
   own_at = subst (IsOwn v.held v.roots) (sym walk.at_is) (behind_own IsSettling v (shard_of key) key table walk.before seat walk.come)
 
   along_now : (image : Image) → Completes v image → IsAlong v image (shard_of key) key walk.map table walk.before
-  along_now image completes = is_along IsSettling v image seat (shard_of key) key walk.map table walk.before (settling_in v image completes) walk.come (walk.gives.each image completes.mixes)
+  along_now image completes = is_along IsSettling v image seat (shard_of key) key walk.map table walk.before
+      (settling_in v image completes) walk.come (walk.gives.each image completes.mixes)
 
   -- the link that is loaded is null or leads to a node
   pub linked : (w : View) (x : ℕ) → KeepsOwn v w → w.volatile at ≡ Some x → (x ≡ 0) ⊎ ((b : Block) × IsLinked v x b)
@@ -47,13 +48,17 @@ module _ (v : View) (key at : ℕ) (table : Block) (seat : IsSeat v) (walk : IsW
       let along = along_now image completes in
       let k = bucket_of key in
       let x_is : image at ≡ x = (now_completes w).seen at x (own_grown v w at (grown_keeps v w keeps) own_at) seen in
-      by_rest image along.rest (subst (λ (bs : List Block). IsBucketChain (but table (LeadsTo (Contains v.held))) image (shard_of key) k (table.first_word + k) bs) along.is (along.chains k (bucket_below key))) x_is where
-        by_rest : (image : Image) (rest : List Block) → IsBucketChain (but table (LeadsTo (Contains v.held))) image (shard_of key) (bucket_of key) (table.first_word + bucket_of key) (walk.before ++ rest)
+      by_rest image along.rest (subst (λ (bs : List Block). IsBucketChain (but table (LeadsTo (Contains v.held))) image (shard_of key) k
+      (table.first_word + k) bs) along.is (along.chains k (bucket_below key))) x_is where
+        by_rest : (image : Image) (rest : List Block) → IsBucketChain (but table (LeadsTo (Contains v.held))) image (shard_of key)
+            (bucket_of key) (table.first_word + bucket_of key) (walk.before ++ rest)
             → image at ≡ x → (x ≡ 0) ⊎ ((b : Block) × IsLinked v x b)
         by_rest image [] chain x_is =
-            inl (sym x_is ∙ ap image walk.at_is ∙ ap (λ (bs : List Block). image (link_behind (table.first_word + bucket_of key) bs)) (sym (append-nil walk.before)) ∙ chain.ends)
+            inl (sym x_is ∙ ap image walk.at_is ∙ ap (λ (bs : List Block). image (link_behind (table.first_word + bucket_of key) bs))
+            (sym (append-nil walk.before)) ∙ chain.ends)
         by_rest image (b ∷ rest) chain x_is =
-            let path = path_right (but table (LeadsTo (Contains v.held))) image (shard_of key) (bucket_of key) (table.first_word + bucket_of key) walk.before (b ∷ rest) chain.path in
+            let path = path_right (but table (LeadsTo (Contains v.held))) image (shard_of key) (bucket_of key)
+            (table.first_word + bucket_of key) walk.before (b ∷ rest) chain.path in
             let leads : LeadsTo (Contains v.held) x b = subst (λ n. LeadsTo (Contains v.held) n b) (sym (ap image walk.at_is) ∙ x_is) path.0.0 in
             inr (b, record { held = leads.0; points = leads.1.tagged; room = let fits = path.1.fits in omega arith })
 
@@ -61,16 +66,35 @@ module _ (v : View) (key at : ℕ) (table : Block) (seat : IsSeat v) (walk : IsW
     pub null_or_node : IsNullOrHeld u x
     null_or_node = elim (linked u x keeps follows.settling.seen) as (λ _. IsNullOrHeld u x) [
       | inl null ↦ inl null
-      | inr b ↦ inr (b.0, (stays_held v u keeps.held b.0 b.1.held, record { tagged = b.1.points; short = let s = (seat.placed b.0 b.1.held).short in omega arith }))
+      | inr b ↦ inr (
+        b.0,
+        (
+          stays_held v u keeps.held b.0 b.1.held,
+          record {
+            tagged = b.1.points;
+            short = let s = (seat.placed b.0 b.1.held).short in omega arith;
+          },
+        ),
+      )
     ]
 
     pub node_at : IsSeat u → (b : Block) → LeadsTo (Contains u.held) x b → IsNodeAt u at b
     node_at seat_u b leads = elim (linked u x keeps follows.settling.seen) as (λ _. IsNodeAt u at b) [
       | inl null ↦ absurd (not_null x (8 * b.first_word) leads.1 null)
       | inr c ↦
-          let same : c.0 ≡ b = (held_once (Contains u.held) (are_placed u seat_u)).one x c.0 b
-          (stays_held v u keeps.held c.0 c.1.held, record { tagged = c.1.points; short = let s = (seat.placed c.0 c.1.held).short in omega arith }) leads in
-          record { held = leads.0; room = subst (λ (d : Block). 3 ≤ d.words) same c.1.room; link = subst (IsSettling u at) leads.1.tagged follows.settling }
+          let same : c.0 ≡ b = (held_once (Contains u.held) (are_placed u seat_u)).one x c.0 b (
+            stays_held v u keeps.held c.0 c.1.held,
+            record {
+              tagged = c.1.points;
+              short = let s = (seat.placed c.0 c.1.held).short in
+                  omega arith;
+            },
+          ) leads in
+          record {
+            held = leads.0;
+            room = subst (λ (d : Block). 3 ≤ d.words) same c.1.room;
+            link = subst (IsSettling u at) leads.1.tagged follows.settling;
+          }
     ]
 
   -- a walk goes on over quiet calls
@@ -96,7 +120,8 @@ node_still v w at b own keeps goes node = record {
 }
 
 -- past a node that doesn't have the key
-pub walk_on : (v : View) (key at x : ℕ) (table b : Block) → IsSeat v → IsWalk v key table at → IsNodeAt v at b → v.volatile (b.first_word + 1) ≡ Some x → x ≢ key → IsWalk v key table (b.first_word + 0)
+pub walk_on : (v : View) (key at x : ℕ) (table b : Block) → IsSeat v → IsWalk v key table at → IsNodeAt v at b
+    → v.volatile (b.first_word + 1) ≡ Some x → x ≢ key → IsWalk v key table (b.first_word + 0)
 walk_on v key at x table b seat walk node seen other = record {
   map = walk.map;
   gives = walk.gives;
@@ -117,29 +142,37 @@ walk_on v key at x table b seat walk node seen other = record {
         (in_block b (b.first_word + 1) node.held (record { from = omega arith; until = omega arith })) seen in
         find_in_none image key walk.before (b ∷ []) (walk.past.none image completes) (find_behind image key b [] (λ e. other (sym key_is ∙ e)));
   };
-  at_is = let zero_more : b.first_word + 0 ≡ b.first_word = omega arith in zero_more ∙ sym (behind_more (table.first_word + bucket_of key) walk.before b);
+  at_is = let zero_more : b.first_word + 0 ≡ b.first_word = omega arith in
+      zero_more ∙ sym (behind_more (table.first_word + bucket_of key) walk.before b);
 }
 
 -- at the end of its bucket the key is not there
-pub walk_ends : (v : View) (key at : ℕ) (table : Block) → IsSeat v → IsWalk v key table at → v.volatile at ≡ Some 0 → (map : Map) → GivesMap v (shard_of key) map → map key ≡ None
+pub walk_ends : (v : View) (key at : ℕ) (table : Block) → IsSeat v → IsWalk v key table at → v.volatile at ≡ Some 0 → (map : Map)
+    → GivesMap v (shard_of key) map → map key ≡ None
 walk_ends v key at table seat walk seen map gives =
     let image = now_image v in
     let completes = now_completes v in
-    let along = is_along IsSettling v image seat (shard_of key) key map table walk.before (settling_in v image completes) walk.come (gives.each image completes.mixes) in
+    let along = is_along IsSettling v image seat (shard_of key) key map table walk.before (settling_in v image completes) walk.come
+    (gives.each image completes.mixes) in
     let k = bucket_of key in
     let null : image at ≡ 0 = completes.seen at 0 (own_at v key at table seat walk) seen in
-    let chain = subst (λ (bs : List Block). IsBucketChain (but table (LeadsTo (Contains v.held))) image (shard_of key) k (table.first_word + k) bs) along.is (along.chains k (bucket_below key)) in
+    let chain = subst (λ (bs : List Block). IsBucketChain (but table (LeadsTo (Contains v.held))) image (shard_of key) k
+    (table.first_word + k) bs) along.is (along.chains k (bucket_below key)) in
     found_at map image (shard_of key) key along.nodes along.means refl ∙ ap (λ (bs : List Block). find image key bs) along.is
     ∙ find_in_none image key walk.before along.rest (walk.past.none image completes) (by_rest along.rest chain null) where
-      by_rest : (rest : List Block) → IsBucketChain (but table (LeadsTo (Contains v.held))) (now_image v) (shard_of key) (bucket_of key) (table.first_word + bucket_of key) (walk.before ++ rest)
+      by_rest : (rest : List Block) → IsBucketChain (but table (LeadsTo (Contains v.held))) (now_image v) (shard_of key) (bucket_of key)
+          (table.first_word + bucket_of key) (walk.before ++ rest)
           → now_image v at ≡ 0 → find (now_image v) key rest ≡ None
       by_rest [] chain null = refl
       by_rest (b ∷ rest) chain null =
-          let path = path_right (but table (LeadsTo (Contains v.held))) (now_image v) (shard_of key) (bucket_of key) (table.first_word + bucket_of key) walk.before (b ∷ rest) chain.path in
-          absurd (not_null (now_image v (link_behind (table.first_word + bucket_of key) walk.before)) (8 * b.first_word) path.0.0.1 (sym (ap (now_image v) walk.at_is) ∙ null))
+          let path = path_right (but table (LeadsTo (Contains v.held))) (now_image v) (shard_of key) (bucket_of key)
+          (table.first_word + bucket_of key) walk.before (b ∷ rest) chain.path in
+          absurd (not_null (now_image v (link_behind (table.first_word + bucket_of key) walk.before)) (8 * b.first_word) path.0.0.1
+          (sym (ap (now_image v) walk.at_is) ∙ null))
 
 -- a link that was followed, and the key of its node that was loaded
-pub key_loaded : (v u w : View) (key at word x : ℕ) (table b : Block) → IsSeat v → IsSeat u → IsWalk v key table at → KeepsOwn v u → FollowsLink at word v u → LeadsTo (Contains u.held) word b
+pub key_loaded : (v u w : View) (key at word x : ℕ) (table b : Block) → IsSeat v → IsSeat u → IsWalk v key table at → KeepsOwn v u
+    → FollowsLink at word v u → LeadsTo (Contains u.held) word b
     → KeepsOwn u w → Loads (b.first_word + 1) x u w → GoesPending v w × IsNodeAt w at b × (w.volatile (b.first_word + 1) ≡ Some x)
 key_loaded v u w key at word x table b seat seat_u walk keeps follows leads keeps_u loads =
     let node = node_at v key at table seat walk u word keeps follows seat_u b leads in
@@ -148,7 +181,8 @@ key_loaded v u w key at word x table b seat seat_u walk keeps follows leads keep
     (goes_then v u w follows.goes goes, node_still u w at b own keeps_u goes node, loads.seen)
 
 -- one link further
-module _ (v u w : View) (key : ℕ) (table : Block) (link : Spot) (seat : IsSeat u) (seat_w : IsSeat w) (walking : IsWalking key table link v u) (keeps : KeepsOwn u w) where
+module _ (v u w : View) (key : ℕ) (table : Block) (link : Spot) (seat : IsSeat u) (seat_w : IsSeat w) (walking : IsWalking key table link v u)
+    (keeps : KeepsOwn u w) where
   on_way : GoesPending u w → IsWalk w key table (word_of link)
   on_way goes = walk_still u key (word_of link) table seat walking.walk w keeps goes
 
@@ -213,7 +247,8 @@ module _ (v u w : View) (key : ℕ) (table : Block) (link : Spot) (seat : IsSeat
   }
 
 -- a walk begins at its bucket
-pub walking_start : (v : View) (key : ℕ) (table : Block) (map : Map) → GivesMap v (shard_of key) map → HasCome IsSettling v (shard_of key) key table [] → IsWalking key table (InBlock table (bucket_of key)) v v
+pub walking_start : (v : View) (key : ℕ) (table : Block) (map : Map) → GivesMap v (shard_of key) map
+    → HasCome IsSettling v (shard_of key) key table [] → IsWalking key table (InBlock table (bucket_of key)) v v
 walking_start v key table map gives come = record {
   walk = record { map = map; gives = gives; before = []; come = come; past = record { none = λ image completes. refl }; at_is = refl };
   own = (come.held_table, let below = bucket_below key in let size = come.size in omega arith);

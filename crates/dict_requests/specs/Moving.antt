@@ -41,7 +41,8 @@ pub record IsNodeIn (c : Contents) (b : Block) (value : List ℕ) : Type 0 where
 abbrev pub IsNodeOf : View → Block → List ℕ → Type 0
 IsNodeOf v = IsNodeIn (known_of v)
 
--- a key's node was taken out: the map had this value of the key, and the block that has it, which the shard reached, is held still, where no root reaches it
+-- a key's node was taken out: the map had this value of the key, and the block that has it, which the shard reached, is
+-- held still, where no root reaches it
 pub record IsTakenOut (key : ℕ) (b : Block) (v w : View) : Type 0 where
   pub value : List ℕ
   pub had : (map : Map) → GivesMap v (shard_of key) map → map key ≡ Some value

@@ -60,7 +60,8 @@ is_node = (
     short = omega arith;
     fits = omega arith;
     each = λ image mixes.
-        value_of image 25185 (one_of (mixes 1102 (record { from = omega arith; until = omega arith }))) (one_of (mixes 1103 (record { from = omega arith; until = omega arith })));
+        value_of image 25185 (one_of (mixes 1102 (record { from = omega arith; until = omega arith })))
+        (one_of (mixes 1103 (record { from = omega arith; until = omega arith })));
   },
   record {
     short = omega arith;
@@ -74,8 +75,10 @@ is_node = (
   },
 )
 
--- no node of another value, nor of a shorter or a longer one; nor a block without room; nor one of whose words loads may see any, or a crash leave any
-is_no_node : (IsNodeOf (seeing 0 0 0 0) node (97 ∷ 99 ∷ []) → ⊥) × (IsNodeOf (seeing 0 0 0 0) node (97 ∷ []) → ⊥) × (IsNodeOf (seeing 0 0 0 0) node (97 ∷ 98 ∷ 0 ∷ []) → ⊥)
+-- no node of another value, nor of a shorter or a longer one; nor a block without room; nor one of whose words loads
+-- may see any, or a crash leave any
+is_no_node : (IsNodeOf (seeing 0 0 0 0) node (97 ∷ 99 ∷ []) → ⊥) × (IsNodeOf (seeing 0 0 0 0) node (97 ∷ []) → ⊥)
+    × (IsNodeOf (seeing 0 0 0 0) node (97 ∷ 98 ∷ 0 ∷ []) → ⊥)
     × (IsNodeOf (seeing 0 0 0 0) (record { first_word = 1100; words = 3 }) (97 ∷ 98 ∷ []) → ⊥)
     × (IsNodeOf (record (seeing 0 0 0 0) { volatile = λ word. None }) node (97 ∷ 98 ∷ []) → ⊥)
     × (IsNodeOf (record (seeing 0 0 0 0) { durable = λ word. None }) node (97 ∷ 98 ∷ []) → ⊥)
@@ -92,19 +95,29 @@ is_no_node = (
 root_is : (root : ℕ) → Contains (2 ∷ []) root → root ≡ 2
 root_is root c = elim (head_or_rest 2 root [] c) as (λ _. root ≡ 2) [ inl same ↦ sym same | inr none ↦ absurd (in_none root none) ]
 
-root_reads : (seen left root value : ℕ) → Contains (2 ∷ []) root → MayRead (seeing seen left 0 0) (root_word root) value → (value ≡ seen) ⊎ (value ≡ left)
+root_reads : (seen left root value : ℕ) → Contains (2 ∷ []) root → MayRead (seeing seen left 0 0) (root_word root) value
+    → (value ≡ seen) ⊎ (value ≡ left)
 root_reads seen left root value c read = subst (λ r. MayRead (seeing seen left 0 0) (root_word r) value) (root_is root c) read
 
--- both blocks are loose where the root is null; none is that a crash leaves the root leading to, or that loads see it leading to, nor one that is not held
+-- both blocks are loose where the root is null; none is that a crash leaves the root leading to, or that loads see it
+-- leading to, nor one that is not held
 loose : IsLoose node (seeing 0 0 0 0) × IsLoose other (seeing 0 0 0 0)
 loose = (
-  record { held = in_head node (other ∷ []); unreached = λ root kind. closure_least (λ b k. ⊥) (none root) (λ a b from k reached has link. has) node kind },
-  record { held = in_rest node other (other ∷ []) (in_head other []); unreached = λ root kind. closure_least (λ b k. ⊥) (none root) (λ a b from k reached has link. has) other kind },
+  record {
+    held = in_head node (other ∷ []);
+    unreached = λ root kind. closure_least (λ b k. ⊥) (none root)
+        (λ a b from k reached has link. has) node kind;
+  },
+  record {
+    held = in_rest node other (other ∷ []) (in_head other []);
+    unreached = λ root kind. closure_least (λ b k. ⊥) (none root) (λ a b from k reached has link. has) other kind;
+  },
 ) where
   none : (root : ℕ) (b : Block) (kind : ℕ) → RootReaches (MayRead (seeing 0 0 0 0)) (seeing 0 0 0 0) root b kind → ⊥
   none root b kind start = not_null start.value (8 * b.first_word) start.leads.1 (one_of (root_reads 0 0 root start.value start.owned start.read))
 
-not_loose : (IsLoose node (seeing 0 (pointer_to node) 0 0) → ⊥) × (IsLoose node (seeing (pointer_to node) 0 0 0) → ⊥) × (IsLoose third (seeing 0 0 0 0) → ⊥)
+not_loose : (IsLoose node (seeing 0 (pointer_to node) 0 0) → ⊥) × (IsLoose node (seeing (pointer_to node) 0 0 0) → ⊥)
+    × (IsLoose third (seeing 0 0 0 0) → ⊥)
 not_loose = (
   λ is. is.unreached 2 0 (by_start node 0 (record {
     owned = in_head 2 [];
@@ -146,16 +159,19 @@ no_links : (from words position kind : ℕ) → IsLink from words position kind 
 no_links _ _ _ _ (in_table words position below) zero = omega (arith, zero)
 no_links _ _ _ _ (in_node words some) zero = omega (arith, zero)
 
-reached_is : (reads : View → Reading) → ((word value : ℕ) → reads leading word value → MayRead leading word value) → (root : ℕ) (b : Block) (kind : ℕ) → ReachesBy reads leading root b kind
+reached_is : (reads : View → Reading) → ((word value : ℕ) → reads leading word value → MayRead leading word value)
+    → (root : ℕ) (b : Block) (kind : ℕ) → ReachesBy reads leading root b kind
     → (root ≡ 2) × (b ≡ other) × (kind ≡ 0)
 reached_is reads may root = closure_least (λ b kind. (root ≡ 2) × (b ≡ other) × (kind ≡ 0)) from_root from_link where
   from_root : (b : Block) (kind : ℕ) → RootReaches (reads leading) leading root b kind → (root ≡ 2) × (b ≡ other) × (kind ≡ 0)
   from_root b kind start =
       let two = root_is root start.owned in
-      let value = one_of (root_reads (pointer_to other) (pointer_to other) root start.value start.owned (may (root_word root) start.value start.read)) in
+      let value = one_of (root_reads (pointer_to other) (pointer_to other) root start.value start.owned
+      (may (root_word root) start.value start.read)) in
       (two, is_other b (subst (λ x. LeadsTo (Contains leading.held) x b) value start.leads), start.kind_is ∙ ap (kind_of leading) two)
 
-  from_link : (a b : Block) (from kind : ℕ) → ReachesBy reads leading root a from → (root ≡ 2) × (a ≡ other) × (from ≡ 0) → LinkReaches (reads leading) leading a from b kind
+  from_link : (a b : Block) (from kind : ℕ) → ReachesBy reads leading root a from → (root ≡ 2) × (a ≡ other) × (from ≡ 0)
+      → LinkReaches (reads leading) leading a from b kind
       → (root ≡ 2) × (b ≡ other) × (kind ≡ 0)
   from_link a b from kind reached has link = absurd (no_links from a.words link.position kind link.is_link has.2)
 
@@ -167,7 +183,11 @@ all_but : ReachesAllHeldBut node leading
 all_but = record {
   only = record {
     roots = λ root value owned read.
-        inr (other, subst (λ x. LeadsTo (Contains leading.held) x other) (sym (one_of (root_reads (pointer_to other) (pointer_to other) root value owned read))) leads_to_other);
+        inr (
+          other,
+          subst (λ x. LeadsTo (Contains leading.held) x other)
+              (sym (one_of (root_reads (pointer_to other) (pointer_to other) root value owned read))) leads_to_other,
+        );
     links = λ root a from position kind value reached link read.
         absurd (no_links from a.words position kind link (reached_is MayRead (λ word x r. r) root a from reached).2);
     alone = λ shard root b kind last below differs one two.
@@ -203,13 +223,15 @@ head_root : (root value : ℕ) → Contains (2 ∷ []) root → MayRead head_sto
 head_root root value c read = one_of (subst (λ r. MayRead head_stored (root_word r) value) (root_is root c) read)
 
 head_reaches : (root : ℕ) (b : Block) (kind : ℕ) → MayReach head_stored root b kind → ⊥
-head_reaches root = closure_least (λ b kind. ⊥) (λ b kind start. not_null start.value (8 * b.first_word) start.leads.1 (head_root root start.value start.owned start.read))
+head_reaches root = closure_least (λ b kind. ⊥) (λ b kind start. not_null start.value (8 * b.first_word) start.leads.1
+    (head_root root start.value start.owned start.read))
     (λ a b from kind reached has link. has)
 
 head_keeps : (word : ℕ) → word ≢ 1100 → word ≢ 1101 → KeepsWord (seeing 0 0 0 0) head_stored word
 head_keeps word link key = record {
   volatile = λ value seen.
-      ap (λ n. Some n) (cond-false (nat_eq word 1100) 5 (cond (nat_eq word 1101) 9 (stored 0 0 word)) (ne_eqb word 1100 link) ∙ cond-false (nat_eq word 1101) 9 (stored 0 0 word) (ne_eqb word 1101 key)) ∙ seen;
+      ap (λ n. Some n) (cond-false (nat_eq word 1100) 5 (cond (nat_eq word 1101) 9 (stored 0 0 word)) (ne_eqb word 1100 link)
+      ∙ cond-false (nat_eq word 1101) 9 (stored 0 0 word) (ne_eqb word 1101 key)) ∙ seen;
   durable = λ value may. inr may;
 }
 
@@ -222,7 +244,8 @@ brings_head : (after : Map → Map) → MayBring node 2 after (seeing 0 0 0 0) h
 brings_head after = record {
   either = λ map gives. record {
     each = λ image mixes.
-        inl (is_empty (head_root 2 (image 42) (in_head 2 []) (mixes.each 42 (in_root 2 42 (in_head 2 []) refl))) (no_keys_in map (gives.each (stored 0 0) (record { each = λ word own. inl refl }))));
+        inl (is_empty (head_root 2 (image 42) (in_head 2 []) (mixes.each 42 (in_root 2 42 (in_head 2 []) refl)))
+        (no_keys_in map (gives.each (stored 0 0) (record { each = λ word own. inl refl }))));
   };
   only = record {
     roots = λ root value owned read. inl (head_root root value owned read);
@@ -239,7 +262,8 @@ brings_head after = record {
       λ word inside. elim (head_or_rest node a (other ∷ []) h) as (λ _. KeepsWord (seeing 0 0 0 0) head_stored word) [
         | inl same ↦ absurd (differs (sym same))
         | inr rest ↦ elim (head_or_rest other a [] rest) as (λ _. KeepsWord (seeing 0 0 0 0) head_stored word) [
-          | inl same ↦ let first = ap (λ (x : Block). x.first_word) same in let from = inside.from in head_keeps word (λ e. omega arith) (λ e. omega arith)
+          | inl same ↦ let first = ap (λ (x : Block). x.first_word) same in let from = inside.from in
+              head_keeps word (λ e. omega arith) (λ e. omega arith)
           | inr none ↦ absurd (in_none a none)
         ]
       ],
@@ -247,14 +271,19 @@ brings_head after = record {
   };
   stays = in_head node (other ∷ []);
   value = λ word inside behind.
-      head_keeps word (λ e. behind (record { from = omega arith; until = omega arith })) (λ e. behind (record { from = omega arith; until = omega arith }));
+      head_keeps word (λ e. behind (record { from = omega arith; until = omega arith }))
+      (λ e. behind (record { from = omega arith; until = omega arith }));
 }
 
 -- none ends with its node freed, nor with another value stored to it
 brings_not : (after : Map → Map) → (MayBring node 2 after (seeing 0 0 0 0) (record (seeing 0 0 0 0) { held = other ∷ [] }) → ⊥)
     × (MayBring node 2 after (seeing 0 0 0 0) (seeing 0 0 7 7) → ⊥)
 brings_not after = (
-  λ may. elim (head_or_rest other node [] may.stays) as (λ _. ⊥) [ inl same ↦ let e = ap (λ (b : Block). b.first_word) same in omega arith | inr none ↦ in_none node none ],
+  λ may. elim (head_or_rest other node [] may.stays) as (λ _. ⊥) [
+    | inl same ↦ let e = ap (λ (b : Block). b.first_word) same in
+        omega arith
+    | inr none ↦ in_none node none
+  ],
   λ may.
       let inside : IsIn node 1103 = record { from = omega arith; until = omega arith } in
       let keeps : KeepsWord (seeing 0 0 0 0) (seeing 0 0 7 7) 1103 = may.value 1103 inside (λ head. let until = head.until in omega arith) in

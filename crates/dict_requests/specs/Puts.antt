@@ -21,7 +21,8 @@ pub record IsMissing (v : View) (key : ℕ) (table : Block) : Type 0 where
   pub come : HasCome IsSettling v (shard_of key) key table []
   pub none : (map : Map) → GivesMap v (shard_of key) map → map key ≡ None
 
--- a request of so many bytes was refused in this call, the only one: it is the last refusal, and had these looks; the call took at most so many superblocks
+-- a request of so many bytes was refused in this call, the only one: it is the last refusal, and had these looks; the
+-- call took at most so many superblocks
 pub record IsRefused (bytes most : ℕ) (looks : Looks) (v w : View) : Type 0 where
   pub runs : Runs v w
   pub found : FoundNoRoom bytes looks v w
@@ -30,8 +31,10 @@ pub record IsRefused (bytes most : ℕ) (looks : Looks) (v w : View) : Type 0 wh
   pub looks_are : w.refused_looks ≡ looks
   pub taken : w.taken ≤ v.taken + most
 
--- within a call from s to t the heap turned a request of so many bytes down: what has_none says of a heap's seat was so before and after it; and before and behind that all was kept that each call keeps
-pub record WasTurnedDown {S : Type 0} (keeps : S → S → Type 0) (has_none : S → S → ℕ → Looks → Type 0) (bytes : ℕ) (looks : Looks) (s t : S) : Type 0 where
+-- within a call from s to t the heap turned a request of so many bytes down: what has_none says of a heap's seat was so
+-- before and after it; and before and behind that all was kept that each call keeps
+pub record WasTurnedDown {S : Type 0} (keeps : S → S → Type 0) (has_none : S → S → ℕ → Looks → Type 0) (bytes : ℕ) (looks : Looks)
+    (s t : S) : Type 0 where
   pub before : S
   pub after : S
   pub kept_before : keeps s before

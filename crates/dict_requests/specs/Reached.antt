@@ -47,7 +47,8 @@ Reaches = ReachesBy Sees
 abbrev pub IsNullOrHeld : View → ℕ → Type 0
 IsNullOrHeld v value = (value ≡ 0) ⊎ ((b : Block) × LeadsTo (Contains v.held) value b)
 
--- each word that may be followed from an own root is null or leads to a held block, and no block is reached both from a root of a shard and from another root
+-- each word that may be followed from an own root is null or leads to a held block, and no block is reached both from a
+-- root of a shard and from another root
 pub record ReachesOnlyHeld (v : View) : Type 0 where
   pub roots : (root value : ℕ) → Contains v.roots root → MayRead v (root_word root) value → IsNullOrHeld v value
   pub links : (root : ℕ) (a : Block) (from position kind value : ℕ) → MayReach v root a from → IsLink from a.words position kind

@@ -14,7 +14,8 @@ pub record ShareHeap (count : ℕ) (seats : ℕ → View) : Type 0 where
   pub owner : (root : ℕ) → root < roots → (i : ℕ) × (i < count) × Contains (seats i).roots root
   pub one_holder : (i j : ℕ) (b : Block) → i < count → j < count → Contains (seats i).held b → Contains (seats j).held b → i ≡ j
 
--- the image has each seat's own words, each with a value that may be read, names the blocks that the seats hold, and stores the kinds that the seats see
+-- the image has each seat's own words, each with a value that may be read, names the blocks that the seats hold, and
+-- stores the kinds that the seats see
 pub record MixesSeats (count : ℕ) (seats : ℕ → View) (image : Image) : Type 0 where
   pub mixes : (i : ℕ) → i < count → MixesOwn (seats i) image
   pub names : (i : ℕ) → i < count → NamesAll image (seats i).held

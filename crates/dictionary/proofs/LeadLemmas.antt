@@ -20,21 +20,24 @@ use Rattle.dict_model.specs.Shards.{Leading, LeadsOnce, LeadsAstray, LeadsAlone,
 use Rattle.dictionary.specs.Reading.{IsRead}
 
 -- a word that leads to a block that isn't wanted leads astray
-pub not_wanted : (leads : Leading) (once : LeadsOnce leads) (wanted : Block → Type 0) (word : ℕ) (b : Block) → leads word b → (wanted b → ⊥) → LeadsAstray leads wanted word
+pub not_wanted : (leads : Leading) (once : LeadsOnce leads) (wanted : Block → Type 0) (word : ℕ) (b : Block) → leads word b → (wanted b → ⊥)
+    → LeadsAstray leads wanted word
 not_wanted leads once wanted word b to not = record {
   not_null = λ null. once.null b (subst (λ w. leads w b) null to);
   nowhere = λ c to_c wants. not (subst (λ x. wanted x) (once.one word c b to_c to) wants);
 }
 
 -- so does one that leads to the table where a node is wanted
-pub not_table : (leads : Leading) (once : LeadsOnce leads) (wanted : Block → Type 0) (word : ℕ) (b table : Block) → leads word b → b ≡ table → LeadsAstray (but table leads) wanted word
+pub not_table : (leads : Leading) (once : LeadsOnce leads) (wanted : Block → Type 0) (word : ℕ) (b table : Block) → leads word b → b ≡ table
+    → LeadsAstray (but table leads) wanted word
 not_table leads once wanted word b table to is = record {
   not_null = λ null. once.null b (subst (λ w. leads w b) null to);
   nowhere = λ c to_c wants. to_c.1 (once.one word c b to_c.0 to ∙ is);
 }
 
 -- what leads astray whatever is wanted does so where something is
-pub astray_more : (leads leads' : Leading) (wanted wanted' : Block → Type 0) (word : ℕ) → ((b : Block) → leads' word b → wanted' b → leads word b × wanted b)
+pub astray_more : (leads leads' : Leading) (wanted wanted' : Block → Type 0) (word : ℕ)
+    → ((b : Block) → leads' word b → wanted' b → leads word b × wanted b)
     → LeadsAstray leads wanted word → LeadsAstray leads' wanted' word
 astray_more leads leads' wanted wanted' word more astray = record {
   not_null = astray.not_null;
@@ -43,17 +46,20 @@ astray_more leads leads' wanted wanted' word more astray = record {
 
 module _ (image : Image) (shard word : ℕ) (b : Block) (leads : Leads image word b) where
   -- a word that leads to a block which another root reaches leads to none that it may lead to
-  pub beside_astray : (wanted : Block → Type 0) → IsReachedBeside image (kinds_of image) dict_links shard b → LeadsAstray (LeadsAlone image shard) wanted word
+  pub beside_astray : (wanted : Block → Type 0) → IsReachedBeside image (kinds_of image) dict_links shard b
+      → LeadsAstray (LeadsAlone image shard) wanted word
   beside_astray wanted beside = record {
     not_null = λ null. let to = leads.pointer in omega arith;
-    nowhere = λ c to_c wants. to_c.1 beside.kind (subst (λ x. ReachFrom image (λ i. i ≢ shard) (kinds_of image) dict_links x beside.kind) (one_block image word b c leads to_c.0) beside.reached);
+    nowhere = λ c to_c wants. to_c.1 beside.kind (subst (λ x. ReachFrom image (λ i. i ≢ shard) (kinds_of image) dict_links x beside.kind)
+        (one_block image word b c leads to_c.0) beside.reached);
   }
 
   pub leads_alone : (IsReachedBeside image (kinds_of image) dict_links shard b → ⊥) → LeadsAlone image shard word b
   leads_alone none = (leads, λ kind reached. none (record { kind = kind; reached = reached }))
 
 -- the words of a block lie in the image
-pub lies_in : (words : List ℕ) (directory : Divisions) (origins : Origins) (b : Block) → IsRead words directory origins → IsBlock (layout_of (slice_index words)) b
+pub lies_in : (words : List ℕ) (directory : Divisions) (origins : Origins) (b : Block) → IsRead words directory origins
+    → IsBlock (layout_of (slice_index words)) b
     → (b.first_word + b.words ≤ length words) × (length words < 2 ^ 31)
 lies_in words directory origins b read is =
     (block_within (slice_index words) (length words) b read.formed is, (image_short (slice_index words) (length words) read.formed).1)
@@ -61,7 +67,8 @@ lies_in words directory origins b read is =
 -- blocks that are not told apart are one
 pub same_block : (a b : Block) → not (nat_eq a.first_word b.first_word && nat_eq a.words b.words) ≡ false → a ≡ b
 same_block a b same =
-    let parts = and_parts (nat_eq a.first_word b.first_word) (nat_eq a.words b.words) (not-false (nat_eq a.first_word b.first_word && nat_eq a.words b.words) same) in
+    let parts = and_parts (nat_eq a.first_word b.first_word) (nat_eq a.words b.words)
+    (not-false (nat_eq a.first_word b.first_word && nat_eq a.words b.words) same) in
     let first : a.first_word ≡ b.first_word = eqb-true a.first_word b.first_word parts.0 in
     let words : a.words ≡ b.words = eqb-true a.words b.words parts.1 in
     λ i. record { first_word = first i; words = words i }
@@ -73,7 +80,8 @@ value_lies count words from total fits within small = (omega arith, omega arith)
 
 -- and its bytes are the first of theirs
 pub value_read : (words : List ℕ) (b : Block) (count : ℕ) → count ≡ length_in (slice_index words) b → b.first_word + 3 + (count + 7) / 8 ≤ length words
-    → take count (bytes_of_words (take (b.first_word + 3 + (count + 7) / 8 - (b.first_word + 3)) (drop (b.first_word + 3) words))) ≡ value_in (slice_index words) b
+    → take count (bytes_of_words (take (b.first_word + 3 + (count + 7) / 8 - (b.first_word + 3)) (drop (b.first_word + 3) words))) ≡ value_in
+    (slice_index words) b
 value_read words b count is fits =
     let size : b.first_word + 3 + (count + 7) / 8 - (b.first_word + 3) ≡ (count + 7) / 8 = omega arith in
     rw (size, ← words_from-list words (b.first_word + 3) ((count + 7) / 8) fits)

@@ -87,7 +87,8 @@ module _ (old new : Image) (alike : TracesAlike old new AnyRoot (kinds_of old) d
     alone_new shard b leads = (
       to_new b leads.0,
       λ k reached. leads.1 k
-          (nothing_more old new (λ i. i ≢ shard) (kinds_of old) dict_links (chosen_alike (λ i. i ≢ shard)) (λ w traced. inside w (any_root (λ i. i ≢ shard) w traced)) b k
+          (nothing_more old new (λ i. i ≢ shard) (kinds_of old) dict_links (chosen_alike (λ i. i ≢ shard))
+          (λ w traced. inside w (any_root (λ i. i ≢ shard) w traced)) b k
           (reach_by_kinds {chosen = λ i. i ≢ shard} new (kinds_of new) (kinds_of old) dict_links kinds_same b k reached)),
     )
 
@@ -95,7 +96,8 @@ module _ (old new : Image) (alike : TracesAlike old new AnyRoot (kinds_of old) d
     alone_old shard b leads = (
       to_old b leads.0,
       λ k reached. leads.1 k
-          (reach_by_kinds {chosen = λ i. i ≢ shard} new (kinds_of old) (kinds_of new) dict_links (λ i below. sym (kinds_same i below)) b k (reach_kept old new (λ i. i ≢ shard) (kinds_of old) dict_links (chosen_alike (λ i. i ≢ shard)) b k reached)),
+          (reach_by_kinds {chosen = λ i. i ≢ shard} new (kinds_of old) (kinds_of new) dict_links (λ i below. sym (kinds_same i below)) b k
+          (reach_kept old new (λ i. i ≢ shard) (kinds_of old) dict_links (chosen_alike (λ i. i ≢ shard)) b k reached)),
     )
 
     null_old : new at ≡ 0 → old at ≡ 0
@@ -119,7 +121,11 @@ module _ (old new : Image) (alike : TracesAlike old new AnyRoot (kinds_of old) d
       let here : b.first_word ≡ b.first_word + 0 = omega arith in
       record {
         traced = is_linked b 2 0 2 b.first_word reached (node_lists old b count is) here;
-        reaches = λ c leads. by_link b c 2 2 reached (record { position = 0; listed = node_lists old b count is; leads = subst (λ at. Leads old (old at) c) here leads });
+        reaches = λ c leads. by_link b c 2 2 reached (record {
+          position = 0;
+          listed = node_lists old b count is;
+          leads = subst (λ at. Leads old (old at) c) here leads;
+        });
       }
 
   -- the words of a reached node are the same
@@ -130,12 +136,14 @@ module _ (old new : Image) (alike : TracesAlike old new AnyRoot (kinds_of old) d
 
   same_node : (b : Block) → Reach old (kinds_of old) dict_links b 2 → 3 + value_words (length_in new b) ≤ b.words → IsSameNode b
   same_node b reached fits =
-      let word : (w : ℕ) → b.first_word ≤ w → w < b.first_word + b.words → new w ≡ old w = λ w low high. words_same b 2 w reached (record { from = low; until = high }) in
+      let word : (w : ℕ) → b.first_word ≤ w → w < b.first_word + b.words
+      → new w ≡ old w = λ w low high. words_same b 2 w reached (record { from = low; until = high }) in
       let count = word (b.first_word + 2) (omega arith) (omega arith) in
       record {
         key = word (b.first_word + 1) (omega arith) (omega arith);
         count = count;
-        value = ap (λ ws. take (length_in new b) (bytes_of_words ws)) (words_from-agree new old (b.first_word + 3) (value_words (length_in new b)) (λ w low high. word w (omega arith) (omega arith)))
+        value = ap (λ ws. take (length_in new b) (bytes_of_words ws))
+            (words_from-agree new old (b.first_word + 3) (value_words (length_in new b)) (λ w low high. word w (omega arith) (omega arith)))
             ∙ ap (λ n. take n (bytes_of_words (words_from old (b.first_word + 3) (value_words n)))) count;
       }
 
@@ -175,7 +183,13 @@ module _ (old new : Image) (alike : TracesAlike old new AnyRoot (kinds_of old) d
         let fits = path.1.fits in
         let rest = same_path b.first_word bs (node_way b (b.words - 1) (omega arith) reached) path.3 in
         record {
-          path = ((leads, path.0.1), node_old shard bucket b same path.1, sym (find_same (key_in old b) bs rest.same) ∙ subst (λ k. find new k bs ≡ None) same.key path.2, rest.path);
+          path = (
+            (leads, path.0.1),
+            node_old shard bucket b same path.1,
+            sym (find_same (key_in old b) bs rest.same)
+                ∙ subst (λ k. find new k bs ≡ None) same.key path.2,
+            rest.path,
+          );
           same = (same, rest.same);
           way = rest.way;
         }
@@ -190,7 +204,8 @@ module _ (old new : Image) (alike : TracesAlike old new AnyRoot (kinds_of old) d
         record { chain = record { path = path.path; ends = null_old (link_behind at bs) 2 path.way chain.ends }; same = path.same }
 
   -- where the one image has a node, so has the other
-  node_new : (shard bucket : ℕ) (b : Block) → Reach old (kinds_of old) dict_links b 2 → IsNode old shard bucket b → IsSameNode b × IsNode new shard bucket b
+  node_new : (shard bucket : ℕ) (b : Block) → Reach old (kinds_of old) dict_links b 2 → IsNode old shard bucket b → IsSameNode b
+      × IsNode new shard bucket b
   node_new shard bucket b reached is =
       let fits = is.fits in
       let count = words_same b 2 (b.first_word + 2) reached (record { from = omega arith; until = omega arith }) in
@@ -206,7 +221,10 @@ module _ (old new : Image) (alike : TracesAlike old new AnyRoot (kinds_of old) d
 
   module _ (shard : ℕ) (below : shard < shards) (is_table : kinds_of old shard ≡ table_kind) where
     table_old : (table : Block) → HasTable (LeadsAlone new shard) new shard table → HasTable (LeadsAlone old shard) old shard table
-    table_old table there = record { leads_there = alone_old (root_word shard) 1 (root_way shard below is_table) shard table there.leads_there; size = there.size }
+    table_old table there = record {
+      leads_there = alone_old (root_word shard) 1 (root_way shard below is_table) shard table there.leads_there;
+      size = there.size;
+    }
 
     table_reached : (table : Block) → HasTable (LeadsAlone new shard) new shard table → Reach old (kinds_of old) dict_links table 1
     table_reached table there = (root_way shard below is_table).reaches table (table_old table there).leads_there.0
@@ -261,10 +279,12 @@ module _ (old new : Image) (to : RecoversTo old new) where
       ∙ kinds_unchanged old new (IsReachedIn old dict_links) to.recovered root below
 
   reached_words : (b : Block) (kind word : ℕ) → Reach old (kinds_of old) dict_links b kind → IsIn b word → new word ≡ old word
-  reached_words b kind word reached inside = words_unchanged old new (kinds_of old) dict_links to.recovered b word (record { kind = kind; reach = reached }) inside
+  reached_words b kind word reached inside = words_unchanged old new (kinds_of old) dict_links to.recovered b word
+      (record { kind = kind; reach = reached }) inside
 
   traced_words : (at : ℕ) → IsTraced old (kinds_of old) dict_links at → new at ≡ old at
-  traced_words _ (is_root root at below chosen is) = subst (λ w. new w ≡ old w) (sym is) (roots_unchanged old new (kinds_of old) dict_links to.recovered root below)
+  traced_words _ (is_root root at below chosen is) = subst (λ w. new w ≡ old w) (sym is)
+      (roots_unchanged old new (kinds_of old) dict_links to.recovered root below)
   traced_words _ (is_linked a from position kind at reached listed is) =
       let long = length-words_from old a.first_word a.words in
       let inside = are_inside.position from (words_in old a) position kind listed in
@@ -274,7 +294,8 @@ module _ (old new : Image) (to : RecoversTo old new) where
   traced_alike = record {
     same_words = traced_words;
     are_blocks = λ b kind reached. to.blocks b (record { kind = kind; reach = reached });
-    same_links = λ b kind reached. ap (λ ws. dict_links kind ws) (words_from-agree new old b.first_word b.words (λ w low high. reached_words b kind w reached (record { from = low; until = high })));
+    same_links = λ b kind reached. ap (λ ws. dict_links kind ws) (words_from-agree new old b.first_word b.words
+        (λ w low high. reached_words b kind w reached (record { from = low; until = high })));
   }
 
   pub none_outside : (at : ℕ) → IsTraced old (kinds_of old) dict_links at → LeadsOutside old (old at) → ⊥
@@ -290,7 +311,8 @@ module _ (old new : Image) (to : RecoversTo old new) where
 
   pub bad_kept : (shard at : ℕ) → shard < shards → BadShard new shard at → BadShard old shard at
   bad_kept shard _ below (at_kind other) =
-      subst (λ capacity. BadShard old shard (kind_word capacity shard)) (sym (to.recovered.same capacity_word (in_header capacity_word (inr (inr (inl refl))))))
+      subst (λ capacity. BadShard old shard (kind_word capacity shard))
+      (sym (to.recovered.same capacity_word (in_header capacity_word (inr (inr (inl refl))))))
       (at_kind (λ is. other (kinds_kept shard (omega arith) ∙ is)))
   bad_kept shard at below (in_table _ is bad) =
       let kind = kind_before shard table_kind below is in

@@ -24,7 +24,8 @@ links_begin links from b within first = below_more (λ k. slice_index (set links
     (λ k below. get_or-set_other links b k (from + b) 0 (λ e. omega arith) ∙ first k below) (get_or-set_same links b (from + b) 0 within)
 
 pub unread_begin : (unread : List ℕ) (b : ℕ) → ((k : ℕ) → k < b → Contains unread k) → (k : ℕ) → k < b + 1 → Contains (unread ++ b ∷ []) k
-unread_begin unread b all = below_more (λ k. Contains (unread ++ b ∷ []) k) b (λ k below. Contains-append_left unread (b ∷ []) k (all k below)) (Contains-push unread b)
+unread_begin unread b all = below_more (λ k. Contains (unread ++ b ∷ []) k) b (λ k below. Contains-append_left unread (b ∷ []) k (all k below))
+    (Contains-push unread b)
 
 -- each link lies in the image, also that of one more node
 pub links_inside : (links : List ℕ) (b at total : ℕ) → b < length links → at < total → ((k : ℕ) → k < buckets → slice_index links k < total)
@@ -69,7 +70,8 @@ module _ (leads : Leading) (image : Image) (shard : ℕ) (table : Block) where
   -- where a link leads to no next node, the shard is no map
   module _ (once : LeadsOnce leads) (b : ℕ) (links unread : List ℕ) (read : Map) (there : HasTable leads image shard table) (below : b < buckets)
       (along : IsMapAlong links unread read) where
-    no_next : (map : Map) → LeadsAstray (but table leads) (IsNext image shard b (along.nodes b)) (image (slice_index links b)) → IsMap leads image shard map → ⊥
+    no_next : (map : Map) → LeadsAstray (but table leads) (IsNext image shard b (along.nodes b)) (image (slice_index links b))
+        → IsMap leads image shard map → ⊥
     no_next map astray (is_empty null none) = once.null table (subst (λ w. leads w table) null there.leads_there)
     no_next map astray (has_table other nodes found chains means) =
         let same : other ≡ table = once.one (image (root_word shard)) other table found.leads_there there.leads_there in
@@ -78,12 +80,14 @@ module _ (leads : Leading) (image : Image) (shard : ℕ) (table : Block) where
         (λ k low. subst (λ (t : Block). HasChains leads image shard t buckets nodes) same chains k (omega arith))
         (along.paths b below) (along.links_are b below) astray)
 
-    pub astray_no_map : LeadsAstray (but table leads) (IsNode image shard b) (image (slice_index links b)) → (map : Map) → IsMap leads image shard map → ⊥
+    pub astray_no_map : LeadsAstray (but table leads) (IsNode image shard b) (image (slice_index links b)) → (map : Map)
+        → IsMap leads image shard map → ⊥
     astray_no_map astray map = no_next map (no_node leads image shard table b (image (slice_index links b)) along.nodes astray)
 
     pub met_no_map : (node : Block) → but table leads (image (slice_index links b)) node → IsNode image shard b node → IsSome (read (key_in image node))
         → (map : Map) → IsMap leads image shard map → ⊥
-    met_no_map node to is met map = no_next map (no_new_key leads image shard table b once (image (slice_index links b)) along.nodes read node along.means to is met)
+    met_no_map node to is met map = no_next map (no_new_key leads image shard table b once
+        (image (slice_index links b)) along.nodes read node along.means to is met)
 
   module _ (b : ℕ) (links unread : List ℕ) where
     -- a chain ends
@@ -104,7 +108,8 @@ module _ (leads : Leading) (image : Image) (shard : ℕ) (table : Block) where
 
     -- one more node of a chain
     module _ (old new : BTreeMap ℕ (List ℕ)) (node : Block) (along : IsMapAlong links (b ∷ unread) (get nat_cmp old)) (below : b < buckets)
-        (within : b < length links) (to : but table leads (image (slice_index links b)) node) (is : IsNode image shard b node) (adds : AddsNode image node old new) where
+        (within : b < length links) (to : but table leads (image (slice_index links b)) node) (is : IsNode image shard b node)
+        (adds : AddsNode image node old new) where
       abbrev more_nodes : ℕ → List Block
       more_nodes = further leads image shard table b along.nodes node
 
@@ -116,8 +121,10 @@ module _ (leads : Leading) (image : Image) (shard : ℕ) (table : Block) where
       path_at k low = elim (cases_eq k b) as (λ _. IsPath (but table leads) image shard k (table.first_word + k) (more_nodes k)) [
         | inl same ↦ subst (λ j. IsPath (but table leads) image shard j (table.first_word + j) (more_nodes j)) (sym same)
             (subst (λ bs. IsPath (but table leads) image shard b (table.first_word + b) bs) (sym (with_same along.nodes b (along.nodes b ++ node ∷ [])))
-            (path-push image node (but table leads) shard b (table.first_word + b) (along.nodes b) (along.paths b below) (subst (λ at. but table leads (image at) node) (along.links_are b below) to) is none))
-        | inr apart ↦ subst (λ bs. IsPath (but table leads) image shard k (table.first_word + k) bs) (sym (with_other along.nodes b (along.nodes b ++ node ∷ []) k apart)) (along.paths k low)
+            (path-push image node (but table leads) shard b (table.first_word + b) (along.nodes b) (along.paths b below)
+            (subst (λ at. but table leads (image at) node) (along.links_are b below) to) is none))
+        | inr apart ↦ subst (λ bs. IsPath (but table leads) image shard k (table.first_word + k) bs)
+            (sym (with_other along.nodes b (along.nodes b ++ node ∷ []) k apart)) (along.paths k low)
       ]
 
       link_at : (k : ℕ) → k < buckets → slice_index (set links b node.first_word) k ≡ link_behind (table.first_word + k) (more_nodes k)
@@ -134,10 +141,11 @@ module _ (leads : Leading) (image : Image) (shard : ℕ) (table : Block) where
       ended_at k low = elim (cases_eq k b) as (λ _. Contains (unread ++ b ∷ []) k ⊎ (image (slice_index (set links b node.first_word) k) ≡ 0)) [
         | inl same ↦ inl (subst (λ j. Contains (unread ++ b ∷ []) j) (sym same) (Contains-push unread b))
         | inr apart ↦ elim (along.ended k low) as (λ _. Contains (unread ++ b ∷ []) k ⊎ (image (slice_index (set links b node.first_word) k) ≡ 0)) [
-          | inl was ↦ elim (head_or_rest b k unread was) as (λ _. Contains (unread ++ b ∷ []) k ⊎ (image (slice_index (set links b node.first_word) k) ≡ 0)) [
-            | inl same ↦ absurd (apart (sym same))
-            | inr rest ↦ inl (Contains-append_left unread (b ∷ []) k rest)
-          ]
+          | inl was ↦ elim (head_or_rest b k unread was) as (λ _. Contains (unread ++ b ∷ []) k ⊎
+              (image (slice_index (set links b node.first_word) k) ≡ 0)) [
+                | inl same ↦ absurd (apart (sym same))
+                | inr rest ↦ inl (Contains-append_left unread (b ∷ []) k rest)
+              ]
           | inr null ↦ inr (subst (λ at. image at ≡ 0) (sym (get_or-set_other links b k node.first_word 0 apart)) null)
         ]
       ]

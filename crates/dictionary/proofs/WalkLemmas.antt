@@ -29,13 +29,15 @@ module _ (image : Image) (b : Block) where
   find-push_same : (bs : List Block) → find image (key_in image b) bs ≡ None → find image (key_in image b) (bs ++ b ∷ []) ≡ Some (value_in image b)
   find-push_same [] none = find_first image (key_in image b) b [] refl
   find-push_same (x ∷ bs) none =
-      find_behind image (key_in image b) x (bs ++ b ∷ []) (not_first image (key_in image b) x bs none) ∙ find-push_same bs (not_behind image (key_in image b) x bs none)
+      find_behind image (key_in image b) x (bs ++ b ∷ []) (not_first image (key_in image b) x bs none)
+      ∙ find-push_same bs (not_behind image (key_in image b) x bs none)
 
   pub link_behind-push : (at : ℕ) (bs : List Block) → link_behind at (bs ++ b ∷ []) ≡ b.first_word
   link_behind-push at [] = refl
   link_behind-push at (x ∷ bs) = link_behind-push x.first_word bs
 
-  pub path-push : (leads : Leading) (shard bucket at : ℕ) (bs : List Block) → IsPath leads image shard bucket at bs → leads (image (link_behind at bs)) b
+  pub path-push : (leads : Leading) (shard bucket at : ℕ) (bs : List Block) → IsPath leads image shard bucket at bs
+      → leads (image (link_behind at bs)) b
       → IsNode image shard bucket b → find image (key_in image b) bs ≡ None → IsPath leads image shard bucket at (bs ++ b ∷ [])
   path-push leads shard bucket at [] path to is none = (to, is, refl, tt)
   path-push leads shard bucket at (x ∷ bs) path to is none = (
@@ -86,9 +88,11 @@ module _ (leads : Leading) (image : Image) (shard : ℕ) (table : Block) where
     }
 
     -- what the map has at the key of a node of the bucket
-    pub at_key : (nodes : ℕ → List Block) (b : Block) → IsNode image shard k b → map_of image shard nodes (key_in image b) ≡ find image (key_in image b) (nodes k)
+    pub at_key : (nodes : ℕ → List Block) (b : Block) → IsNode image shard k b
+        → map_of image shard nodes (key_in image b) ≡ find image (key_in image b) (nodes k)
     at_key nodes b is =
-        cond-true (nat_eq (shard_of (key_in image b)) shard) (find image (key_in image b) (nodes (bucket_of (key_in image b)))) None (eq-eqb (shard_of (key_in image b)) shard is.in_shard)
+        cond-true (nat_eq (shard_of (key_in image b)) shard) (find image (key_in image b) (nodes (bucket_of (key_in image b)))) None
+        (eq-eqb (shard_of (key_in image b)) shard is.in_shard)
         ∙ ap (λ j. find image (key_in image b) (nodes j)) is.in_bucket
 
     -- one more node
@@ -111,29 +115,36 @@ module _ (leads : Leading) (image : Image) (shard : ℕ) (table : Block) where
       unfolding further
       more_means old new is none means has key = elim (cases_eq (key_in image b) key) as (λ _. get nat_cmp new key ≡ map_of image shard further key) [
         | inl same ↦ subst (λ q. get nat_cmp new q ≡ map_of image shard further q) same
-            (has (key_in image b) ∙ cond-true (nat_eq (key_in image b) (key_in image b)) (Some (value_in image b)) (get nat_cmp old (key_in image b)) (eq-eqb (key_in image b) (key_in image b) refl)
-            ∙ sym (find-push_same image b (nodes k) none) ∙ ap (λ bs. find image (key_in image b) bs) (sym (with_same nodes k (nodes k ++ b ∷ []))) ∙ sym (at_key further b is))
-        | inr other ↦ has key ∙ cond-false (nat_eq (key_in image b) key) (Some (value_in image b)) (get nat_cmp old key) (ne_eqb (key_in image b) key other)
+            (has (key_in image b) ∙ cond-true (nat_eq (key_in image b) (key_in image b)) (Some (value_in image b))
+            (get nat_cmp old (key_in image b)) (eq-eqb (key_in image b) (key_in image b) refl)
+            ∙ sym (find-push_same image b (nodes k) none) ∙ ap (λ bs. find image (key_in image b) bs)
+            (sym (with_same nodes k (nodes k ++ b ∷ []))) ∙ sym (at_key further b is))
+        | inr other ↦ has key ∙ cond-false (nat_eq (key_in image b) key) (Some (value_in image b)) (get nat_cmp old key)
+            (ne_eqb (key_in image b) key other)
             ∙ means key ∙ ap (λ found. cond (nat_eq (shard_of key) shard) found None) (sym (other_key key other (bucket_of key)))
       ]
 
       more_chains : HasChains leads image shard table k nodes → HasChains leads image shard table k further
       unfolding further
       more_chains chains j below =
-          subst (λ bs. IsBucketChain (but table leads) image shard j (table.first_word + j) bs) (sym (with_other nodes k (nodes k ++ b ∷ []) j (λ e. omega arith))) (chains j below)
+          subst (λ bs. IsBucketChain (but table leads) image shard j (table.first_word + j) bs)
+          (sym (with_other nodes k (nodes k ++ b ∷ []) j (λ e. omega arith))) (chains j below)
 
     pub chain_step : (at : ℕ) (old new : BTreeMap ℕ (List ℕ)) (b : Block) → IsMapBefore leads image shard table k at (get nat_cmp old)
-        → but table leads (image at) b → IsNode image shard k b → AddsNode image b old new → IsMapBefore leads image shard table k b.first_word (get nat_cmp new)
+        → but table leads (image at) b → IsNode image shard k b → AddsNode image b old new
+        → IsMapBefore leads image shard table k b.first_word (get nat_cmp new)
     unfolding further
     chain_step at old new b before to is adds =
-        let none : find image (key_in image b) (before.nodes k) ≡ None = sym (at_key before.nodes b is) ∙ sym (before.read.means (key_in image b)) ∙ adds.was_new in
+        let none : find image (key_in image b) (before.nodes k) ≡ None = sym (at_key before.nodes b is)
+        ∙ sym (before.read.means (key_in image b)) ∙ adds.was_new in
         let this = with_same before.nodes k (before.nodes k ++ b ∷ []) in
         record {
           nodes = further before.nodes b;
           read = record {
             chains = more_chains before.nodes b before.read.chains;
             path = subst (λ bs. IsPath (but table leads) image shard k (table.first_word + k) bs) (sym this)
-                (path-push image b (but table leads) shard k (table.first_word + k) (before.nodes k) before.read.path (subst (λ w. but table leads (image w) b) before.at_is to) is none);
+                (path-push image b (but table leads) shard k (table.first_word + k) (before.nodes k) before.read.path
+                (subst (λ w. but table leads (image w) b) before.at_is to) is none);
             rest = λ j above. with_other before.nodes k (before.nodes k ++ b ∷ []) j (λ e. omega arith) ∙ before.read.rest j above;
             means = more_means before.nodes b old new is none before.read.means adds.has;
           };
@@ -141,11 +152,14 @@ module _ (leads : Leading) (image : Image) (shard : ℕ) (table : Block) where
         }
 
     -- a link that leads to no node of the bucket, and one that leads to a node whose key was met, lead to no next node
-    pub no_node : (word : ℕ) (nodes : ℕ → List Block) → LeadsAstray (but table leads) (IsNode image shard k) word → LeadsAstray (but table leads) (IsNext image shard k (nodes k)) word
+    pub no_node : (word : ℕ) (nodes : ℕ → List Block) → LeadsAstray (but table leads) (IsNode image shard k) word
+        → LeadsAstray (but table leads) (IsNext image shard k (nodes k)) word
     no_node word nodes astray = record { not_null = astray.not_null; nowhere = λ b to next. astray.nowhere b to next.node }
 
-    pub no_new_key : (once : LeadsOnce leads) (word : ℕ) (nodes : ℕ → List Block) (map : Map) (b : Block) → ((key : ℕ) → map key ≡ map_of image shard nodes key)
-        → but table leads word b → IsNode image shard k b → IsSome (map (key_in image b)) → LeadsAstray (but table leads) (IsNext image shard k (nodes k)) word
+    pub no_new_key : (once : LeadsOnce leads) (word : ℕ) (nodes : ℕ → List Block) (map : Map) (b : Block)
+        → ((key : ℕ) → map key ≡ map_of image shard nodes key)
+        → but table leads word b → IsNode image shard k b → IsSome (map (key_in image b))
+        → LeadsAstray (but table leads) (IsNext image shard k (nodes k)) word
     no_new_key once word nodes map b means to is met = record {
       not_null = λ null. once.null b (subst (λ w. leads w b) null to.0);
       nowhere = λ c to_c next.
@@ -157,19 +171,23 @@ module _ (leads : Leading) (image : Image) (shard : ℕ) (table : Block) where
 
     pub bad_link : (at : ℕ) (map : Map) → HasTable leads image shard table → k < buckets → IsMapBefore leads image shard table k at map
         → LeadsAstray (but table leads) (IsNode image shard k) (image at) → IsBadAt leads image shard at
-    bad_link at map there below before astray = at_link table before.nodes k at (before.nodes k) there below before.read.chains before.read.path before.at_is
+    bad_link at map there below before astray = at_link table before.nodes k at
+        (before.nodes k) there below before.read.chains before.read.path before.at_is
         (no_node (image at) before.nodes astray)
 
-    pub bad_key : (once : LeadsOnce leads) (at : ℕ) (map : Map) (b : Block) → HasTable leads image shard table → k < buckets → IsMapBefore leads image shard table k at map
+    pub bad_key : (once : LeadsOnce leads) (at : ℕ) (map : Map) (b : Block) → HasTable leads image shard table → k < buckets
+        → IsMapBefore leads image shard table k at map
         → but table leads (image at) b → IsNode image shard k b → IsSome (map (key_in image b)) → IsBadAt leads image shard at
-    bad_key once at map b there below before to is met = at_link table before.nodes k at (before.nodes k) there below before.read.chains before.read.path before.at_is
+    bad_key once at map b there below before to is met = at_link table before.nodes k at
+        (before.nodes k) there below before.read.chains before.read.path before.at_is
         (no_new_key once (image at) before.nodes map b before.read.means to is met)
 
 -- maps of one more shard
 pub maps_begin : (image : Image) → AreMaps image 0 []
 maps_begin image = record { long = refl; each = λ i below. absurd (omega arith) }
 
-get-push_left : (maps : List (BTreeMap ℕ (List ℕ))) (m : BTreeMap ℕ (List ℕ)) (i : ℕ) (x : BTreeMap ℕ (List ℕ)) → slice_get maps i ≡ Some x → slice_get (maps ++ m ∷ []) i ≡ Some x
+get-push_left : (maps : List (BTreeMap ℕ (List ℕ))) (m : BTreeMap ℕ (List ℕ)) (i : ℕ) (x : BTreeMap ℕ (List ℕ)) → slice_get maps i ≡ Some x
+    → slice_get (maps ++ m ∷ []) i ≡ Some x
 get-push_left [] m i x is = let none : None ≡ Some x = is in absurd (cc)
 get-push_left (y ∷ maps) m zero x is = is
 get-push_left (y ∷ maps) m (suc i) x is = get-push_left maps m i x is
@@ -178,7 +196,8 @@ get-push_last : (maps : List (BTreeMap ℕ (List ℕ))) (m : BTreeMap ℕ (List 
 get-push_last [] m = refl
 get-push_last (y ∷ maps) m = get-push_last maps m
 
-pub maps_push : (image : Image) (n : ℕ) (maps : List (BTreeMap ℕ (List ℕ))) (m : BTreeMap ℕ (List ℕ)) → AreMaps image n maps → MapOf image n (get nat_cmp m)
+pub maps_push : (image : Image) (n : ℕ) (maps : List (BTreeMap ℕ (List ℕ))) (m : BTreeMap ℕ (List ℕ)) → AreMaps image n maps
+    → MapOf image n (get nat_cmp m)
     → IsOrdered nat_cmp m → AreMaps image (n + 1) (maps ++ m ∷ [])
 maps_push image n maps m are is ordered = record {
   long = let more = length-append maps (m ∷ []) in let long = are.long in omega arith;
@@ -188,7 +207,8 @@ maps_push image n maps m are is ordered = record {
 }
 
 -- where the maps of the shards below are there, a bad shard is the lowest
-pub tells_lowest : (image : Image) (i : ℕ) (maps : List (BTreeMap ℕ (List ℕ))) (fault : MapFault) → i < shards → AreMaps image i maps → TellsBad image i fault → TellsLowest image fault
+pub tells_lowest : (image : Image) (i : ℕ) (maps : List (BTreeMap ℕ (List ℕ))) (fault : MapFault) → i < shards → AreMaps image i maps
+    → TellsBad image i fault → TellsLowest image fault
 tells_lowest image i maps (BadShard shard at) below are tells = (
   subst (λ n. n < shards) (sym tells.0) below,
   subst (λ n. IsBadShard image n at) (sym tells.0) tells.1,

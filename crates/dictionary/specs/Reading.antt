@@ -76,7 +76,8 @@ pub record AreMaps (image : Image) (count : ℕ) (maps : List (BTreeMap ℕ (Lis
   pub each : (i : ℕ) → i < count → (m : BTreeMap ℕ (List ℕ)) × (slice_get maps i ≡ Some m) × MapOf image i (get nat_cmp m)
       × IsOrdered nat_cmp m
 
--- recovery makes the one image of the other, in which no word that it looks at leads outside; what is reached there is a block here, and each root keeps its kind
+-- recovery makes the one image of the other, in which no word that it looks at leads outside; what is reached there is
+-- a block here, and each root keeps its kind
 pub record RecoversTo (old new : Image) : Type 0 where
   pub recovered : IsRecovered old new (IsReachedIn old dict_links)
   pub inside : (at : ℕ) → IsOutsideIn old dict_links at → ⊥

@@ -35,11 +35,21 @@ has_all s = record { each = has_root }
 all_reach : (image : Image) (b : Block) → IsReachedIn image dict_links b ↔ IsReachedFrom image (Contains all_roots) b
 all_reach image b = (
   λ r. record { kind = r.kind; reach = from_each b r.kind r.reach },
-  λ r. record { kind = r.kind; reach = more_roots {chosen = Contains all_roots} {chosen' = AnyRoot} image (kinds_of image) dict_links (λ root h. tt) b r.kind r.reach },
+  λ r. record {
+    kind = r.kind;
+    reach = more_roots {chosen = Contains all_roots} {chosen' = AnyRoot} image (kinds_of image) dict_links
+        (λ root h. tt) b r.kind r.reach;
+  },
 ) where
   from_each : (b : Block) (kind : ℕ) → ReachIn image dict_links b kind → ReachFrom image (Contains all_roots) (kinds_of image) dict_links b kind
   from_each = closure_included
-      (λ b kind start. record { root = start.root; below = start.below; is_chosen = has_root start.root start.below; kind_is = start.kind_is; leads = start.leads })
+      (λ b kind start. record {
+        root = start.root;
+        below = start.below;
+        is_chosen = has_root start.root start.below;
+        kind_is = start.kind_is;
+        leads = start.leads;
+      })
       (λ a b from kind reached link. link)
 
 module _ (words : List ℕ) (held : List Block) (budget : ℕ) (s : SeqState) (is : IsOpened words held budget s) where
@@ -88,6 +98,9 @@ module _ (words : List ℕ) (held : List Block) (budget : ℕ) (s : SeqState) (i
     pub opened_maps : (image : Image) → RecoversTo image (slice_index words) → GivesMapsOf image (seat_of s)
     opened_maps image to = record {
       each = λ shard small.
-          let first = has.maps.each shard small in
-          (first.0, map_kept image (slice_index words) to shard first.0 small first.1, run_begins.gives shard first.0 small (has_root shard (omega arith)) first.1);
+          let first = has.maps.each shard small in (
+            first.0,
+            map_kept image (slice_index words) to shard first.0 small first.1,
+            run_begins.gives shard first.0 small (has_root shard (omega arith)) first.1,
+          );
     }

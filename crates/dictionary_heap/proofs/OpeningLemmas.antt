@@ -49,27 +49,33 @@ module _ (words kinds : List ℕ) (first : kinds ≡ first_kinds) where
       → ((at : ℕ) → IsOutsideIn image dict_links at → ⊥) → HasKindsBelow (Some kind_count) (slice_index found.heap.words)
       → AreMaps (slice_index found.heap.words) shards found.maps.items → IsDictionaryOf (current_image words) found
   found_is found ready ascending left none kinds are =
-      subst (λ (ks : List ℕ). IsDictionaryOf (slice_index (current_words words ks)) found) first (found_in image found ready ascending left none kinds are)
+      subst (λ (ks : List ℕ). IsDictionaryOf (slice_index (current_words words ks)) found) first
+      (found_in image found ready ascending left none kinds are)
 
   -- recovery did not refuse the words
-  pub can_be : HasGoodHeader (Some kind_count) (8 * length words) (slice_index words) → ((at : ℕ) → IsOutsideIn image dict_links at → ⊥) → CanBeRecovered words
+  pub can_be : HasGoodHeader (Some kind_count) (8 * length words) (slice_index words) → ((at : ℕ) → IsOutsideIn image dict_links at → ⊥)
+      → CanBeRecovered words
   can_be good none = record {
     header = no_fault (Some kind_count) (8 * length words) (slice_index words) good;
     inside = subst (λ (ks : List ℕ). (at : ℕ) → IsOutsideIn (slice_index (current_words words ks)) dict_links at → ⊥) first none;
   }
 
   -- or it did
-  pub tells_recovery : (fault : RecoverFault) → TellsRecovery (Some kind_count) words (current_words words kinds) dict_links fault → TellsFault words (of_recovery fault)
-  tells_recovery fault tells = told fault (subst (λ (ks : List ℕ). TellsRecovery (Some kind_count) words (current_words words ks) dict_links fault) first tells) where
-    told : (f : RecoverFault) → TellsRecovery (Some kind_count) words (current_words words first_kinds) dict_links f → TellsFault words (of_recovery f)
-    told (Header cause) is = is
-    told (Outside at value) is = is
-    told Memory is = tt
+  pub tells_recovery : (fault : RecoverFault) → TellsRecovery (Some kind_count) words (current_words words kinds) dict_links fault
+      → TellsFault words (of_recovery fault)
+  tells_recovery fault tells = told fault (subst (λ (ks : List ℕ). TellsRecovery (Some kind_count) words
+      (current_words words ks) dict_links fault) first tells) where
+        told : (f : RecoverFault) → TellsRecovery (Some kind_count) words (current_words words first_kinds) dict_links f → TellsFault words (of_recovery f)
+        told (Header cause) is = is
+        told (Outside at value) is = is
+        told Memory is = tt
 
   -- or a shard has no map
-  pub tells_maps : (new : Image) → CanBeRecovered words → RecoversTo image new → (fault : MapFault) → TellsLowest new fault → TellsFault words (of_maps fault)
+  pub tells_maps : (new : Image) → CanBeRecovered words → RecoversTo image new → (fault : MapFault) → TellsLowest new fault
+      → TellsFault words (of_maps fault)
   tells_maps new can to fault tells =
-      told fault (subst (λ (ks : List ℕ). TellsLowest (slice_index (current_words words ks)) fault) first (lowest_of_image image new to fault tells)) where
+      told fault (subst (λ (ks : List ℕ). TellsLowest (slice_index (current_words words ks)) fault) first
+      (lowest_of_image image new to fault tells)) where
         told : (f : MapFault) → TellsLowest (current_image words) f → TellsFault words (of_maps f)
         told (BadShard shard at) is = (can, is)
         told NoMemory is = tt

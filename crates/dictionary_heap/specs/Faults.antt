@@ -22,7 +22,8 @@ abbrev pub of_maps : MapFault → OpenFault
 of_maps (NoMap shard at) = BadShard shard at
 of_maps NoMemory = Memory
 
--- The first cause that makes the header bad. Where it is good: a word that is outside, and its value. Where nothing is outside: the lowest shard that has no map, and its first bad place. Of want of memory nothing is said.
+-- The first cause that makes the header bad. Where it is good: a word that is outside, and its value. Where nothing is
+-- outside: the lowest shard that has no map, and its first bad place. Of want of memory nothing is said.
 abbrev pub TellsFault : List ℕ → OpenFault → Type 0
 TellsFault words (Header cause) = header_fault (Some kind_count) (8 * length words) (slice_index words) ≡ Some cause
 TellsFault words (Outside at value) =

@@ -18,5 +18,6 @@ not_a_move (Get key) not = refl
 not_a_move (Del key) not = refl
 not_a_move (Move key to) not = absurd (not key to refl)
 
-pub none_more : (qs : List Request) (line : Line) → ((key to : ℕ) → line ≡ Move key to → ⊥) → has_move qs ≡ false → has_move (qs ++ (request_of line ∷ [])) ≡ false
+pub none_more : (qs : List Request) (line : Line) → ((key to : ℕ) → line ≡ Move key to → ⊥) → has_move qs ≡ false
+    → has_move (qs ++ (request_of line ∷ [])) ≡ false
 none_more qs line not none = still_none qs (request_of line) none (not_a_move line not)

@@ -14,7 +14,8 @@ use Rattle.worker_run.specs.Left.{AreWholeImage}
 use Rattle.worker_run.specs.Said.{Line, request_of, requests_of}
 
 -- the words that a heap leaves which was opened over an image at rest
-module _ (words : List ℕ) (held : List Block) (budget : ℕ) (s t : SeqState) (formed : IsWellFormed (8 * length words) (slice_index words)) (opened : IsOpened words held budget s) (keeps : KeepsFixed s t) where
+module _ (words : List ℕ) (held : List Block) (budget : ℕ) (s t : SeqState) (formed : IsWellFormed (8 * length words) (slice_index words))
+    (opened : IsOpened words held budget s) (keeps : KeepsFixed s t) where
   pub capacity_seen : capacity_of (slice_index t.parts.words.volatile) ≡ capacity_of (slice_index words)
   capacity_seen = (fixed_opened words held budget s t opened keeps capacity_word (inl (omega arith))).0
 

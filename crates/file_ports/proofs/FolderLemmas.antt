@@ -11,7 +11,8 @@ has_none (b ∷ bs) none = rw (ne_eqb b slash (none 0 (omega arith))) (has_none 
 
 -- takes the clause of `rsplit_once` at a slash
 pub parts_of : (name : List ℕ) (r : Option (Bor (List ℕ) × Bor (List ℕ)))
-    → MatchOption r (RFindsChar slash name None) (λ x. (i : ℕ) × (j : ℕ) × RFindsChar slash name (Some (i, j)) × (x.0.now ≡ take i name) × (x.1.now ≡ drop j name) × (i ≤ j) × (length x.0.now ≡ i) × (length x.1.now + j ≡ length name))
+    → MatchOption r (RFindsChar slash name None) (λ x. (i : ℕ) × (j : ℕ) × RFindsChar slash name (Some (i, j)) × (x.0.now ≡ take i name)
+    × (x.1.now ≡ drop j name) × (i ≤ j) × (length x.0.now ≡ i) × (length x.1.now + j ≡ length name))
     → MatchOption r (HasNoSlash name) (λ x. HasNoSlash x.1.now × (name ≡ x.0.now ++ slash ∷ x.1.now))
 parts_of name None h = has_none name (λ i. NoCharPasses-char slash name i h (omega arith))
 parts_of name (Some x) h = (

@@ -12,7 +12,8 @@ use Rattle.heap_model.proofs.BlockLemmas.{same_first}
 use Rattle.filter_trace.specs.Pairs.{mark_of, Inserts, present, added, IsMarkOfPair, AreMarked}
 
 -- a pair in a list of one more is that one, or was there
-pub pair_cases : (pairs : List (Block × ℕ)) (b c : Block) (k j : ℕ) → Contains (pairs ++ (b, k) ∷ []) (c, j) → Contains pairs (c, j) ⊎ ((b ≡ c) × (k ≡ j))
+pub pair_cases : (pairs : List (Block × ℕ)) (b c : Block) (k j : ℕ) → Contains (pairs ++ (b, k) ∷ []) (c, j)
+    → Contains pairs (c, j) ⊎ ((b ≡ c) × (k ≡ j))
 pair_cases pairs b c k j here =
     elim (Contains-push_cases pairs (b, k) (c, j) here) as (λ _. Contains pairs (c, j) ⊎ ((b ≡ c) × (k ≡ j))) [
       | inl old ↦ inl old
@@ -20,7 +21,8 @@ pair_cases pairs b c k j here =
     ]
 
 -- blocks of one layout with one mark are one, and their kinds are
-pub one_mark : (l : Layout) (kinds : ℕ) (b c : Block) (k j : ℕ) → IsBlock l b → IsBlock l c → k < kinds → j < kinds → mark_of kinds b k ≡ mark_of kinds c j → (b ≡ c) × (k ≡ j)
+pub one_mark : (l : Layout) (kinds : ℕ) (b c : Block) (k j : ℕ) → IsBlock l b → IsBlock l c → k < kinds → j < kinds
+    → mark_of kinds b k ≡ mark_of kinds c j → (b ≡ c) × (k ≡ j)
 one_mark l kinds b c k j is_b is_c k_below j_below same =
     let place = same_from_place b.first_word k c.first_word j kinds k_below j_below same in
     (same_first l b c is_b is_c place.0, place.1)
@@ -40,7 +42,8 @@ pub mark_inside : (l : Layout) (kinds : ℕ) (pairs : List (Block × ℕ)) (mark
 mark_inside l kinds pairs marks b k work is below = let room = work.room b is in omega arith
 
 -- setting a mark that was not set counts one more
-count_set : (marks : List Bool) (i : ℕ) → i < length marks → get_or marks i false ≡ false → count_by (λ mark. mark) (set marks i true) ≡ count_by (λ mark. mark) marks + 1
+count_set : (marks : List Bool) (i : ℕ) → i < length marks → get_or marks i false ≡ false
+    → count_by (λ mark. mark) (set marks i true) ≡ count_by (λ mark. mark) marks + 1
 count_set marks i below clear =
     let moved = sum_by-set (λ (mark : Bool). cond mark 1 0) marks i true false below in
     let one : ℕ = 1 in
@@ -72,7 +75,12 @@ added_marked l kinds b k pairs marks work is below clear =
         | inl one ↦ record { block = b; kind = k; pair = Contains-push pairs (b, k); at_is = one }
         | inr other ↦
             let old = work.only j (sym (get_or-set_other marks at j true false other) ∙ set_j) in
-            record { block = old.block; kind = old.kind; pair = Contains-append_left pairs ((b, k) ∷ []) (old.block, old.kind) old.pair; at_is = old.at_is }
+            record {
+              block = old.block;
+              kind = old.kind;
+              pair = Contains-append_left pairs ((b, k) ∷ []) (old.block, old.kind) old.pair;
+              at_is = old.at_is;
+            }
       ];
       room = λ c is_c. let room = work.room c is_c in omega arith;
       short = let short = work.short in omega arith;

@@ -58,10 +58,11 @@ links_step image kinds links count a from upto position kind pairs pairs' pairs'
             (λ b leads. by_link a b from kind reached (record { position = position; listed = listed; leads = leads })) follows;
       };
       grown = more_and_more pairs pairs' pairs'' was.grown grown;
-      followed = λ p k in_upto. elim (Contains-push_cases upto (position, kind) (p, k) in_upto) as (λ _. IsFollowedWord image pairs'' (a.first_word + p) k) [
-        | inl old ↦ still_followed image pairs' pairs'' (a.first_word + p) k grown (was.followed p k old)
-        | inr same ↦ subst (λ (l : ℕ × ℕ). IsFollowedWord image pairs'' (a.first_word + l.0) l.1) same here
-      ];
+      followed = λ p k in_upto. elim (Contains-push_cases upto (position, kind) (p, k) in_upto) as
+          (λ _. IsFollowedWord image pairs'' (a.first_word + p) k) [
+            | inl old ↦ still_followed image pairs' pairs'' (a.first_word + p) k grown (was.followed p k old)
+            | inr same ↦ subst (λ (l : ℕ × ℕ). IsFollowedWord image pairs'' (a.first_word + l.0) l.1) same here
+          ];
     }
 
 -- link number `at` is one of the links, and the links up to it are those before and it
@@ -109,7 +110,8 @@ tells_root image kinds links (Outside at value) tells = (
 tells_root image kinds links Memory tells = tt
 
 -- no pair, and no mark
-pub nothing_marked : (image : Image) (n count : ℕ) (marks : List Bool) → IsWellFormed (8 * n) image → HasMarks n count marks → All (λ mark. mark ≡ false) marks
+pub nothing_marked : (image : Image) (n count : ℕ) (marks : List Bool) → IsWellFormed (8 * n) image → HasMarks n count marks
+    → All (λ mark. mark ≡ false) marks
     → AreMarked (layout_of image) count [] marks
 nothing_marked image n count marks formed room clear =
     let fits : (b : Block) → IsBlock (layout_of image) b → b.first_word * count + count ≤ length marks
@@ -144,19 +146,22 @@ work_begins image kinds links count pairs marks roots_done = record {
 }
 
 -- what was followed is still
-still_has : (image : Image) (links : Links) (pairs pairs' : List (Block × ℕ)) (a : Block) (from : ℕ) → IsExtended pairs pairs' → IsFollowedBlock image links pairs a from → IsFollowedBlock image links pairs' a from
+still_has : (image : Image) (links : Links) (pairs pairs' : List (Block × ℕ)) (a : Block) (from : ℕ) → IsExtended pairs pairs'
+    → IsFollowedBlock image links pairs a from → IsFollowedBlock image links pairs' a from
 still_has image links pairs pairs' a from grown was = record {
   each = λ position kind listed. still_followed image pairs pairs' (a.first_word + position) kind grown (was.each position kind listed);
 }
 
 -- one more pair
-pub work_step : (image : Image) (kinds : ℕ → ℕ) (links : Links) (count next : ℕ) (a : Block) (from : ℕ) (pairs pairs' : List (Block × ℕ)) (marks marks' : List Bool)
+pub work_step : (image : Image) (kinds : ℕ → ℕ) (links : Links) (count next : ℕ) (a : Block) (from : ℕ) (pairs pairs' : List (Block × ℕ))
+    (marks marks' : List Bool)
     → IsWork image kinds links count next pairs marks → next < length pairs → get_or pairs next (a, from) ≡ (a, from)
     → FollowsLinks image kinds links count a (links from (words_in image a)) pairs pairs' marks marks'
     → IsWork image kinds links count (next + 1) pairs' marks'
 work_step image kinds links count next a from pairs pairs' marks marks' work below read follows =
     let grown = follows.grown in
-    let longer : length pairs' ≡ length pairs + length grown.more = ap (λ (ps : List (Block × ℕ)). length ps) grown.is ∙ length-append pairs grown.more in
+    let longer : length pairs' ≡ length pairs + length grown.more = ap (λ (ps : List (Block × ℕ)). length ps) grown.is
+    ∙ length-append pairs grown.more in
     let front : take (next + 1) pairs' ≡ take next pairs ++ (a, from) ∷ [] =
     ap (λ (ps : List (Block × ℕ)). take (next + 1) ps) grown.is
     ∙ take-append-le (next + 1) pairs grown.more (omega arith)
@@ -166,10 +171,12 @@ work_step image kinds links count next a from pairs pairs' marks marks' work bel
       found = follows.found;
       roots_followed = λ i low. still_followed image pairs pairs' (root_word i) (kinds i) grown (work.roots_followed i low);
       links_followed = record {
-        each = λ b kind here. elim (pair_cases (take next pairs) a b from kind (subst (λ ps. Contains ps (b, kind)) front here)) as (λ _. IsFollowedBlock image links pairs' b kind) [
-          | inl old ↦ still_has image links pairs pairs' b kind grown (work.links_followed.each b kind old)
-          | inr same ↦ subst (λ x. IsFollowedBlock image links pairs' x kind) same.0 (subst (λ x. IsFollowedBlock image links pairs' a x) same.1 (record { each = follows.followed }))
-        ];
+        each = λ b kind here. elim (pair_cases (take next pairs) a b from kind (subst (λ ps. Contains ps (b, kind)) front here)) as
+            (λ _. IsFollowedBlock image links pairs' b kind) [
+              | inl old ↦ still_has image links pairs pairs' b kind grown (work.links_followed.each b kind old)
+              | inr same ↦ subst (λ x. IsFollowedBlock image links pairs' x kind) same.0
+                  (subst (λ x. IsFollowedBlock image links pairs' a x) same.1 (record { each = follows.followed }))
+            ];
       };
       within = omega arith;
     }
@@ -185,7 +192,8 @@ complete : (image : Image) (kinds : ℕ → ℕ) (links : Links) (pairs : List (
 complete image kinds links pairs from_roots from_links _ _ (by_start b kind start) =
     subst (λ k. Contains pairs (b, k)) (sym start.kind_is) ((from_roots start.root start.below).here b start.leads)
 complete image kinds links pairs from_roots from_links _ _ (by_link a b from kind reached link) =
-    ((from_links.each a from (complete image kinds links pairs from_roots from_links a from reached)).each link.position kind link.listed).here b link.leads
+    ((from_links.each a from (complete image kinds links pairs from_roots from_links a from reached)).each link.position kind link.listed).here
+    b link.leads
 
 -- and no word is outside
 inside_all : (image : Image) (kinds : ℕ → ℕ) (links : Links) (pairs : List (Block × ℕ))
@@ -199,16 +207,22 @@ inside_all image kinds links pairs from_roots from_links _ (is_linked a from pos
 
 all_followed : (image : Image) (kinds : ℕ → ℕ) (links : Links) (count next : ℕ) (pairs : List (Block × ℕ)) (marks : List Bool)
     → IsWork image kinds links count next pairs marks → length pairs ≤ next → Each (IsFollowedBlock image links pairs) pairs
-all_followed image kinds links count next pairs marks work past = subst (λ ps. Each (IsFollowedBlock image links pairs) ps) (take_all next pairs past) work.links_followed
+all_followed image kinds links count next pairs marks work past =
+    subst (λ ps. Each (IsFollowedBlock image links pairs) ps) (take_all next pairs past) work.links_followed
 
 -- so the pairs are those that are reached
 pub work_ends : (image : Image) (kinds : ℕ → ℕ) (links : Links) (count next : ℕ) (pairs : List (Block × ℕ)) (marks : List Bool)
     → IsWork image kinds links count next pairs marks → length pairs ≤ next → AreReached image kinds links pairs
 work_ends image kinds links count next pairs marks work past = record {
-  each = λ b kind. (work.found.reached.each b kind, complete image kinds links pairs work.roots_followed (all_followed image kinds links count next pairs marks work past) b kind);
+  each = λ b kind. (
+    work.found.reached.each b kind,
+    complete image kinds links pairs work.roots_followed
+        (all_followed image kinds links count next pairs marks work past) b kind,
+  );
 }
 
 pub work_inside : (image : Image) (kinds : ℕ → ℕ) (links : Links) (count next : ℕ) (pairs : List (Block × ℕ)) (marks : List Bool)
     → IsWork image kinds links count next pairs marks → length pairs ≤ next → (at : ℕ) → IsOutside image kinds links at → ⊥
 work_inside image kinds links count next pairs marks work past at outside =
-    inside_all image kinds links pairs work.roots_followed (all_followed image kinds links count next pairs marks work past) at outside.traced outside.outside
+    inside_all image kinds links pairs work.roots_followed (all_followed image kinds links count next pairs marks work past)
+    at outside.traced outside.outside

@@ -43,18 +43,23 @@ pub no_more : (pairs pairs' : List (Block × ℕ)) → pairs' ≡ pairs → IsEx
 no_more pairs pairs' same = record { more = []; is = same ∙ sym (append-nil pairs) }
 
 pub more_and_more : (pairs pairs' pairs'' : List (Block × ℕ)) → IsExtended pairs pairs' → IsExtended pairs' pairs'' → IsExtended pairs pairs''
-more_and_more pairs pairs' pairs'' one two = record { more = one.more ++ two.more; is = two.is ∙ ap (λ ps. ps ++ two.more) one.is ∙ append_assoc pairs one.more two.more }
+more_and_more pairs pairs' pairs'' one two = record {
+  more = one.more ++ two.more;
+  is = two.is ∙ ap (λ ps. ps ++ two.more) one.is ∙ append_assoc pairs one.more two.more;
+}
 
 pub kept : (pairs pairs' : List (Block × ℕ)) (b : Block) (k : ℕ) → IsExtended pairs pairs' → Contains pairs (b, k) → Contains pairs' (b, k)
 kept pairs pairs' b k grown here = subst (λ ps. Contains ps (b, k)) (sym grown.is) (Contains-append_left pairs grown.more (b, k) here)
 
-pub still_followed : (image : Image) (pairs pairs' : List (Block × ℕ)) (at kind : ℕ) → IsExtended pairs pairs' → IsFollowedWord image pairs at kind → IsFollowedWord image pairs' at kind
+pub still_followed : (image : Image) (pairs pairs' : List (Block × ℕ)) (at kind : ℕ) → IsExtended pairs pairs'
+    → IsFollowedWord image pairs at kind → IsFollowedWord image pairs' at kind
 still_followed image pairs pairs' at kind grown was = record {
   inside = was.inside;
   here = λ b leads. kept pairs pairs' b kind grown (was.here b leads);
 }
 
-insert_grows : (kinds : ℕ) (b : Block) (k : ℕ) (pairs pairs' : List (Block × ℕ)) (marks marks' : List Bool) → Inserts kinds b k pairs pairs' marks marks' → IsExtended pairs pairs'
+insert_grows : (kinds : ℕ) (b : Block) (k : ℕ) (pairs pairs' : List (Block × ℕ)) (marks marks' : List Bool)
+    → Inserts kinds b k pairs pairs' marks marks' → IsExtended pairs pairs'
 insert_grows kinds b k pairs pairs' marks marks' (present marked same_pairs same_marks) = no_more pairs pairs' same_pairs
 insert_grows kinds b k pairs pairs' marks marks' (added clear new_pairs new_marks) = record { more = (b, k) ∷ []; is = new_pairs }
 
@@ -73,7 +78,8 @@ pub follow_marked : (image : Image) (count at kind : ℕ) (pairs pairs' : List (
     → AreMarked (layout_of image) count pairs marks → kind < count → Follows image count at kind pairs pairs' marks marks'
     → AreMarked (layout_of image) count pairs' marks'
 follow_marked image count at kind pairs pairs' marks marks' work below (null is same_pairs same_marks) =
-    subst (λ ps. AreMarked (layout_of image) count ps marks') (sym same_pairs) (subst (λ ms. AreMarked (layout_of image) count pairs ms) (sym same_marks) work)
+    subst (λ ps. AreMarked (layout_of image) count ps marks') (sym same_pairs)
+    (subst (λ ms. AreMarked (layout_of image) count pairs ms) (sym same_marks) work)
 follow_marked image count at kind pairs pairs' marks marks' work below (lead b leads inserts) =
     insert_marked (layout_of image) count b kind pairs pairs' marks marks' work leads.names.block below inserts
 
@@ -84,9 +90,11 @@ follow_grows image count at kind pairs pairs' marks marks' (null is same_pairs s
 follow_grows image count at kind pairs pairs' marks marks' (lead b leads inserts) = insert_grows count b kind pairs pairs' marks marks' inserts
 
 -- as many marks as there were
-insert_long : (kinds : ℕ) (b : Block) (k : ℕ) (pairs pairs' : List (Block × ℕ)) (marks marks' : List Bool) → Inserts kinds b k pairs pairs' marks marks' → length marks' ≡ length marks
+insert_long : (kinds : ℕ) (b : Block) (k : ℕ) (pairs pairs' : List (Block × ℕ)) (marks marks' : List Bool)
+    → Inserts kinds b k pairs pairs' marks marks' → length marks' ≡ length marks
 insert_long kinds b k pairs pairs' marks marks' (present marked same_pairs same_marks) = ap (λ (ms : List Bool). length ms) same_marks
-insert_long kinds b k pairs pairs' marks marks' (added clear new_pairs new_marks) = ap (λ (ms : List Bool). length ms) new_marks ∙ length-set marks (mark_of kinds b k) true
+insert_long kinds b k pairs pairs' marks marks' (added clear new_pairs new_marks) = ap (λ (ms : List Bool). length ms) new_marks
+    ∙ length-set marks (mark_of kinds b k) true
 
 pub follow_long : (image : Image) (count at kind : ℕ) (pairs pairs' : List (Block × ℕ)) (marks marks' : List Bool)
     → Follows image count at kind pairs pairs' marks marks' → length marks' ≡ length marks
@@ -95,8 +103,10 @@ follow_long image count at kind pairs pairs' marks marks' (lead b leads inserts)
 
 -- it adds only what the word leads to
 pub follow_each : (holds : Block → ℕ → Type 0) (image : Image) (count at kind : ℕ) (pairs pairs' : List (Block × ℕ)) (marks marks' : List Bool)
-    → Each holds pairs → ((b : Block) → Leads image (image at) b → holds b kind) → Follows image count at kind pairs pairs' marks marks' → Each holds pairs'
-follow_each holds image count at kind pairs pairs' marks marks' was this (null is same_pairs same_marks) = subst (λ ps. Each holds ps) (sym same_pairs) was
+    → Each holds pairs → ((b : Block) → Leads image (image at) b → holds b kind) → Follows image count at kind pairs pairs' marks marks'
+    → Each holds pairs'
+follow_each holds image count at kind pairs pairs' marks marks' was this (null is same_pairs same_marks) =
+    subst (λ ps. Each holds ps) (sym same_pairs) was
 follow_each holds image count at kind pairs pairs' marks marks' was this (lead b leads inserts) =
     insert_each holds count b kind pairs pairs' marks marks' was (this b leads) inserts
 

@@ -17,7 +17,8 @@ use Rattle.first_handover.specs.Handover.{HasBlock, HasReceived}
 use Rattle.first_handover.proofs.Pairs.{pair_of}
 
 module _ (shared : SharedView) where
-  left_at_table : (left : Option CarrierView) → IfSome left (λ c. c.table ≡ shared.table) → (c : CarrierView) → Contains (option_to_list left) c → c.table ≡ shared.table
+  left_at_table : (left : Option CarrierView) → IfSome left (λ c. c.table ≡ shared.table) → (c : CarrierView) → Contains (option_to_list left) c
+      → c.table ≡ shared.table
   left_at_table None table c there = absurd (let l = there.1 in omega arith)
   left_at_table (Some x) table c there = by_index there.0 there.1 there.2 where
     by_index : (j : ℕ) → j < 1 → get_or (x ∷ []) j c ≡ c → c.table ≡ shared.table
@@ -25,8 +26,10 @@ module _ (shared : SharedView) where
     by_index (suc j) less at = absurd (omega (arith, less))
 
   -- two seats and the carrier that is left are all of the heap
-  pub all_of : (one other : SeatView) (left : Option CarrierView) → shared.opening.seats ≡ 2 → IsSeatOf shared one → IsSeatOf shared other → IfSome left (λ c. c.table ≡ shared.table)
-      → length (option_to_list left) + (one.view.accepts + other.view.accepts) ≡ one.view.offers + other.view.offers → AreAllOf shared (one ∷ other ∷ []) (option_to_list left)
+  pub all_of : (one other : SeatView) (left : Option CarrierView) → shared.opening.seats ≡ 2 → IsSeatOf shared one → IsSeatOf shared other
+      → IfSome left (λ c. c.table ≡ shared.table)
+      → length (option_to_list left) + (one.view.accepts + other.view.accepts) ≡ one.view.offers + other.view.offers
+      → AreAllOf shared (one ∷ other ∷ []) (option_to_list left)
   all_of one other left two is also table none = record {
     seats_are = pair_of shared one other two is also;
     at_table = left_at_table left table;
@@ -41,17 +44,21 @@ sound_with k now kept seats pair carriers left same also sound =
     subst (λ (l : List CarrierView). IsClosedSound k now kept (views_of pair ++ carried_views l)) also first
 
 -- what the second seat holds is apart from what any other one of the heap does
-pub apart_of : (capacity : ℕ) (one other : View) (carried : List View) → AreHeldOnce capacity (one ∷ other ∷ carried) → (a b : Block) → IsHeldBy (one ∷ carried) a → IsHeld other b → AreApart a b
+pub apart_of : (capacity : ℕ) (one other : View) (carried : List View) → AreHeldOnce capacity (one ∷ other ∷ carried) → (a b : Block)
+    → IsHeldBy (one ∷ carried) a → IsHeld other b → AreApart a b
 apart_of capacity one other carried once a b by holds = by_place by.seat by.view by.below by.at by.holds where
   by_place : (n : ℕ) (v : View) → n < length (one ∷ carried) → get_or (one ∷ carried) n v ≡ v → IsHeld v a → AreApart a b
   by_place zero v less at held = once.by_two 0 1 v other (λ e. omega (arith, e)) (omega arith) at (omega arith) refl a b held holds
-  by_place (suc n) v less at held = once.by_two (suc (suc n)) 1 v other (λ e. omega (arith, e)) (omega (arith, less)) at (omega arith) refl a b held holds
+  by_place (suc n) v less at held = once.by_two (suc (suc n)) 1 v other (λ e. omega (arith, e)) (omega (arith, less)) at
+      (omega arith) refl a b held holds
 
 -- an image that the second seat's view tells of has the block that was received
-pub has_block : (value : ℕ) (s : CacheState) (image : Image) (r : Received) → 1 ≤ r.block.words → NamesAll image (heap_view s).held → MixesOwn (heap_view s) image
+pub has_block : (value : ℕ) (s : CacheState) (image : Image) (r : Received) → 1 ≤ r.block.words → NamesAll image (heap_view s).held
+    → MixesOwn (heap_view s) image
     → HasReceived value (heap_view s) r → HasBlock value image r.block
 has_block value s image r some named mixed received = record {
   named = named r.block received.held;
   first = durable_in (heap_view s) r.block.first_word value image
-      (in_block r.block r.block.first_word received.held (record { from = omega arith; until = omega arith })) received.has.seen received.has.left mixed;
+      (in_block r.block r.block.first_word received.held (record { from = omega arith; until = omega arith }))
+      received.has.seen received.has.left mixed;
 }

@@ -11,7 +11,8 @@ use Rattle.seat_costs.specs.Idle.{HasShortCaches, IsIdle}
 use Rattle.first_handover.specs.Handover.{IsFreshSeatOf}
 
 -- both were taken off the list of seats, the second one first
-pub both_are : (all rest fewer : List SeatView) (one other : SeatView) → all ≡ rest ++ other ∷ [] → rest ≡ fewer ++ one ∷ [] → length all ≡ 2 → all ≡ one ∷ other ∷ []
+pub both_are : (all rest fewer : List SeatView) (one other : SeatView) → all ≡ rest ++ other ∷ [] → rest ≡ fewer ++ one ∷ [] → length all ≡ 2
+    → all ≡ one ∷ other ∷ []
 both_are all rest [] one other split again two = split ∙ ap (λ l. l ++ other ∷ []) again
 both_are all rest (x ∷ fewer) one other split again two =
     let outer = length-append rest (other ∷ []) in
@@ -32,8 +33,10 @@ module _ (shared : SharedView) (one other : SeatView) (two : shared.opening.seat
   pair_of is also = record { count = sym two; each = of_pair (IsSeatOf shared) is also }
 
 -- a seat of an opened heap is fresh
-pub fresh_of : (setup : Setup) (held : List Block) (block_owners root_owners : List ℕ) (shared : SharedView) (seats : List SeatView) (i : ℕ) (seat : SeatView)
-    → AreOpenedSeats shared (opened_view setup held block_owners root_owners) seats → i < length seats → get_or seats i seat ≡ seat → IsIdle seat.view × HasShortCaches seat.view
+pub fresh_of : (setup : Setup) (held : List Block) (block_owners root_owners : List ℕ) (shared : SharedView) (seats : List SeatView) (i : ℕ)
+    (seat : SeatView)
+    → AreOpenedSeats shared (opened_view setup held block_owners root_owners) seats → i < length seats → get_or seats i seat ≡ seat
+    → IsIdle seat.view × HasShortCaches seat.view
     → IsFreshSeatOf shared seat
 fresh_of setup held block_owners root_owners shared seats i seat opened less at idle =
     let each = opened.each i seat less at in record {

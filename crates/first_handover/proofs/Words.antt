@@ -52,24 +52,28 @@ apart_from_new a b v w seat adds held = elim (seat.apart a b (adds.keeps a held)
 ]
 
 -- the carrier brings what the seat knew of the word
-pub brings_of : (b : Block) (value : ℕ) (c : CarrierView) (s : CacheState) → 1 ≤ b.words → IsSent b c s → HasValue value b (heap_view s) → Brings value c
+pub brings_of : (b : Block) (value : ℕ) (c : CarrierView) (s : CacheState) → 1 ≤ b.words → IsSent b c s → HasValue value b (heap_view s)
+    → Brings value c
 brings_of b value c s some sent has =
     let keeps = sent.contents.words b.first_word (first_in b some) in
     let contents = contents_of c in record {
       seen = subst (λ (x : Block). contents.volatile x.first_word ≡ Some value) (sym sent.block) (keeps.volatile value has.seen);
       left = subst (λ (x : Block). contents.durable x.first_word ≡ Some value) (sym sent.block)
-          (stays_durable (heap_view s) (record (heap_view s) { volatile = contents.volatile; durable = contents.durable }) b.first_word value keeps has.seen has.left);
+          (stays_durable (heap_view s) (record (heap_view s) { volatile = contents.volatile; durable = contents.durable })
+          b.first_word value keeps has.seen has.left);
     }
 
 -- and the seat that accepted it knows that
-pub comes_with : (value : ℕ) (c : CarrierView) (w : View) → 1 ≤ c.block.words → ComesWith c.block (contents_of c) w → Brings value c → HasValue value c.block w
+pub comes_with : (value : ℕ) (c : CarrierView) (w : View) → 1 ≤ c.block.words → ComesWith c.block (contents_of c) w → Brings value c
+    → HasValue value c.block w
 comes_with value c w some comes brings = record {
   seen = comes.volatile c.block.first_word (first_in c.block some) ∙ brings.seen;
   left = comes.durable c.block.first_word (first_in c.block some) ∙ brings.left;
 }
 
 -- what is loaded of it is that value, and it stays
-pub loads_it : (value read : ℕ) (b : Block) (v w : View) → 1 ≤ b.words → Contains v.held b → KeepsOwn v w → Loads (b.first_word + 0) read v w → HasValue value b v
+pub loads_it : (value read : ℕ) (b : Block) (v w : View) → 1 ≤ b.words → Contains v.held b → KeepsOwn v w → Loads (b.first_word + 0) read v w
+    → HasValue value b v
     → HasReceived value w (record { block = b; value = read })
 loads_it value read b v w some held keeps loads has =
     let own = in_block b b.first_word held (first_in b some) in

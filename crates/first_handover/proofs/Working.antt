@@ -18,12 +18,14 @@ use Rattle.first_handover.specs.Handover.{HasEnded, HasOwn, HasSent, HaveWorked,
 use Rattle.first_handover.proofs.Words.{if_ok, if_some}
 
 -- a seat that is given back as it is
-pub back_from : (shared : SharedView) (v : View) (seat : SeatView) → HasSoundState seat.view → IsSeatOf shared seat → ((b : Block) → Contains (held_blocks v) b → Contains (held_blocks seat.view) b)
+pub back_from : (shared : SharedView) (v : View) (seat : SeatView) → HasSoundState seat.view → IsSeatOf shared seat
+    → ((b : Block) → Contains (held_blocks v) b → Contains (held_blocks seat.view) b)
     → IsBackFrom shared v seat
 back_from shared v seat sound of held = record { of = of; held = λ b there. held_is seat.view sound b (held b there) }
 
 -- it has what the seat that allocates had
-pub seat_of : (shared : SharedView) (first : SeatView) (s t : CacheState) (seat : SeatView) → IsSeatOf shared first → IsNew first s → t.table ≡ s.table → t.view.setup ≡ s.view.setup
+pub seat_of : (shared : SharedView) (first : SeatView) (s t : CacheState) (seat : SeatView) → IsSeatOf shared first → IsNew first s
+    → t.table ≡ s.table → t.view.setup ≡ s.view.setup
     → seat.table ≡ t.table → seat.view ≡ t.view → IsSeatOf shared seat
 seat_of shared first s t seat of new table setup back view = record {
   table = back ∙ table ∙ new.table ∙ of.table;
@@ -39,14 +41,22 @@ between_at s v same = subst IsBetweenCalls (sym same) s.between
 module _ (shared : SharedView) (value : ℕ) (sent : Sent) (owning : Owning) (one : SeatView) (ended : Ended) where
   pub worked_of : HasSent shared value sent → HasOwn shared owning → IsBackFrom shared sent.seat.view one → role one.view ≡ role sent.seat.view
       → HasEnded shared sent.carrier owning.seat.view ended
-      → HaveWorked shared value (record { one = one; other = ended.seat; kept = sent.kept; own = owning.own; received = ended.taken.received; left = ended.taken.left })
+      → HaveWorked shared value (record {
+        one = one;
+        other = ended.seat;
+        kept = sent.kept;
+        own = owning.own;
+        received = ended.taken.received;
+        left = ended.taken.left;
+      })
   worked_of sends owns back roles ends = record {
     one = back.of;
     other = ends.back.of;
     kept = if_ok (Contains (held_blocks sent.seat.view)) (IsHeld one.view) sent.kept back.held sends.kept;
     received = ends.received value sends.brings;
     gets = ends.gets;
-    apart = if_some (λ (r : Received). (a : Block) → Contains (held_blocks owning.seat.view) a → AreApart a r.block) (λ r. IfOk owning.own (λ a. AreApart a r.block)) ended.taken.received
+    apart = if_some (λ (r : Received). (a : Block) → Contains (held_blocks owning.seat.view) a → AreApart a r.block)
+        (λ r. IfOk owning.own (λ a. AreApart a r.block)) ended.taken.received
         (λ r apart. if_ok (Contains (held_blocks owning.seat.view)) (λ a. AreApart a r.block) owning.own apart owns.own) ends.apart;
     table = ends.table;
     is_seat = ends.accepted.carries ∙ ap (λ (r : Role). r.carries) owns.role_is;

@@ -61,7 +61,8 @@ pub record HasReceived (value : ℕ) (v : HeapView) (r : Received) : Type 0 wher
   pub read : r.value ≡ value
   pub has : HasValue value r.block v
 
--- What a seat took of a carrier that it was given, if it was given one: the block, which is apart from all that it held before and keeps its value, or the
+-- What a seat took of a carrier that it was given, if it was given one: the block, which is apart from all that it held
+-- before and keeps its value, or the
 -- carrier again.
 pub record HasTaken (given : Option CarrierView) (s t : CacheState) (taken : Taken) : Type 0 where
   pub same : IsSameSeat s t
@@ -97,7 +98,8 @@ pub record KnowsReceived (value : ℕ) (v : View) (r : Received) : Type 0 where
   pub view : v ≡ state.view
   pub has : HasReceived value (heap_view state) r
 
--- The second thread's seat was given back, with what it took of the carrier that it was given. A block that it received is apart from all that it held before.
+-- The second thread's seat was given back, with what it took of the carrier that it was given. A block that it received
+-- is apart from all that it held before.
 pub record HasEnded (shared : SharedView) (given : Option CarrierView) (v : View) (ended : Ended) : Type 0 where
   pub back : IsBackFrom shared v ended.seat
   pub received : (value : ℕ) → IfSome given (Brings value) → IfSome ended.taken.received (KnowsReceived value ended.seat.view)

@@ -18,7 +18,8 @@ use Rattle.seat_costs.specs.Idle.{HasShortCaches, IsIdle}
 use Rattle.first_threads.specs.Working.{IsFreshSeatOf}
 
 -- both were taken off the list of seats, the second one first
-pub both_are : (all rest fewer : List SeatView) (one other : SeatView) → all ≡ rest ++ other ∷ [] → rest ≡ fewer ++ one ∷ [] → length all ≡ 2 → all ≡ one ∷ other ∷ []
+pub both_are : (all rest fewer : List SeatView) (one other : SeatView) → all ≡ rest ++ other ∷ [] → rest ≡ fewer ++ one ∷ [] → length all ≡ 2
+    → all ≡ one ∷ other ∷ []
 both_are all rest [] one other split again two = split ∙ ap (λ l. l ++ other ∷ []) again
 both_are all rest (x ∷ fewer) one other split again two =
     let outer = length-append rest (other ∷ []) in
@@ -42,8 +43,10 @@ module _ (shared : SharedView) (one other : SeatView) (two : shared.opening.seat
   pair_hands_nothing = of_pair (λ s. role s.view ≡ no_role)
 
 -- a seat of an opened heap is fresh, with each root that is its own
-pub fresh_of : (setup : Setup) (held : List Block) (block_owners root_owners : List ℕ) (shared : SharedView) (seats : List SeatView) (i root : ℕ) (seat : SeatView)
-    → AreOpenedSeats shared (opened_view setup held block_owners root_owners) seats → i < length seats → get_or seats i seat ≡ seat → IsIdle seat.view × HasShortCaches seat.view
+pub fresh_of : (setup : Setup) (held : List Block) (block_owners root_owners : List ℕ) (shared : SharedView) (seats : List SeatView)
+    (i root : ℕ) (seat : SeatView)
+    → AreOpenedSeats shared (opened_view setup held block_owners root_owners) seats → i < length seats → get_or seats i seat ≡ seat
+    → IsIdle seat.view × HasShortCaches seat.view
     → root < roots → get_or root_owners root (i + 1) ≡ i → IsFreshSeatOf shared root seat
 fresh_of setup held block_owners root_owners shared seats i root seat opened less at idle below owner =
     let each = opened.each i seat less at in record {
@@ -52,7 +55,8 @@ fresh_of setup held block_owners root_owners shared seats i root seat opened les
       idle = idle.0;
       short = idle.1;
       role_is = ap role each.1;
-      root_is = times_some root seat.view.roots (subst (λ (v : View). 0 < times root v.roots) (sym each.1) ((owns_root i roots root_owners root).1 (below, owner)));
+      root_is = times_some root seat.view.roots (subst (λ (v : View). 0 < times root v.roots) (sym each.1)
+          ((owns_root i roots root_owners root).1 (below, owner)));
     }
 
 -- what one of two seats holds is held by some seat

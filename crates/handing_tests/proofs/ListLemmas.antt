@@ -15,10 +15,12 @@ pub rest_at : (table : TableId) (all rest : List CarrierView) (x : CarrierView) 
 rest_at table all rest x split at = All-tail (λ (c : CarrierView). c.table ≡ table) x rest (subst (AreAt table) split at)
 
 pub last_has : (all rest : List SeatView) (seat : SeatView) → all ≡ rest ++ seat ∷ [] → HasLastAllRoots all → HasAllRoots seat.view.roots
-last_has all rest seat split has = has seat (ap (λ n. get_or all n seat) place ∙ ap (λ l. get_or l (length rest) seat) split ∙ get_or-append_seam rest seat [] seat) where
-  place : length all - 1 ≡ length rest
-  place = let long = ap length split in let more = length-append rest (seat ∷ []) in omega (arith, long, more)
+last_has all rest seat split has = has seat (ap (λ n. get_or all n seat) place ∙ ap (λ l. get_or l (length rest) seat) split
+    ∙ get_or-append_seam rest seat [] seat) where
+      place : length all - 1 ≡ length rest
+      place = let long = ap length split in let more = length-append rest (seat ∷ []) in omega (arith, long, more)
 
-pub last_roots : (all rest : List SeatView) (r : Option SeatView) → all ≡ rest ++ option_to_list r → HasLastAllRoots all → IfSome r (λ seat. HasAllRoots seat.view.roots)
+pub last_roots : (all rest : List SeatView) (r : Option SeatView) → all ≡ rest ++ option_to_list r → HasLastAllRoots all
+    → IfSome r (λ seat. HasAllRoots seat.view.roots)
 last_roots all rest None split has = tt
 last_roots all rest (Some seat) split has = last_has all rest seat split has

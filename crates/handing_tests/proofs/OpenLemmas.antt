@@ -10,8 +10,10 @@ use Rattle.core_model.proofs.RootLemmas.{owns_root}
 use Rattle.handing_tests.specs.Handing.{HasAllRoots}
 
 -- the seat of which all roots are has them
-pub has_all_roots : (setup : Setup) (held : List Block) (block_owners root_owners : List ℕ) (i : ℕ) (v : View) → v ≡ opened_view setup held block_owners root_owners i
+pub has_all_roots : (setup : Setup) (held : List Block) (block_owners root_owners : List ℕ) (i : ℕ) (v : View)
+    → v ≡ opened_view setup held block_owners root_owners i
     → ((root d : ℕ) → root < roots → get_or root_owners root d ≡ i) → HasAllRoots v.roots
 has_all_roots setup held block_owners root_owners i v is own = record {
-  each = λ root inside. times_some root v.roots (subst (λ (w : View). 0 < times root w.roots) (sym is) ((owns_root i roots root_owners root).1 (inside, own root (i + 1) inside)));
+  each = λ root inside. times_some root v.roots (subst (λ (w : View). 0 < times root w.roots) (sym is)
+      ((owns_root i roots root_owners root).1 (inside, own root (i + 1) inside)));
 }

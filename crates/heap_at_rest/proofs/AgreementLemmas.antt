@@ -20,7 +20,8 @@ module _ (image other : Image) (agree : AgreeButFull image other) where
   capacity_same : capacity_of other ≡ capacity_of image
   capacity_same = agree.header capacity_word (omega arith)
 
-  header_same : (the_version most bytes : ℕ) (words : ℕ → ℕ) → HasHeader the_version most (words (capacity_of image)) bytes image → HasHeader the_version most (words (capacity_of other)) bytes other
+  header_same : (the_version most bytes : ℕ) (words : ℕ → ℕ) → HasHeader the_version most (words (capacity_of image)) bytes image
+      → HasHeader the_version most (words (capacity_of other)) bytes other
   header_same the_version most bytes words is = record {
     magic_is = agree.header magic_word (omega arith) ∙ is.magic_is;
     version_is = agree.header version_word (omega arith) ∙ is.version_is;
@@ -69,7 +70,8 @@ module _ (image other : Image) (agree : AgreeButFull image other) (fits : used_o
   pub agree_back : AgreeButFull other image
   agree_back = record {
     header = λ word low. sym (agree.header word low);
-    descriptors = λ d below. let here : d < capacity_of image = subst (λ c. d < c) capacity_is below in (sym (info_is d here), sym (anchor_is d here), sym (link_is d here));
+    descriptors = λ d below. let here : d < capacity_of image = subst (λ c. d < c) capacity_is below in
+        (sym (info_is d here), sym (anchor_is d here), sym (link_is d here));
     kinds = λ root less. sym (agree.kinds root less);
     inside = λ d word free low high.
         let taken : d < used_of image = subst (λ u. d < u) used_is free.taken in
@@ -88,7 +90,8 @@ module _ (image other : Image) (agree : AgreeButFull image other) (fits : used_o
       (follows_same (λ d. image (link_word d)) (λ d. other (link_word d)) (capacity_of image) (head_first (image (head_word 0))) free
       (λ d p. link_is d (follows_below (λ e. image (link_word e)) (capacity_of image) (head_first (image (head_word 0))) free d listed p)) listed))
 
-  chain_same : (class d : ℕ) (chain : List ℕ) → d < used_of image → IsClass class → image (info_word d) ≡ class → HasPartialChain image class d chain → HasPartialChain other class d chain
+  chain_same : (class d : ℕ) (chain : List ℕ) → d < used_of image → IsClass class → image (info_word d) ≡ class
+      → HasPartialChain image class d chain → HasPartialChain other class d chain
   chain_same class d chain taken is info has =
       let anchor = anchor_is d (omega arith) in
       record {
@@ -96,11 +99,16 @@ module _ (image other : Image) (agree : AgreeButFull image other) (fits : used_o
         count = ap anchor_count anchor ∙ has.count;
         some = has.some;
         not_all = has.not_all;
-        linked = subst (λ c. IsChain other c class d (start_word c d + anchor_first (other (anchor_word d)) * words_of_class class) chain) (sym capacity_is)
-            (subst (λ a. IsChain other (capacity_of image) class d (start_word (capacity_of image) d + anchor_first a * words_of_class class) chain) (sym anchor) (record {
-              walks = walks_same image other (start_word (capacity_of image) d + anchor_first (image (anchor_word d)) * words_of_class class) chain (λ w p.
-                  let inside = class_inside (capacity_of image) class d (has.linked.blocks w p).0 (record { first_word = w; words = words_of_class class }) is (has.linked.blocks w p).1 in
-                  agree.inside d w (record { taken = taken; of_class = subst IsClass (sym info) is; state = has.state }) inside.0 (omega (arith, inside.1, inside.2))) has.linked.walks;
+        linked = subst (λ c. IsChain other c class d (start_word c d + anchor_first (other (anchor_word d)) * words_of_class class) chain)
+            (sym capacity_is)
+            (subst (λ a. IsChain other (capacity_of image) class d (start_word (capacity_of image) d + anchor_first a * words_of_class class)
+            chain) (sym anchor) (record {
+              walks = walks_same image other (start_word (capacity_of image) d + anchor_first (image (anchor_word d)) * words_of_class class)
+                  chain (λ w p.
+                  let inside = class_inside (capacity_of image) class d (has.linked.blocks w p).0
+                  (record { first_word = w; words = words_of_class class }) is (has.linked.blocks w p).1 in
+                  agree.inside d w (record { taken = taken; of_class = subst IsClass (sym info) is; state = has.state }) inside.0
+                  (omega (arith, inside.1, inside.2))) has.linked.walks;
               blocks = has.linked.blocks;
             }));
         different = has.different;
@@ -110,7 +118,8 @@ module _ (image other : Image) (agree : AgreeButFull image other) (fits : used_o
   outside_same free d out = record { taken = subst (λ u. d < u) (sym used_is) out.taken; listed = listed_same free out.listed; outside = out.outside }
 
   block_same : (b : Block) → IsBlock (layout_of image) b → IsBlock (layout_of other) b
-  block_same b is = same_there (layout_of image) (layout_of other) b capacity_is used_is (λ d part. let taken = part_taken (layout_of image) b d is part in info_is d (omega arith)) is
+  block_same b is = same_there (layout_of image) (layout_of other) b capacity_is used_is
+      (λ d part. let taken = part_taken (layout_of image) b d is part in info_is d (omega arith)) is
 
   large_same : (free : List ℕ) (b : Block) → IsLargeOutside image free b → IsLargeOutside other free b
   large_same free b large = record {
@@ -131,13 +140,15 @@ module _ (image other : Image) (agree : AgreeButFull image other) (fits : used_o
       (subst (λ c. IsBlockOfClass c class d index b) (sym capacity_is) of) unchained
   held_same b (as_large free listed large) = as_large free (listed_same free listed) (large_same free b large)
 
-  anchor_same : (class d : ℕ) → d < used_of image → IsClass class → image (info_word d) ≡ class → HasOrderlyAnchor image class d → HasOrderlyAnchor other class d
+  anchor_same : (class d : ℕ) → d < used_of image → IsClass class → image (info_word d) ≡ class → HasOrderlyAnchor image class d
+      → HasOrderlyAnchor other class d
   anchor_same class d taken is info (all_free state) = all_free (ap anchor_state (anchor_is d (omega arith)) ∙ state)
   anchor_same class d taken is info (none_free full) = none_free (anchor_is d (omega arith) ∙ full)
   anchor_same class d taken is info (some_free chain has) = some_free chain (chain_same class d chain taken is info has)
 
   superblock_same : (free : List ℕ) (d : ℕ) → d < used_of image → IsOrderlyOutside image free d → IsOrderlyOutside other free d
-  superblock_same free d taken (of_class class is info anchor) = of_class class is (info_is d (omega arith) ∙ info) (anchor_same class d taken is info anchor)
+  superblock_same free d taken (of_class class is info anchor) = of_class class is (info_is d (omega arith) ∙ info)
+      (anchor_same class d taken is info anchor)
   superblock_same free d taken (of_large b large part) = of_large b (large_same free b large) (subst (λ c. HasPartIn c b d) (sym capacity_is) part)
 
   -- and one is orderly where the other is
@@ -151,7 +162,8 @@ module _ (image other : Image) (agree : AgreeButFull image other) (fits : used_o
         let here = is.free_are d p in
         let taken = here.0 in
         (subst (λ u. d < u) (sym used_is) taken, ap anchor_state (anchor_is d (omega arith)) ∙ here.1);
-    others = λ d taken out. let taken_here : d < used_of image = subst (λ u. d < u) used_is taken in superblock_same is.free d taken_here (is.others d taken_here out);
+    others = λ d taken out. let taken_here : d < used_of image = subst (λ u. d < u) used_is taken in
+        superblock_same is.free d taken_here (is.others d taken_here out);
     untaken = λ d past below.
         let low : used_of image ≤ d = subst (λ u. u ≤ d) used_is past in
         let high : d < capacity_of image = subst (λ c. d < c) capacity_is below in
@@ -173,10 +185,15 @@ module _ (image other : Image) (agree : AgreeButFull image other) where
   )
 
   pub held_both : used_of image ≤ capacity_of image → (b : Block) → IsHeldByAnchors image b ↔ IsHeldByAnchors other b
-  held_both fits b = (held_same image other agree fits b, held_same other image (agree_back image other agree fits) (fits_same image other agree fits) b)
+  held_both fits b = (
+    held_same image other agree fits b,
+    held_same other image (agree_back image other agree fits)
+        (fits_same image other agree fits) b,
+  )
 
   -- so the same superblocks are free
-  pub free_both : used_of image ≤ capacity_of image → (d : ℕ) → IsFreeSuperblock (layout_of image) (IsHeldByAnchors image) d ↔ IsFreeSuperblock (layout_of other) (IsHeldByAnchors other) d
+  pub free_both : used_of image ≤ capacity_of image → (d : ℕ) → IsFreeSuperblock (layout_of image) (IsHeldByAnchors image) d ↔ IsFreeSuperblock
+      (layout_of other) (IsHeldByAnchors other) d
   free_both fits d = (
     λ free. record {
       taken = subst (λ u. d < u) (sym (agree.header used_word (omega arith))) free.taken;

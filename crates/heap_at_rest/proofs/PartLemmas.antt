@@ -60,7 +60,8 @@ class_part capacity class d index b is of =
     record { begins = omega (arith, inside.0, inside.1, inside.2); ends = omega (arith, inside.0, inside.2) }
 
 -- and in no other superblock
-pub one_superblock : (capacity class d e index : ℕ) (b : Block) → IsClass class → IsBlockOfClass capacity class e index b → HasPartIn capacity b d → e ≡ d
+pub one_superblock : (capacity class d e index : ℕ) (b : Block) → IsClass class → IsBlockOfClass capacity class e index b
+    → HasPartIn capacity b d → e ≡ d
 one_superblock capacity class d e index b is of part =
     let inside = class_inside capacity class e index b is of in
     let begins = part.begins in

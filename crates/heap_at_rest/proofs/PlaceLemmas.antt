@@ -33,7 +33,8 @@ chain_mark ws (is_fully_kept class _ _) = []
 chain_mark ws (is_in_large _) = []
 
 -- a partial superblock has its chain
-pub chain_of_partial : (l : Layout) (kept : Block → Type 0) (class d : ℕ) (ws : List ℕ) (s : Standing l kept d) → IsClass class → IsPartial l kept class d → chain_mark ws s ≡ ws
+pub chain_of_partial : (l : Layout) (kept : Block → Type 0) (class d : ℕ) (ws : List ℕ) (s : Standing l kept d) → IsClass class
+    → IsPartial l kept class d → chain_mark ws s ≡ ws
 chain_of_partial l kept class d ws (is_untaken past) is part = absurd (let taken = part.taken in omega arith)
 chain_of_partial l kept class d ws (is_free free) is part = absurd (free_not_partial l kept class d free part)
 chain_of_partial l kept class d ws (is_partial c of part') is part = refl
@@ -43,18 +44,21 @@ chain_of_partial l kept class d ws (is_in_large large) is part = absurd (large_n
 module _ (old new : Image) (kept : Block → Type 0) (held : List Block) (left : IsLeft old new kept held) where
   -- each taken superblock is in one place
   pub one_place : (d : ℕ) (s : Standing (layout_of old) kept d)
-      → total (λ list. times d (left.heap.descriptors list)) list_numbers + full_mark s + total (large_part (layout_of old).capacity d) held ≡ below d (layout_of old).used
+      → total (λ list. times d (left.heap.descriptors list)) list_numbers + full_mark s + total
+      (large_part (layout_of old).capacity d) held ≡ below d (layout_of old).used
   one_place d (is_untaken past) =
       let outside : below d (layout_of old).used ≡ 0 = one_if_false _ (λ test. let less = ltb-true d (layout_of old).used test in omega arith) in
       let unlisted = lists_none old new kept held left d (λ list less listed. elim (listed_cases (layout_of old) kept list d less listed) as (λ _. ⊥) [
         | inl free ↦ let taken = free.taken in omega arith
         | inr part ↦ let taken = part.1.taken in omega arith
       ]) in
-      let no_large = large_none old new kept held left d (λ b is_kept part all. let taken = part_taken (layout_of old) b d (left.named b is_kept) part in omega arith) in
+      let no_large = large_none old new kept held left d (λ b is_kept part all. let taken =
+      part_taken (layout_of old) b d (left.named b is_kept) part in omega arith) in
       omega arith
   one_place d (is_free free) =
       let inside : below d (layout_of old).used ≡ 1 = one_if_true _ (lt-ltb d (layout_of old).used free.taken) in
-      let listed = lists_once old new kept held left d 0 (omega arith) free (λ other less listed. elim (listed_cases (layout_of old) kept other d less listed) as (λ _. other ≡ 0) [
+      let listed = lists_once old new kept held left d 0 (omega arith) free
+      (λ other less listed. elim (listed_cases (layout_of old) kept other d less listed) as (λ _. other ≡ 0) [
         | inl again ↦ same_free other less listed
         | inr part ↦ absurd (free_not_partial (layout_of old) kept other d free part.1)
       ]) in
@@ -67,7 +71,8 @@ module _ (old new : Image) (kept : Block → Type 0) (held : List Block) (left :
   one_place d (is_partial class is part) =
       let inside : below d (layout_of old).used ≡ 1 = one_if_true _ (lt-ltb d (layout_of old).used part.taken) in
       let last = is.last in
-      let listed = lists_once old new kept held left d class (omega arith) (partial_listed (layout_of old) kept class d is part) (λ other less listed. elim (listed_cases (layout_of old) kept other d less listed) as (λ _. other ≡ class) [
+      let listed = lists_once old new kept held left d class (omega arith) (partial_listed (layout_of old) kept class d is part)
+      (λ other less listed. elim (listed_cases (layout_of old) kept other d less listed) as (λ _. other ≡ class) [
         | inl free ↦ absurd (free_not_partial (layout_of old) kept class d free part)
         | inr again ↦ one_class (layout_of old) kept other class d again.1 part
       ]) in
@@ -93,7 +98,8 @@ module _ (old new : Image) (kept : Block → Type 0) (held : List Block) (left :
 
   -- a block that is kept is held once, and one that is not, nowhere
   pub held_once : (b : Block) → kept b → times b.first_word (map (λ (h : Block). h.first_word) held) ≡ 1
-  held_once b is_kept = times_once b.first_word (map (λ (h : Block). h.first_word) held) (order_map (λ (h : Block). h.first_word) held left.are_held.ascending)
+  held_once b is_kept = times_once b.first_word (map (λ (h : Block). h.first_word) held)
+      (order_map (λ (h : Block). h.first_word) held left.are_held.ascending)
       (map_in (λ (h : Block). h.first_word) held b (left.are_held.complete b is_kept))
 
   pub held_none : (b : Block) → IsBlock (layout_of old) b → (kept b → ⊥) → times b.first_word (map (λ (h : Block). h.first_word) held) ≡ 0

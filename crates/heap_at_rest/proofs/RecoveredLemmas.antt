@@ -60,7 +60,8 @@ module _ (old new : Image) (kept : Block → Type 0) (held : List Block) (left :
     by_standing (is_in_large large) = (left.heap.in_large d large).info_is
 
 -- what recovery makes of an image
-module _ (old new : Image) (kept : Block → Type 0) (named : (b : Block) → kept b → IsBlock (layout_of old) b) (recovered : IsRecovered old new kept) where
+module _ (old new : Image) (kept : Block → Type 0) (named : (b : Block) → kept b → IsBlock (layout_of old) b)
+    (recovered : IsRecovered old new kept) where
   -- a partial superblock has the anchor of its chain
   anchored : (class d : ℕ) → IsClass class → IsPartial (layout_of old) kept class d → IsAnchored new class d (recovered.chains d)
   anchored class d is part =
@@ -75,14 +76,25 @@ module _ (old new : Image) (kept : Block → Type 0) (named : (b : Block) → ke
       let state : anchor_state (new (anchor_word d)) ≡ 1 = ap anchor_state anchor ∙ parts.0 in
       let first : anchor_first (new (anchor_word d)) ≡ rechained.first = ap anchor_first anchor ∙ parts.1 in
       record {
-        linked = subst (λ c. IsChain new c class d (start_word c d + anchor_first (new (anchor_word d)) * words_of_class class) ws) (sym (same_capacity old new recovered.same))
+        linked = subst (λ c. IsChain new c class d (start_word c d + anchor_first (new (anchor_word d)) * words_of_class class) ws)
+            (sym (same_capacity old new recovered.same))
             (subst (λ k. IsChain new (capacity_of old) class d (start_word (capacity_of old) d + k * words_of_class class) ws) (sym first) (record {
               walks = rechained.walks;
-              blocks = λ w p. let spare = chained.sound w p in (spare.index, record { below = spare.is_block.below; at = sym spare.first ∙ spare.is_block.at; size = refl });
+              blocks = λ w p. let spare = chained.sound w p in (
+                spare.index,
+                record {
+                  below = spare.is_block.below;
+                  at = sym spare.first ∙ spare.is_block.at;
+                  size = refl;
+                },
+              );
             }));
         count = ap anchor_count anchor ∙ parts.2;
         empty = (λ none. absurd (omega arith), λ all. absurd (omega arith));
-        full = (λ is_full. absurd (let wrong : anchor_state (new (anchor_word d)) ≡ 2 = ap anchor_state is_full in omega arith), λ none. absurd (omega arith));
+        full = (
+          λ is_full. absurd (let wrong : anchor_state (new (anchor_word d)) ≡ 2 = ap anchor_state is_full in omega arith),
+          λ none. absurd (omega arith),
+        );
         partial = λ some fewer_than_all. state;
       }
 

@@ -20,7 +20,8 @@ use Rattle.heap_model.proofs.PartLemmas.{TakesAll, cases_of_part}
 use Rattle.heap_at_rest.proofs.PartLemmas.{long_takes}
 
 -- a superblock in a list is free, or partial in that class
-pub listed_cases : (l : Layout) (kept : Block → Type 0) (list d : ℕ) → list < lists → IsListed l kept list d → IsFreeSuperblock l kept d ⊎ (IsClass list × IsPartial l kept list d)
+pub listed_cases : (l : Layout) (kept : Block → Type 0) (list d : ℕ) → list < lists → IsListed l kept list d
+    → IsFreeSuperblock l kept d ⊎ (IsClass list × IsPartial l kept list d)
 listed_cases l kept zero d less listed = inl listed
 listed_cases l kept (suc c) d less listed = inr (record { some = omega arith; last = omega arith }, listed)
 
@@ -62,13 +63,20 @@ full_holds l kept class d is full =
 -- a large block with a part in a superblock counts 1 there, and no other block does
 pub large_counts : (capacity d : ℕ) (b : Block) → superblock_words ≤ b.words → HasPartIn capacity b d → large_part capacity d b ≡ 1
 large_counts capacity d b long part =
-    one_if_true _ (and_from _ _ (le-leb 8192 b.words long) (and_from _ _ (lt-ltb b.first_word (start_word capacity (d + 1)) part.begins) (lt-ltb (start_word capacity d) (b.first_word + b.words) part.ends)))
+    one_if_true _ (and_from _ _ (le-leb 8192 b.words long) (and_from _ _ (lt-ltb b.first_word (start_word capacity (d + 1)) part.begins)
+    (lt-ltb (start_word capacity d) (b.first_word + b.words) part.ends)))
 
 pub counts_large : (capacity d : ℕ) (b : Block) → 0 < large_part capacity d b → (superblock_words ≤ b.words) × HasPartIn capacity b d
 counts_large capacity d b counts =
-    let tests = and_parts (nat_le 8192 b.words) (nat_lt b.first_word (start_word capacity (d + 1)) && nat_lt (start_word capacity d) (b.first_word + b.words)) (one_if_some _ counts) in
-    let sides = and_parts (nat_lt b.first_word (start_word capacity (d + 1))) (nat_lt (start_word capacity d) (b.first_word + b.words)) tests.1 in
-    (leb-true 8192 b.words tests.0, record { begins = ltb-true b.first_word (start_word capacity (d + 1)) sides.0; ends = ltb-true (start_word capacity d) (b.first_word + b.words) sides.1 })
+    let tests = and_parts (nat_le 8192 b.words) (nat_lt b.first_word (start_word capacity (d + 1)) && nat_lt (start_word capacity d)
+    (b.first_word + b.words)) (one_if_some _ counts) in
+    let sides = and_parts (nat_lt b.first_word (start_word capacity (d + 1))) (nat_lt (start_word capacity d) (b.first_word + b.words)) tests.1 in (
+      leb-true 8192 b.words tests.0,
+      record {
+        begins = ltb-true b.first_word (start_word capacity (d + 1)) sides.0;
+        ends = ltb-true (start_word capacity d) (b.first_word + b.words) sides.1;
+      },
+    )
 
 -- the list has the spare blocks of a superblock of the class, each once
 pub record HasSpares (l : Layout) (kept : Block → Type 0) (class d : ℕ) (ws : List ℕ) : Type 0 where
@@ -106,13 +114,15 @@ module _ (old new : Image) (kept : Block → Type 0) (held : List Block) (left :
   in_list list less some = (left.heap.listed list less).sound d (times_some d (left.heap.descriptors list) some)
 
   -- a superblock that may be in no list is in none
-  pub lists_none : ((list : ℕ) → list < lists → IsListed (layout_of old) kept list d → ⊥) → total (λ list. times d (left.heap.descriptors list)) list_numbers ≡ 0
+  pub lists_none : ((list : ℕ) → list < lists → IsListed (layout_of old) kept list d → ⊥)
+      → total (λ list. times d (left.heap.descriptors list)) list_numbers ≡ 0
   lists_none none = total_none (λ list. times d (left.heap.descriptors list)) list_numbers (λ list p.
       let less = number_below list p in
       times_none d (left.heap.descriptors list) (λ q. none list less ((left.heap.listed list less).sound d q)))
 
   -- one that is in one list alone is there once
-  pub lists_once : (list : ℕ) → list < lists → IsListed (layout_of old) kept list d → ((other : ℕ) → other < lists → IsListed (layout_of old) kept other d → other ≡ list)
+  pub lists_once : (list : ℕ) → list < lists → IsListed (layout_of old) kept list d
+      → ((other : ℕ) → other < lists → IsListed (layout_of old) kept other d → other ≡ list)
       → total (λ list'. times d (left.heap.descriptors list')) list_numbers ≡ 1
   lists_once list less here alone = total_once (λ a b. a < b) (λ list'. times d (left.heap.descriptors list')) list_numbers list numbers_ascend
       (λ a b in_a in_b before some_a some_b.
@@ -125,14 +135,16 @@ module _ (old new : Image) (kept : Block → Type 0) (held : List Block) (left :
       (times_once d (left.heap.descriptors list) (left.heap.listed list less).ascending ((left.heap.listed list less).complete d here))
 
   -- where a large block is counted, it takes the whole superblock
-  pub large_some : 0 < total (large_part (layout_of old).capacity d) held → (b : Block) × kept b × HasPartIn (layout_of old).capacity b d × TakesAll (layout_of old) b d
+  pub large_some : 0 < total (large_part (layout_of old).capacity d) held → (b : Block) × kept b × HasPartIn (layout_of old).capacity b d
+      × TakesAll (layout_of old) b d
   large_some some =
       let found = total_some (large_part (layout_of old).capacity d) held some in
       let is_kept = left.are_held.sound found.0 found.1 in
       let large = counts_large (layout_of old).capacity d found.0 found.2 in
       (found.0, is_kept, large.1, long_takes (layout_of old) found.0 d (left.named found.0 is_kept) large.1 large.0)
 
-  pub large_none : ((b : Block) → kept b → HasPartIn (layout_of old).capacity b d → TakesAll (layout_of old) b d → ⊥) → total (large_part (layout_of old).capacity d) held ≡ 0
+  pub large_none : ((b : Block) → kept b → HasPartIn (layout_of old).capacity b d → TakesAll (layout_of old) b d → ⊥)
+      → total (large_part (layout_of old).capacity d) held ≡ 0
   large_none none = total_none (large_part (layout_of old).capacity d) held (λ b p.
       let is_kept = left.are_held.sound b p in
       one_if_false _ (λ test.
@@ -142,15 +154,18 @@ module _ (old new : Image) (kept : Block → Type 0) (held : List Block) (left :
   -- a superblock in a large block is in one
   pub large_once : IsInLarge (layout_of old) kept d → total (large_part (layout_of old).capacity d) held ≡ 1
   large_once large =
-      elim (cases_of_part (layout_of old) large.holds.block d (left.named large.holds.block large.holds.is_kept) large.holds.part) as (λ _. total (large_part (layout_of old).capacity d) held ≡ 1) [
+      elim (cases_of_part (layout_of old) large.holds.block d (left.named large.holds.block large.holds.is_kept) large.holds.part) as
+      (λ _. total (large_part (layout_of old).capacity d) held ≡ 1) [
         | inl one ↦ absurd (large.no_class (subst IsClass (sym one.info_is) one.is_class))
-        | inr all ↦ total_once (λ (a b : Block). a.first_word < b.first_word) (large_part (layout_of old).capacity d) held large.holds.block left.are_held.ascending
+        | inr all ↦ total_once (λ (a b : Block). a.first_word < b.first_word)
+            (large_part (layout_of old).capacity d) held large.holds.block left.are_held.ascending
             (λ a b in_a in_b before counts_a counts_b. two_large a b (left.are_held.sound a in_a) (left.are_held.sound b in_b) before counts_a counts_b)
             (left.are_held.complete large.holds.block large.holds.is_kept)
             (large_counts (layout_of old).capacity d large.holds.block all.long large.holds.part)
       ]
     where
-      two_large : (a b : Block) → kept a → kept b → a.first_word < b.first_word → 0 < large_part (layout_of old).capacity d a → 0 < large_part (layout_of old).capacity d b → ⊥
+      two_large : (a b : Block) → kept a → kept b → a.first_word < b.first_word → 0 < large_part (layout_of old).capacity d a
+          → 0 < large_part (layout_of old).capacity d b → ⊥
       two_large a b kept_a kept_b before counts_a counts_b =
           let large_a = counts_large (layout_of old).capacity d a counts_a in
           let large_b = counts_large (layout_of old).capacity d b counts_b in

@@ -32,16 +32,31 @@ cases_spare l kept class d (suc n) decide within = elim (cases_spare l kept clas
           | inl earlier ↦ before index b earlier is
           | inr last ↦ subst kept (same_index l.capacity class d n index here b (omega arith) is_here is) is_kept
         ])
-        | inr unkept ↦ inl (start_word l.capacity d + n * words_of_class class, record { index = n; block = here; is_block = is_here; first = refl; unkept = unkept })
+        | inr unkept ↦ inl (
+          start_word l.capacity d + n * words_of_class class,
+          record {
+            index = n;
+            block = here;
+            is_block = is_here;
+            first = refl;
+            unkept = unkept;
+          },
+        )
       ]
 ]
 
 -- where the kept blocks are those of a list, a block is kept or not
-pub cases_kept : (l : Layout) (kept : Block → Type 0) (held : List Block) (b : Block) → AreAscending (λ (x : Block). x.first_word) kept held → kept b ⊎ (kept b → ⊥)
-cases_kept l kept held b are = elim (cases_held held b) [ inl is_held ↦ inl (are.sound b is_held) | inr unheld ↦ inr (λ is. unheld (are.complete b is)) ]
+pub cases_kept : (l : Layout) (kept : Block → Type 0) (held : List Block) (b : Block) → AreAscending (λ (x : Block). x.first_word) kept held
+    → kept b ⊎ (kept b → ⊥)
+cases_kept l kept held b are = elim (cases_held held b) [
+  | inl is_held ↦ inl (are.sound b is_held)
+  | inr unheld ↦ inr
+      (λ is. unheld (are.complete b is))
+]
 
 -- each superblock stands in one of these ways
-pub cases_superblock : (l : Layout) (kept : Block → Type 0) (held : List Block) (d : ℕ) → AreAscending (λ (b : Block). b.first_word) kept held → Standing l kept d
+pub cases_superblock : (l : Layout) (kept : Block → Type 0) (held : List Block) (d : ℕ) → AreAscending (λ (b : Block). b.first_word) kept held
+    → Standing l kept d
 cases_superblock l kept held d are = elim (cases_lt d l.used) as (λ _. Standing l kept d) [
   | inr untaken ↦ is_untaken untaken
   | inl taken ↦ elim (cases_parts l.capacity held d) as (λ _. Standing l kept d) [
@@ -50,10 +65,11 @@ cases_superblock l kept held d are = elim (cases_lt d l.used) as (λ _. Standing
         let holds : HoldsKept l kept d = record { block = some.0; is_kept = are.sound some.0 some.1; part = some.2 } in
         elim (cases_class (l.info d)) as (λ _. Standing l kept d) [
           | inr no_class ↦ is_in_large (record { taken = taken; holds = holds; no_class = no_class })
-          | inl is ↦ elim (cases_spare l kept (l.info d) d (blocks_of (l.info d)) (λ b. cases_kept l kept held b are) (omega arith)) as (λ _. Standing l kept d) [
-            | inl spare ↦ is_partial (l.info d) is (record { taken = taken; info_is = refl; holds = holds; spare = spare })
-            | inr all ↦ is_fully_kept (l.info d) is (record { taken = taken; info_is = refl; all = λ index b of. all index b of.below of })
-          ]
+          | inl is ↦ elim (cases_spare l kept (l.info d) d (blocks_of (l.info d)) (λ b. cases_kept l kept held b are) (omega arith)) as
+              (λ _. Standing l kept d) [
+                | inl spare ↦ is_partial (l.info d) is (record { taken = taken; info_is = refl; holds = holds; spare = spare })
+                | inr all ↦ is_fully_kept (l.info d) is (record { taken = taken; info_is = refl; all = λ index b of. all index b of.below of })
+              ]
         ]
   ]
 ]

@@ -1,4 +1,5 @@
--- Two images between which anchors don't tell: they differ in roots, in words without a meaning, and in words of superblocks whose anchors lead along no chain.
+-- Two images between which anchors don't tell: they differ in roots, in words without a meaning, and in words of
+-- superblocks whose anchors lead along no chain.
 use Rattle.std.specs.Prelude.{◌≡◌, ℕ, ◌+◌, ◌<◌, ◌≤◌}
 use Rattle.heap_model.specs.Geometry.{roots, root_word, info_word, anchor_word, link_word, start_word}
 use Rattle.heap_model.specs.Image.{Image}

@@ -37,7 +37,9 @@ pub data IsOrderlyOutside (image : Image) (free : List ℕ) (d : ℕ) : Type 0 w
   of_class : (class : ℕ) → IsClass class → image (info_word d) ≡ class → HasOrderlyAnchor image class d → IsOrderlyOutside image free d
   of_large : (b : Block) → IsLargeOutside image free b → HasPartIn (capacity_of image) b d → IsOrderlyOutside image free d
 
--- A closed image of so many bytes that tells what it holds. Its free list has taken superblocks with empty anchors; each other taken superblock is of a class, or of a large block that was not freed. Where there is a limit, the kinds of the roots are below it.
+-- A closed image of so many bytes that tells what it holds. Its free list has taken superblocks with empty anchors;
+-- each other taken superblock is of a class, or of a large block that was not freed. Where there is a limit, the kinds
+-- of the roots are below it.
 pub record IsOrderly (limit : Option ℕ) (bytes : ℕ) (image : Image) : Type 0 where
   pub header : HasGoodHeader limit bytes image
   pub closed : state_of image ≡ clean
@@ -54,7 +56,9 @@ pub record IsOutsideFreeList (image : Image) (free : List ℕ) (d : ℕ) : Type 
   pub listed : IsListOf image 0 free
   pub outside : Contains free d → ⊥
 
--- The block is held by the anchors: it is of a full superblock of a class, or of a partial one and not in its chain, or a large block; and none of its superblocks is in the free list. A superblock of a class with an empty anchor holds nothing.
+-- The block is held by the anchors: it is of a full superblock of a class, or of a partial one and not in its chain, or
+-- a large block; and none of its superblocks is in the free list. A superblock of a class with an empty anchor holds
+-- nothing.
 pub data IsHeldByAnchors (image : Image) (b : Block) : Type 0 where
   in_full : (free : List ℕ) (class d index : ℕ) → IsOutsideFreeList image free d
       → IsClass class → image (info_word d) ≡ class → image (anchor_word d) ≡ full_anchor

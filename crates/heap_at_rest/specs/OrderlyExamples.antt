@@ -20,14 +20,26 @@ use Rattle.heap_at_rest.specs.Agreement.{IsPartlyFree, AgreeButFull}
 empty_is_orderly : IsOrderly None 82304 (formatted 1 [])
 unfolding largest_capacity
 empty_is_orderly = record {
-  header = inr (record { magic_is = refl; version_is = refl; some = omega arith; small = omega arith; length_is = refl; state = inl refl; used = omega arith }, tt);
+  header = inr (
+    record {
+      magic_is = refl;
+      version_is = refl;
+      some = omega arith;
+      small = omega arith;
+      length_is = refl;
+      state = inl refl;
+      used = omega arith;
+    },
+    tt,
+  );
   closed = refl;
   free = [];
   listed = refl;
   free_are = λ d p. let none = p.1 in absurd (omega arith);
   others = λ d taken outside. absurd (omega arith);
   untaken = λ d past less. let only : d ≡ 0 = omega arith in
-      subst (λ e. (formatted 1 [] (1064 + 8 * e) ≡ 0) × (formatted 1 [] (1065 + 8 * e) ≡ 0) × (formatted 1 [] (1066 + 8 * e) ≡ 0)) (sym only) (refl, refl, refl);
+      subst (λ e. (formatted 1 [] (1064 + 8 * e) ≡ 0) × (formatted 1 [] (1065 + 8 * e) ≡ 0) × (formatted 1 [] (1066 + 8 * e) ≡ 0)) (sym only)
+      (refl, refl, refl);
 }
 
 -- the same with a free list that has superblock 0, which has not been taken
@@ -36,7 +48,8 @@ head_too_high = formatted 1 ((16, 1) ∷ [])
 
 zero_is_listed : (free : List ℕ) → IsListOf head_too_high 0 free → Contains free 0
 zero_is_listed [] listed = absurd (let none : ◌≡◌ {A = ℕ} 1 0 = listed in omega arith)
-zero_is_listed (d ∷ ds) listed = let first : 1 ≡ d + 1 = listed.0 in subst (λ e. Contains (d ∷ ds) e) (let zero : d ≡ 0 = omega arith in zero) (0, omega arith, refl)
+zero_is_listed (d ∷ ds) listed = let first : 1 ≡ d + 1 = listed.0 in
+    subst (λ e. Contains (d ∷ ds) e) (let zero : d ≡ 0 = omega arith in zero) (0, omega arith, refl)
 
 head_is_not_orderly : IsOrderly None 82304 head_too_high → ⊥
 head_is_not_orderly is = let below = (is.free_are 0 (zero_is_listed is.free is.listed)).0 in omega arith
@@ -88,7 +101,18 @@ no_member x p = let within = p.1 in omega arith
 chain_is_orderly : IsOrderly None 82304 with_chain
 unfolding with_chain largest_capacity
 chain_is_orderly = record {
-  header = inr (record { magic_is = refl; version_is = refl; some = omega arith; small = omega arith; length_is = refl; state = inl refl; used = omega arith }, tt);
+  header = inr (
+    record {
+      magic_is = refl;
+      version_is = refl;
+      some = omega arith;
+      small = omega arith;
+      length_is = refl;
+      state = inl refl;
+      used = omega arith;
+    },
+    tt,
+  );
   closed = refl;
   free = [];
   listed = refl;
@@ -106,7 +130,8 @@ zero_not_freed = record { taken = omega arith; listed = refl; outside = no_membe
 
 pub third_is_held : IsHeldByAnchors with_chain (quarter 2)
 unfolding with_chain
-third_is_held = in_partial [] (2864 ∷ 6448 ∷ []) 20 0 2 zero_not_freed (record { some = omega arith; last = omega arith }) refl chain_of_two (is_quarter 2 (omega arith))
+third_is_held = in_partial [] (2864 ∷ 6448 ∷ []) 20 0 2 zero_not_freed (record { some = omega arith; last = omega arith }) refl chain_of_two
+    (is_quarter 2 (omega arith))
     (λ p. elim (of_two 2864 6448 4656 p) as (λ _. ⊥) [ inl first ↦ omega arith | inr second ↦ omega arith ])
 
 -- a chain from block 1 has it, if it has any
@@ -124,7 +149,8 @@ chained_is_not_held (in_partial free chain class d index out is info chained of 
     let taken = out.taken in
     let only : d ≡ 0 = omega arith in
     let twenty : class ≡ 20 = sym info ∙ subst (λ e. with_chain (1064 + 8 * e) ≡ 20) (sym only) refl in
-    let here : HasPartialChain with_chain 20 0 chain = subst (λ e. HasPartialChain with_chain 20 e chain) only (subst (λ c. HasPartialChain with_chain c d chain) twenty chained) in
+    let here : HasPartialChain with_chain 20 0 chain = subst (λ e. HasPartialChain with_chain 20 e chain) only
+    (subst (λ c. HasPartialChain with_chain c d chain) twenty chained) in
     unchained (begins_with with_chain 2864 2864 chain refl here.linked.walks here.some)
 chained_is_not_held (held_as_large free listed large) = let long = large.large in omega arith
 
@@ -181,7 +207,18 @@ freed_list = (refl, omega arith, (refl, omega arith, refl))
 freed_is_orderly : IsOrderly None 147904 freed
 unfolding large_with largest_capacity
 freed_is_orderly = record {
-  header = inr (record { magic_is = refl; version_is = refl; some = omega arith; small = omega arith; length_is = refl; state = inl refl; used = omega arith }, tt);
+  header = inr (
+    record {
+      magic_is = refl;
+      version_is = refl;
+      some = omega arith;
+      small = omega arith;
+      length_is = refl;
+      state = inl refl;
+      used = omega arith;
+    },
+    tt,
+  );
   closed = refl;
   free = 0 ∷ 1 ∷ [];
   listed = freed_list;
@@ -201,7 +238,8 @@ freed_is_orderly = record {
 freed_has : (free : List ℕ) → IsListOf freed 0 free → Contains free 0
 unfolding large_with
 freed_has [] listed = absurd (let none : ◌≡◌ {A = ℕ} 1 0 = listed in omega arith)
-freed_has (d ∷ ds) listed = let first : 1 ≡ d + 1 = listed.0 in let zero_is : d ≡ 0 = omega arith in subst (λ e. Contains (d ∷ ds) e) zero_is (in_head d ds)
+freed_has (d ∷ ds) listed = let first : 1 ≡ d + 1 = listed.0 in let zero_is : d ≡ 0 = omega arith in
+    subst (λ e. Contains (d ∷ ds) e) zero_is (in_head d ds)
 
 no_class : (d class : ℕ) → d < 2 → IsClass class → freed (1064 + 8 * d) ≡ class → ⊥
 unfolding large_with
@@ -225,12 +263,14 @@ unfolding large_with
 large_is_not_partly_free is = let last = is.of_class.last in omega arith
 
 -- a root may differ, a word without a meaning, and a word of a large block
-differs_at : (at : ℕ) → 40 ≤ at → at < 17464 → ((d : ℕ) → d < 2 → (1064 + 8 * d ≢ at) × (1065 + 8 * d ≢ at) × (1066 + 8 * d ≢ at)) → AgreeButFull (large_with 0 0) (put (large_with 0 0) at 5)
+differs_at : (at : ℕ) → 40 ≤ at → at < 17464 → ((d : ℕ) → d < 2 → (1064 + 8 * d ≢ at) × (1065 + 8 * d ≢ at) × (1066 + 8 * d ≢ at))
+    → AgreeButFull (large_with 0 0) (put (large_with 0 0) at 5)
 unfolding large_with
 differs_at at low high apart = record {
   header = λ word below. stays word (λ same. omega arith);
   descriptors = λ d below. let here = apart d below in (stays (1064 + 8 * d) here.0, stays (1065 + 8 * d) here.1, stays (1066 + 8 * d) here.2);
-  kinds = λ root less. ap (λ c. put (large_with 0 0) at 5 (1064 + 8200 * c + root)) (stays 2 (λ same. omega arith)) ∙ stays (17464 + root) (λ same. omega arith);
+  kinds = λ root less. ap (λ c. put (large_with 0 0) at 5 (1064 + 8200 * c + root)) (stays 2 (λ same. omega arith))
+      ∙ stays (17464 + root) (λ same. omega arith);
   inside = λ d word free low' high'. absurd (no_class_there d free);
 } where
   stays : (word : ℕ) → word ≢ at → put (large_with 0 0) at 5 word ≡ large_with 0 0 word

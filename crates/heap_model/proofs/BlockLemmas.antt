@@ -44,7 +44,11 @@ ends_before l d k w n e v m (as_large h some f end zeros) below less next =
     let first : k ≡ zero = omega arith in
     let none : k * w ≡ 0 = subst (λ x. x * w ≡ 0) (sym first) (zero-mul w) in
     let info = some_info l e v m next in
-    elim (cases_lt e (d + h)) as (λ _. 8192 * d + (k * w + w) ≤ 8192 * e) [ inl inside ↦ absurd (let z = zeros e less inside in omega arith) | inr past ↦ omega arith ]
+    elim (cases_lt e (d + h)) as (λ _. 8192 * d + (k * w + w) ≤ 8192 * e) [
+      | inl inside ↦ absurd (let z = zeros e less inside in
+          omega arith)
+      | inr past ↦ omega arith
+    ]
 
 -- a block ends where the taken superblocks end, or before
 pub ends_inside : (l : Layout) (d k w n : ℕ) → d < l.used → Begins l d w n → k < n → 8192 * d + (k * w + w) ≤ 8192 * l.used
@@ -55,7 +59,8 @@ ends_inside l d k w n taken (as_large h some f end zeros) below =
     omega arith
 
 -- of two blocks of one superblock, the one with the lower index ends first
-apart_in_one : (l : Layout) (a b : Block) (d j k w n v m : ℕ) → IsBlockOf l a d j w n → IsBlockOf l b d k v m → j < k → a.first_word + a.words ≤ b.first_word
+apart_in_one : (l : Layout) (a b : Block) (d j k w n v m : ℕ) → IsBlockOf l a d j w n → IsBlockOf l b d k v m → j < k
+    → a.first_word + a.words ≤ b.first_word
 apart_in_one l a b d j k w n v m of_a of_b less =
     let same = same_begins l d w n v m of_a.begins of_b.begins in
     let steps : j * w + w ≤ k * w = block_step j k w less in
@@ -63,7 +68,8 @@ apart_in_one l a b d j k w n v m of_a of_b less =
     omega arith
 
 -- of two blocks of different superblocks, that of the lower one ends first
-apart_in_two : (l : Layout) (a b : Block) (d j w n e k v m : ℕ) → IsBlockOf l a d j w n → IsBlockOf l b e k v m → d < e → a.first_word + a.words ≤ b.first_word
+apart_in_two : (l : Layout) (a b : Block) (d j w n e k v m : ℕ) → IsBlockOf l a d j w n → IsBlockOf l b e k v m → d < e
+    → a.first_word + a.words ≤ b.first_word
 apart_in_two l a b d j w n e k v m of_a of_b less =
     let ends = ends_before l d j w n e v m of_a.begins of_a.below less of_b.begins in omega arith
 
@@ -79,17 +85,23 @@ same_block l a b d k w n v m of_a of_b =
 pub never_overlap : (l : Layout) (a b : Block) → IsBlock l a → IsBlock l b → AreOneOrApart a b
 never_overlap l a b in_a in_b =
     elim (cases_order in_a.superblock in_b.superblock) as (λ _. AreOneOrApart a b) [
-      | inl same ↦ let of_b : IsBlockOf l b in_a.superblock in_b.index in_b.words in_b.count = subst (λ d. IsBlockOf l b d in_b.index in_b.words in_b.count) (sym same) in_b.is_of in
+      | inl same ↦ let of_b : IsBlockOf l b in_a.superblock in_b.index in_b.words in_b.count =
+          subst (λ d. IsBlockOf l b d in_b.index in_b.words in_b.count) (sym same) in_b.is_of in
           elim (cases_order in_a.index in_b.index) as (λ _. AreOneOrApart a b) [
-            | inl one ↦ inl (same_block l a b in_a.superblock in_a.index in_a.words in_a.count in_b.words in_b.count in_a.is_of (subst (λ k. IsBlockOf l b in_a.superblock k in_b.words in_b.count) (sym one) of_b))
+            | inl one ↦ inl (same_block l a b in_a.superblock in_a.index in_a.words in_a.count in_b.words in_b.count in_a.is_of
+                (subst (λ k. IsBlockOf l b in_a.superblock k in_b.words in_b.count) (sym one) of_b))
             | inr two ↦ elim two as (λ _. AreOneOrApart a b) [
-              | inl less ↦ inr (inl (apart_in_one l a b in_a.superblock in_a.index in_b.index in_a.words in_a.count in_b.words in_b.count in_a.is_of of_b less))
-              | inr more ↦ inr (inr (apart_in_one l b a in_a.superblock in_b.index in_a.index in_b.words in_b.count in_a.words in_a.count of_b in_a.is_of more))
+              | inl less ↦ inr (inl (apart_in_one l a b in_a.superblock in_a.index in_b.index in_a.words in_a.count in_b.words in_b.count
+                  in_a.is_of of_b less))
+              | inr more ↦ inr (inr (apart_in_one l b a in_a.superblock in_b.index in_a.index in_b.words in_b.count in_a.words in_a.count of_b
+                  in_a.is_of more))
             ]
           ]
       | inr two ↦ elim two as (λ _. AreOneOrApart a b) [
-        | inl less ↦ inr (inl (apart_in_two l a b in_a.superblock in_a.index in_a.words in_a.count in_b.superblock in_b.index in_b.words in_b.count in_a.is_of in_b.is_of less))
-        | inr more ↦ inr (inr (apart_in_two l b a in_b.superblock in_b.index in_b.words in_b.count in_a.superblock in_a.index in_a.words in_a.count in_b.is_of in_a.is_of more))
+        | inl less ↦ inr (inl (apart_in_two l a b in_a.superblock in_a.index in_a.words in_a.count in_b.superblock in_b.index in_b.words
+            in_b.count in_a.is_of in_b.is_of less))
+        | inr more ↦ inr (inr (apart_in_two l b a in_b.superblock in_b.index in_b.words in_b.count in_a.superblock in_a.index in_a.words
+            in_a.count in_b.is_of in_a.is_of more))
       ]
     ]
 
@@ -102,16 +114,22 @@ pub same_first : (l : Layout) (a b : Block) → IsBlock l a → IsBlock l b → 
 same_first l a b in_a in_b first =
     let some_a = block_words l a in_a in
     let some_b = block_words l b in_b in
-    elim (never_overlap l a b in_a in_b) as (λ _. a ≡ b) [ inl same ↦ same | inr apart ↦ absurd (elim apart as (λ _. ⊥) [ inl before ↦ omega arith | inr behind ↦ omega arith ]) ]
+    elim (never_overlap l a b in_a in_b) as (λ _. a ≡ b) [
+      | inl same ↦ same
+      | inr apart ↦ absurd
+          (elim apart as (λ _. ⊥) [ inl before ↦ omega arith | inr behind ↦ omega arith ])
+    ]
 
 -- a block lies behind the descriptors, and ends where the taken superblocks end, or before
-pub block_inside : (l : Layout) (b : Block) → IsBlock l b → (start_word l.capacity 0 ≤ b.first_word) × (b.first_word + b.words ≤ start_word l.capacity l.used)
+pub block_inside : (l : Layout) (b : Block) → IsBlock l b → (start_word l.capacity 0 ≤ b.first_word)
+    × (b.first_word + b.words ≤ start_word l.capacity l.used)
 block_inside l b is =
     let ends = ends_inside l is.superblock is.index is.words is.count is.is_of.taken is.is_of.begins is.is_of.below in
     (omega arith, omega arith)
 
 -- a block begins in its superblock
-pub block_begins : (l : Layout) (b : Block) (d k w n : ℕ) → IsBlockOf l b d k w n → (start_word l.capacity d ≤ b.first_word) × (b.first_word < start_word l.capacity (d + 1))
+pub block_begins : (l : Layout) (b : Block) (d k w n : ℕ) → IsBlockOf l b d k w n → (start_word l.capacity d ≤ b.first_word)
+    × (b.first_word < start_word l.capacity (d + 1))
 block_begins l b d k w n of = let inside = begins_inside l d k w n of.begins of.below in (omega arith, omega arith)
 
 -- two descriptions of one block have one superblock

@@ -61,7 +61,8 @@ one_if_some false some = absurd (omega arith)
 pub times_none : (n : ℕ) (xs : List ℕ) → (Contains xs n → ⊥) → times n xs ≡ 0
 times_none n [] none = refl
 times_none n (x ∷ xs) none =
-    let here : one_if (nat_eq x n) ≡ 0 = one_if_false (nat_eq x n) (λ same. none (subst (λ y. Contains (x ∷ xs) y) (eqb-true x n same) (in_head x xs))) in
+    let here : one_if (nat_eq x n) ≡ 0 = one_if_false (nat_eq x n)
+    (λ same. none (subst (λ y. Contains (x ∷ xs) y) (eqb-true x n same) (in_head x xs))) in
     let rest = times_none n xs (λ p. none (in_rest x n xs p)) in
     omega arith
 
@@ -91,7 +92,8 @@ times_once n (x ∷ xs) pairs p = elim (head_or_rest x n xs p) [
 -- the list numbers are the numbers below the count of lists, in order
 list_number : (i d : ℕ) → i < lists → get_or list_numbers i d ≡ i
 list_number i d below =
-    get_or_default list_numbers i d 0 below ∙ eqb-true (get_or list_numbers i 0) i (agree_below_at (λ k. nat_eq (get_or list_numbers k 0) k) (λ _. true) lists i refl below)
+    get_or_default list_numbers i d 0 below ∙ eqb-true (get_or list_numbers i 0) i
+    (agree_below_at (λ k. nat_eq (get_or list_numbers k 0) k) (λ _. true) lists i refl below)
 
 pub is_number : (list : ℕ) → list < lists → Contains list_numbers list
 is_number list below = (list, below, list_number list list below)

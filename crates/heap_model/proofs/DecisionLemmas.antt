@@ -53,13 +53,15 @@ begins l d = elim (cases_class (l.info d)) [
   | inl is ↦ inl (words_of_class (l.info d), blocks_of (l.info d), of_class (l.info d) refl is)
   | inr no_class ↦
       let n : ℕ = (l.info d - 255) / 256 in
-      elim (both (at_most 1 n) (both (at_most (l.info d) (255 + 256 * n)) (both (at_most (255 + 256 * n) (l.info d)) (both (at_most (d + n) l.used) (are_zero l.info d n))))) [
+      elim (both (at_most 1 n) (both (at_most (l.info d) (255 + 256 * n))
+      (both (at_most (255 + 256 * n) (l.info d)) (both (at_most (d + n) l.used) (are_zero l.info d n))))) [
         | inl large ↦ inl (superblock_words * n, 1, as_large n large.0 (omega (arith, large.1.0, large.1.1.0)) large.1.1.1.0 large.1.1.1.1)
         | inr not_large ↦ inr (none n refl no_class not_large)
       ]
 ] where
   none : (n : ℕ) → n ≡ (l.info d - 255) / 256 → (IsClass (l.info d) → ⊥)
-      → ((1 ≤ n) × ((l.info d ≤ 255 + 256 * n) × ((255 + 256 * n ≤ l.info d) × ((d + n ≤ l.used) × ((i : ℕ) → d < i → i < d + n → l.info i ≡ 0)))) → ⊥) → (w m : ℕ) → Begins l d w m → ⊥
+      → ((1 ≤ n) × ((l.info d ≤ 255 + 256 * n) × ((255 + 256 * n ≤ l.info d)
+      × ((d + n ≤ l.used) × ((i : ℕ) → d < i → i < d + n → l.info i ≡ 0)))) → ⊥) → (w m : ℕ) → Begins l d w m → ⊥
   none n at no_class not_large w m (of_class c e is) = no_class (subst IsClass (sym e) is)
   none n at no_class not_large w m (as_large k some e end zeros) =
       let same : n ≡ k = omega arith in
@@ -71,7 +73,8 @@ is_block l b = elim (both (at_most (start_word l.capacity 0) b.first_word) (at_m
   | inr out ↦ inr (λ is. out (let at = superblock_is is in let taken = is.is_of.taken in let first = block_inside l b is in (first.0, omega arith)))
   | inl within ↦ elim (begins l d) [
     | inr none ↦ inr (λ is. none is.words is.count (subst (λ e. Begins l e is.words is.count) (superblock_is is) is.is_of.begins))
-    | inl found ↦ of_begun found.0 found.1 (omega (arith, within.1)) found.2 (is_step (start_word l.capacity d) found.0 b.first_word found.1) (cases_eq b.words found.0)
+    | inl found ↦ of_begun found.0 found.1 (omega (arith, within.1)) found.2 (is_step (start_word l.capacity d) found.0 b.first_word found.1)
+        (cases_eq b.words found.0)
   ]
 ] where
   d : ℕ
@@ -84,12 +87,20 @@ is_block l b = elim (both (at_most (start_word l.capacity 0) b.first_word) (at_m
   step_of w n begun is =
       let same = same_begins l d is.words is.count w n (subst (λ e. Begins l e is.words is.count) (superblock_is is) is.is_of.begins) begun in (
         subst (λ m. is.index < m) same.1 is.is_of.below,
-        is.is_of.at ∙ ap (λ e. start_word l.capacity e + is.index * is.words) (superblock_is is) ∙ ap (λ x. start_word l.capacity d + is.index * x) same.0,
+        is.is_of.at ∙ ap (λ e. start_word l.capacity e + is.index * is.words) (superblock_is is)
+            ∙ ap (λ x. start_word l.capacity d + is.index * x) same.0,
         is.is_of.size ∙ same.0,
       )
 
-  of_begun : (w n : ℕ) → d < l.used → Begins l d w n → ((i : ℕ) × (i < n) × (b.first_word ≡ start_word l.capacity d + i * w)) ⊎ ((i : ℕ) → i < n → b.first_word ≡ start_word l.capacity d + i * w → ⊥)
+  of_begun : (w n : ℕ) → d < l.used → Begins l d w n → ((i : ℕ) × (i < n) × (b.first_word ≡ start_word l.capacity d + i * w)) ⊎ ((i : ℕ) → i < n
+      → b.first_word ≡ start_word l.capacity d + i * w → ⊥)
       → (b.words ≡ w) ⊎ (b.words ≡ w → ⊥) → IsBlock l b ⊎ (IsBlock l b → ⊥)
-  of_begun w n taken begun (inl step) (inl size) = inl (record { superblock = d; index = step.0; words = w; count = n; is_of = record { taken = taken; begins = begun; below = step.1; at = step.2; size = size } })
+  of_begun w n taken begun (inl step) (inl size) = inl (record {
+    superblock = d;
+    index = step.0;
+    words = w;
+    count = n;
+    is_of = record { taken = taken; begins = begun; below = step.1; at = step.2; size = size };
+  })
   of_begun w n taken begun (inl step) (inr other) = inr (λ is. other (step_of w n begun is).2)
   of_begun w n taken begun (inr none) size = inr (λ is. let at = step_of w n begun is in none is.index at.0 at.1)

@@ -45,7 +45,8 @@ unfolding empty_words
 empty_kind capacity i =
     let long = length-replicate {A = ℕ} (old_image_words capacity - 4) 0 in
     let behind : kind_word capacity i ≡ suc (suc (suc (suc (old_image_words capacity - 4 + i)))) = omega arith in
-    rw (behind) (get_or-append_right (replicate (old_image_words capacity - 4) 0) first_kinds (old_image_words capacity - 4) (old_image_words capacity - 4 + i) 0 long (omega arith)
+    rw (behind) (get_or-append_right (replicate (old_image_words capacity - 4) 0) first_kinds (old_image_words capacity - 4)
+    (old_image_words capacity - 4 + i) 0 long (omega arith)
     ∙ ap (λ k. slice_index first_kinds k) (omega arith))
 
 -- zeros with the first four words set, and then the kinds
@@ -62,7 +63,8 @@ length-empty capacity =
     let both = length-append (replicate (old_image_words capacity - 4) 0) first_kinds in omega arith
 
 -- an empty image is well formed
-pub empty_formed : (capacity : ℕ) → 1 ≤ capacity → capacity ≤ largest_capacity → IsWellFormed (8 * length (empty_words capacity)) (slice_index (empty_words capacity))
+pub empty_formed : (capacity : ℕ) → 1 ≤ capacity → capacity ≤ largest_capacity
+    → IsWellFormed (8 * length (empty_words capacity)) (slice_index (empty_words capacity))
 unfolding empty_words
 empty_formed capacity some small =
     let long = length-empty capacity in
@@ -87,7 +89,11 @@ empty_shaped capacity = record {
   is_full = λ d some. absurd (omega arith);
   in_large = λ d some. absurd (omega arith);
   one_owner = λ class d index b is some info of. absurd (omega arith);
-  untaken = λ d past less. let capacity_is = empty_capacity capacity in (empty_word capacity (info_word d) (omega arith) (omega arith), empty_word capacity (anchor_word d) (omega arith) (omega arith), empty_word capacity (link_word d) (omega arith) (omega arith));
+  untaken = λ d past less. let capacity_is = empty_capacity capacity in (
+    empty_word capacity (info_word d) (omega arith) (omega arith),
+    empty_word capacity (anchor_word d) (omega arith) (omega arith),
+    empty_word capacity (link_word d) (omega arith) (omega arith),
+  );
 }
 
 pub empty_ready : (capacity : ℕ) → 1 ≤ capacity → capacity ≤ largest_capacity → IsReady (empty_words capacity) []
@@ -99,6 +105,7 @@ empty_ready capacity some small = record {
 }
 
 -- as the words are made: zeros, and then the header
-pub ready_by_sets : (zeros : List ℕ) (capacity count : ℕ) → zeros ≡ replicate count 0 → count ≡ old_image_words capacity → 1 ≤ capacity → capacity ≤ largest_capacity
+pub ready_by_sets : (zeros : List ℕ) (capacity count : ℕ) → zeros ≡ replicate count 0 → count ≡ old_image_words capacity → 1 ≤ capacity
+    → capacity ≤ largest_capacity
     → IsReady (slice_set (slice_set (slice_set (slice_set zeros 0 magic) 1 version) 2 capacity) 3 clean ++ first_kinds) []
 ready_by_sets zeros capacity count are is some small = rw (are, empty_by_sets capacity count is) (empty_ready capacity some small)

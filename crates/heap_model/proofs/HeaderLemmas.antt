@@ -31,7 +31,8 @@ record Passes (the_version most words bytes : ℕ) (image : Image) : Type 0 wher
   used : nat_lt (image 2) (image 8) ≡ false
 
 -- a header that passes them is good as one of that version
-has_header : (the_version most words bytes : ℕ) (image : Image) → Passes the_version most words bytes image → HasHeader the_version most words bytes image
+has_header : (the_version most words bytes : ℕ) (image : Image) → Passes the_version most words bytes image
+    → HasHeader the_version most words bytes image
 has_header the_version most words bytes image tests =
     let range = or_parts (nat_eq (image 2) 0) (nat_lt most (image 2)) tests.capacity in
     let some : image 2 ≢ 0 = eqb-false (image 2) 0 range.0 in
@@ -41,10 +42,11 @@ has_header the_version most words bytes image tests =
       some = omega arith;
       small = ltb-false most (image 2) range.1;
       length_is = same_number bytes (8 * words) tests.length_is;
-      state = elim (or_cases (nat_eq (image 3) clean) (nat_eq (image 3) dirty) (not-false _ tests.state)) as (λ _. (image 3 ≡ clean) ⊎ (image 3 ≡ dirty)) [
-        | inl yes_clean ↦ inl (eqb-true (image 3) clean yes_clean)
-        | inr yes_dirty ↦ inr (eqb-true (image 3) dirty yes_dirty)
-      ];
+      state = elim (or_cases (nat_eq (image 3) clean) (nat_eq (image 3) dirty) (not-false _ tests.state)) as
+          (λ _. (image 3 ≡ clean) ⊎ (image 3 ≡ dirty)) [
+            | inl yes_clean ↦ inl (eqb-true (image 3) clean yes_clean)
+            | inr yes_dirty ↦ inr (eqb-true (image 3) dirty yes_dirty)
+          ];
       used = ltb-false (image 2) (image 8) tests.used;
     }
 
@@ -114,8 +116,10 @@ good_header limit bytes image none =
             has_header version largest_capacity (image_words (image 2)) bytes image (record {
               magic_is = magic_is.0;
               version_is = two;
-              capacity = subst (λ test. (nat_eq (image 2) 0 || nat_lt (cond test largest_old_capacity largest_capacity) (image 2)) ≡ false) not_old capacity.0;
-              length_is = subst (λ test. not (nat_eq bytes (8 * cond test (old_image_words (image 2)) (image_words (image 2)))) ≡ false) not_old length_is.0;
+              capacity = subst (λ test. (nat_eq (image 2) 0 || nat_lt (cond test largest_old_capacity largest_capacity) (image 2)) ≡ false)
+                  not_old capacity.0;
+              length_is = subst (λ test. not (nat_eq bytes (8 * cond test (old_image_words (image 2)) (image_words (image 2)))) ≡ false)
+                  not_old length_is.0;
               state = state.0;
               used = used.0;
             }),
@@ -142,7 +146,8 @@ old_cause limit bytes image good =
     (rw (old) refl) (rw (old) refl) (or_left _ _ old) (omega arith)
     ∙ (rw (old) refl)
 
-new_cause : (limit : Option ℕ) (bytes : ℕ) (image : Image) → IsWellFormed bytes image → header_fault limit bytes image ≡ cond (has_bad_kind limit image) (Some Kind) None
+new_cause : (limit : Option ℕ) (bytes : ℕ) (image : Image) → IsWellFormed bytes image
+    → header_fault limit bytes image ≡ cond (has_bad_kind limit image) (Some Kind) None
 new_cause limit bytes image good =
     let two = good.version_is in
     let not_old : is_old image ≡ false = ne_eqb (image 1) old_version (λ one. omega arith) in
@@ -157,11 +162,13 @@ no_fault limit bytes image (inl good) = old_cause limit bytes image good
 no_fault limit bytes image (inr (good, below)) = new_cause limit bytes image good ∙ (rw (none_above limit image below) refl)
 
 -- a kind at or above the limit is the cause where the header is good but for it
-pub kind_fault : (limit : Option ℕ) (bytes : ℕ) (image : Image) → IsWellFormed bytes image → (HasKindsBelow limit image → ⊥) → header_fault limit bytes image ≡ Some Kind
-kind_fault limit bytes image good above = new_cause limit bytes image good ∙ told (has_bad_kind limit image) (λ none. above (kinds_below limit image none)) where
-  told : (test : Bool) → (test ≡ false → ⊥) → cond test (Some Kind) None ≡ Some Kind
-  told true some = refl
-  told false some = absurd (some refl)
+pub kind_fault : (limit : Option ℕ) (bytes : ℕ) (image : Image) → IsWellFormed bytes image → (HasKindsBelow limit image → ⊥)
+    → header_fault limit bytes image ≡ Some Kind
+kind_fault limit bytes image good above = new_cause limit bytes image good
+    ∙ told (has_bad_kind limit image) (λ none. above (kinds_below limit image none)) where
+      told : (test : Bool) → (test ≡ false → ⊥) → cond test (Some Kind) None ≡ Some Kind
+      told true some = refl
+      told false some = absurd (some refl)
 
 -- a choice that is told with one rest is told with the other, where the rest is
 told_too : {A : Type 0} (test : Bool) (x cause : A) (rest other : Option A) → (rest ≡ Some cause → other ≡ Some cause)
@@ -170,7 +177,8 @@ told_too true x cause rest other later told = told
 told_too false x cause rest other later told = later told
 
 -- a cause that is told with no limit is told with each
-pub told_with_limit : (limit : Option ℕ) (bytes : ℕ) (image : Image) (cause : BadHeader) → header_fault None bytes image ≡ Some cause → header_fault limit bytes image ≡ Some cause
+pub told_with_limit : (limit : Option ℕ) (bytes : ℕ) (image : Image) (cause : BadHeader) → header_fault None bytes image ≡ Some cause
+    → header_fault limit bytes image ≡ Some cause
 unfolding header_fault has_fault
 told_with_limit limit bytes image cause told =
     told_too (nat_lt bytes 8512) Short cause _ _
@@ -181,7 +189,8 @@ told_with_limit limit bytes image cause told =
     (told_too (not (nat_eq (image 3) clean || nat_eq (image 3) dirty)) State cause _ _
     (told_too (nat_lt (image 2) (image 8)) Used cause _ _
     (no_kind (not (is_old image))))))))) told where
-      no_kind : (test : Bool) → cond (test && false) (Some Kind) None ≡ Some cause → cond (test && has_bad_kind limit image) (Some Kind) None ≡ Some cause
+      no_kind : (test : Bool) → cond (test && false) (Some Kind) None ≡ Some cause
+          → cond (test && has_bad_kind limit image) (Some Kind) None ≡ Some cause
       no_kind true none = absurd (cc)
       no_kind false none = absurd (cc)
 

@@ -65,7 +65,8 @@ pub record TakesAll (l : Layout) (b : Block) (d : ℕ) : Type 0 where
   pub until : start_word l.capacity (d + 1) ≤ b.first_word + b.words
 
 -- a block of the class ends in its superblock
-class_ends : (capacity class d index : ℕ) (b : Block) → IsClass class → IsBlockOfClass capacity class d index b → b.first_word + b.words ≤ start_word capacity (d + 1)
+class_ends : (capacity class d index : ℕ) (b : Block) → IsClass class → IsBlockOfClass capacity class d index b
+    → b.first_word + b.words ≤ start_word capacity (d + 1)
 class_ends capacity class d index b is of =
     let step = block_step index (blocks_of class) (words_of_class class) of.below in
     let fit = blocks_fit class is in
@@ -73,7 +74,8 @@ class_ends capacity class d index b is of =
 
 -- where a large block lies
 large_takes : (l : Layout) (b : Block) (d e n index : ℕ) → 1 ≤ n → l.info e ≡ 255 + 256 * n → ((i : ℕ) → e < i → i < e + n → l.info i ≡ 0)
-    → b.first_word ≡ start_word l.capacity e + index * (superblock_words * n) → index < 1 → b.words ≡ superblock_words * n → HasPartIn l.capacity b d → TakesAll l b d
+    → b.first_word ≡ start_word l.capacity e + index * (superblock_words * n) → index < 1 → b.words ≡ superblock_words * n
+    → HasPartIn l.capacity b d → TakesAll l b d
 large_takes l b d e n index some info zeros at below size part =
     let first : index ≡ zero = omega arith in
     let none : index * (superblock_words * n) ≡ 0 = subst (λ x. x * (superblock_words * n) ≡ 0) (sym first) (zero-mul (superblock_words * n)) in
@@ -96,12 +98,19 @@ large_takes l b d e n index some info zeros at below size part =
 
 pub cases_of_part : (l : Layout) (b : Block) (d : ℕ) → IsBlock l b → HasPartIn l.capacity b d → IsOneOfClass l b d ⊎ TakesAll l b d
 cases_of_part l b d is part = by_begins is.superblock is.index is.words is.count is.is_of.begins is.is_of.below is.is_of.at is.is_of.size where
-  by_begins : (e index w n : ℕ) → Begins l e w n → index < n → b.first_word ≡ start_word l.capacity e + index * w → b.words ≡ w → IsOneOfClass l b d ⊎ TakesAll l b d
+  by_begins : (e index w n : ℕ) → Begins l e w n → index < n → b.first_word ≡ start_word l.capacity e + index * w → b.words ≡ w
+      → IsOneOfClass l b d ⊎ TakesAll l b d
   by_begins e index w n (of_class c info is_class) below at size =
       let of : IsBlockOfClass l.capacity c e index b = record { below = below; at = at; size = size } in
       let ends = class_ends l.capacity c e index b is_class of in
       let begins = part.begins in
       let part_ends = part.ends in
       let same : e ≡ d = omega arith in
-      inl (record { class = c; index = index; is_class = is_class; info_is = subst (λ x. l.info x ≡ c) same info; is_of = subst (λ x. IsBlockOfClass l.capacity c x index b) same of })
+      inl (record {
+        class = c;
+        index = index;
+        is_class = is_class;
+        info_is = subst (λ x. l.info x ≡ c) same info;
+        is_of = subst (λ x. IsBlockOfClass l.capacity c x index b) same of;
+      })
   by_begins e index w n (as_large k some info end zeros) below at size = inr (large_takes l b d e k index some info zeros at below size part)

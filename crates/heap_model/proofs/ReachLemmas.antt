@@ -20,12 +20,14 @@ not_null word p to = λ null. omega arith
 -- a word leads to one block
 pub one_block : (image : Image) (word : ℕ) (a b : Block) → Leads image word a → Leads image word b → a ≡ b
 one_block image word a b to_a to_b =
-    let first : a.first_word ≡ b.first_word = let same = one_offset word (8 * a.first_word) (8 * b.first_word) to_a.pointer to_b.pointer in omega arith in
+    let first : a.first_word ≡ b.first_word = let same = one_offset word (8 * a.first_word) (8 * b.first_word) to_a.pointer to_b.pointer in
+    omega arith in
     same_first (layout_of image) a b to_a.names.block to_b.names.block first
 
 -- an offset names one block
 pub one_name : (image : Image) (offset : ℕ) (a b : Block) → Names image offset a → Names image offset b → a ≡ b
-one_name image offset a b is_a is_b = same_first (layout_of image) a b is_a.block is_b.block (let at_a = is_a.begins_at in let at_b = is_b.begins_at in omega arith)
+one_name image offset a b is_a is_b = same_first (layout_of image) a b is_a.block is_b.block (let at_a = is_a.begins_at in
+    let at_b = is_b.begins_at in omega arith)
 
 -- what a closure has is in each set that has its starts and is closed under its links
 pub closure_least : {Kind : Type 0} {starts : Block → Kind → Type 0} {leads : Block → Kind → Block → Kind → Type 0} (has : Block → Kind → Type 0)
@@ -41,14 +43,16 @@ pub closure_included : {Kind : Type 0} {starts starts' : Block → Kind → Type
     → ((b : Block) (kind : Kind) → starts b kind → starts' b kind)
     → ((a b : Block) (from kind : Kind) → Closure starts leads a from → leads a from b kind → leads' a from b kind)
     → (b : Block) (kind : Kind) → Closure starts leads b kind → Closure starts' leads' b kind
-closure_included {starts'} {leads'} of_starts of_links = closure_least (Closure starts' leads') (λ b kind start. by_start b kind (of_starts b kind start))
+closure_included {starts'} {leads'} of_starts of_links = closure_least (Closure starts' leads')
+    (λ b kind start. by_start b kind (of_starts b kind start))
     (λ a b from kind reached has leads. by_link a b from kind has (of_links a b from kind reached leads))
 
 -- what is reached is closed
 pub closed_reach : (image : Image) (kinds : ℕ → ℕ) (links : Links) (has : Block → ℕ → Bool)
     → ((b : Block) (kind : ℕ) → IsTrue (has b kind) ↔ Reach image kinds links b kind) → IsClosed image kinds links has
 closed_reach image kinds links has same = record {
-  roots_in = λ i b below leads. (same b (kinds i)).1 (by_start b (kinds i) (record { root = i; below = below; is_chosen = tt; kind_is = refl; leads = leads }));
+  roots_in = λ i b below leads. (same b (kinds i)).1 (by_start b (kinds i)
+      (record { root = i; below = below; is_chosen = tt; kind_is = refl; leads = leads }));
   links_in = λ a b from position kind here listed leads.
       (same b kind).1 (by_link a b from kind ((same a from).0 here) (record { position = position; listed = listed; leads = leads }));
 }
@@ -61,7 +65,8 @@ in_closed image kinds links has closed = closure_least (λ b kind. IsTrue (has b
     (λ a b from kind reached here link. closed.links_in a b from link.position kind here link.listed link.leads)
 
 -- a reached pair names a block
-pub reached_block : {chosen : ℕ → Type 0} (image : Image) (kinds : ℕ → ℕ) (links : Links) (b : Block) (kind : ℕ) → ReachFrom image chosen kinds links b kind
+pub reached_block : {chosen : ℕ → Type 0} (image : Image) (kinds : ℕ → ℕ) (links : Links) (b : Block) (kind : ℕ)
+    → ReachFrom image chosen kinds links b kind
     → IsBlock (layout_of image) b
 reached_block image kinds links _ _ (by_start b kind start) = start.leads.names.block
 reached_block image kinds links _ _ (by_link a b from kind reached link) = link.leads.names.block
@@ -70,7 +75,13 @@ reached_block image kinds links _ _ (by_link a b from kind reached link) = link.
 pub more_roots : {chosen chosen' : ℕ → Type 0} (image : Image) (kinds : ℕ → ℕ) (links : Links) → ((root : ℕ) → chosen root → chosen' root)
     → (b : Block) (kind : ℕ) → ReachFrom image chosen kinds links b kind → ReachFrom image chosen' kinds links b kind
 more_roots image kinds links more = closure_included
-    (λ b kind start. record { root = start.root; below = start.below; is_chosen = more start.root start.is_chosen; kind_is = start.kind_is; leads = start.leads })
+    (λ b kind start. record {
+      root = start.root;
+      below = start.below;
+      is_chosen = more start.root start.is_chosen;
+      kind_is = start.kind_is;
+      leads = start.leads;
+    })
     (λ a b from kind reached link. link)
 
 -- a word that leads to a block leads there in an image that has it as a block and the same word
@@ -84,7 +95,8 @@ module _ (image other : Image) (chosen : ℕ → Type 0) (kinds : ℕ → ℕ) (
   root_same : (root : ℕ) → root < roots → chosen root → other (root_word root) ≡ image (root_word root)
   root_same root below is_chosen = alike.same_words (root_word root) (is_root root (root_word root) below is_chosen refl)
 
-  link_same : (a : Block) (from position kind : ℕ) → ReachFrom image chosen kinds links a from → Contains (links from (words_in image a)) (position, kind)
+  link_same : (a : Block) (from position kind : ℕ) → ReachFrom image chosen kinds links a from
+      → Contains (links from (words_in image a)) (position, kind)
       → other (a.first_word + position) ≡ image (a.first_word + position)
   link_same a from position kind reached listed =
       alike.same_words (a.first_word + position) (is_linked a from position kind (a.first_word + position) reached listed refl)
@@ -96,7 +108,8 @@ module _ (image other : Image) (chosen : ℕ → Type 0) (kinds : ℕ → ℕ) (
     below = start.below;
     is_chosen = start.is_chosen;
     kind_is = start.kind_is;
-    leads = leads_there image other _ _ b (root_same start.root start.below start.is_chosen) (alike.are_blocks b kind (by_start b kind start)) start.leads;
+    leads = leads_there image other _ _ b (root_same start.root start.below start.is_chosen)
+        (alike.are_blocks b kind (by_start b kind start)) start.leads;
   })
   reach_kept _ _ (by_link a b from kind reached link) = by_link a b from kind (reach_kept a from reached) (record {
     position = link.position;
@@ -128,9 +141,13 @@ module _ (image other : Image) (chosen : ℕ → Type 0) (kinds : ℕ → ℕ) (
     leads_here at kind b traced reaches leads = elim (is_block (layout_of image) b) [
       | inl is ↦ leads_there other image (other at) (image at) b (sym (alike.same_words at traced)) is leads
       | inr not ↦ absurd (inside at traced (record {
-        not_null = not_null (image at) (8 * b.first_word) (record { tagged = sym (alike.same_words at traced) ∙ leads.pointer.tagged; short = leads.pointer.short });
+        not_null = not_null (image at) (8 * b.first_word) (record {
+          tagged = sym (alike.same_words at traced) ∙ leads.pointer.tagged;
+          short = leads.pointer.short;
+        });
         nowhere = λ a to_a. not (subst (λ x. IsBlock (layout_of image) x)
-            (one_block other (other at) a b (leads_there image other (image at) (other at) a (alike.same_words at traced) (alike.are_blocks a kind (reaches a to_a)) to_a) leads)
+            (one_block other (other at) a b (leads_there image other (image at) (other at) a (alike.same_words at traced)
+            (alike.are_blocks a kind (reaches a to_a)) to_a) leads)
             to_a.names.block);
       }))
     ]
@@ -138,9 +155,16 @@ module _ (image other : Image) (chosen : ℕ → Type 0) (kinds : ℕ → ℕ) (
     -- so where a trace of the one image meets no word that leads outside, the other reaches nothing else
     pub nothing_more : (b : Block) (kind : ℕ) → ReachFrom other chosen kinds links b kind → ReachFrom image chosen kinds links b kind
     nothing_more _ _ (by_start b kind start) =
-        let traced : IsTracedFrom image chosen kinds links (root_word start.root) = is_root start.root (root_word start.root) start.below start.is_chosen refl in
+        let traced : IsTracedFrom image chosen kinds links (root_word start.root) =
+        is_root start.root (root_word start.root) start.below start.is_chosen refl in
         let reaches : (a : Block) → Leads image (image (root_word start.root)) a → ReachFrom image chosen kinds links a kind =
-        λ a leads. by_start a kind (record { root = start.root; below = start.below; is_chosen = start.is_chosen; kind_is = start.kind_is; leads = leads }) in
+        λ a leads. by_start a kind (record {
+          root = start.root;
+          below = start.below;
+          is_chosen = start.is_chosen;
+          kind_is = start.kind_is;
+          leads = leads;
+        }) in
         reaches b (leads_here (root_word start.root) kind b traced reaches start.leads)
     nothing_more _ _ (by_link a b from kind reached link) =
         let before = nothing_more a from reached in

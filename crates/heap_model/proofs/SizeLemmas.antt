@@ -13,7 +13,8 @@ at_class test rows class is =
 -- the blocks of a class fit into a superblock
 pub blocks_fit : (class : ℕ) → IsClass class → blocks_of class * words_of_class class ≤ 8192
 unfolding blocks_of words_of_class class_sizes
-blocks_fit class is = leb-true (blocks_of class * words_of_class class) 8192 (at_class (λ c. nat_le (blocks_of c * words_of_class c) 8192) refl class is)
+blocks_fit class is = leb-true (blocks_of class * words_of_class class) 8192
+    (at_class (λ c. nat_le (blocks_of c * words_of_class c) 8192) refl class is)
 
 -- a block has at least two words
 pub two_words : (class : ℕ) → IsClass class → 2 ≤ words_of_class class

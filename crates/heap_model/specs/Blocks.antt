@@ -16,7 +16,8 @@ pub record Layout : Type 0 where
 abbrev pub layout_of : Image → Layout
 layout_of image = record { capacity = capacity_of image; used = used_of image; info = λ d. image (info_word d) }
 
--- superblock d begins `count` blocks of `words` words each: those of its class, or one large block that takes it and the superblocks behind it, whose infos are 0
+-- superblock d begins `count` blocks of `words` words each: those of its class, or one large block that takes it and
+-- the superblocks behind it, whose infos are 0
 pub data Begins (l : Layout) (d : ℕ) : ℕ → ℕ → Type 0 where
   of_class : (c : ℕ) → l.info d ≡ c → IsClass c → Begins l d (words_of_class c) (blocks_of c)
   as_large : (n : ℕ) → 1 ≤ n → l.info d ≡ large_info n → d + n ≤ l.used

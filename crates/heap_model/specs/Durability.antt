@@ -1,4 +1,5 @@
--- The two values of a word, what loads see and what is durable, and the images that they can leave (x86's write-back and fence, weakened to words). All are readings that are 0 beyond their words.
+-- The two values of a word, what loads see and what is durable, and the images that they can leave (x86's write-back
+-- and fence, weakened to words). All are readings that are 0 beyond their words.
 use Rattle.std.specs.Prelude.{◌≡◌, ◌≢◌, ℕ, ◌*◌, ◌<◌, ◌⊎◌}
 use Rattle.heap_model.specs.declared.block.Block.{Block}
 use Rattle.heap_model.specs.Geometry.{lists, clean, dirty, state_word, head_word, anchor_word, link_word}

@@ -182,7 +182,8 @@ anchor_parts = refl
 two_descriptors : Follows (image_with ((0, 2) ∷ [])) 2 1 (0 ∷ 1 ∷ [])
 two_descriptors = (refl, omega arith, (refl, omega arith, refl))
 
--- A chain of the free blocks 1, 2, 3 of a superblock of class 4 (8 words a block) in a heap of two superblocks: each begins with the word index of the next.
+-- A chain of the free blocks 1, 2, 3 of a superblock of class 4 (8 words a block) in a heap of two superblocks: each
+-- begins with the word index of the next.
 three_free_blocks : Walks (image_with ((1088, 1096) ∷ (1096, 1104) ∷ [])) 1088 (1088 ∷ 1096 ∷ 1104 ∷ [])
 three_free_blocks = (refl, (refl, (refl, tt)))
 

@@ -1,4 +1,5 @@
--- An image as a reading: what stands at each word index. So one definition serves the words in memory, the bytes of a file, what a crash leaves and any mixed image. Beyond its words an image reads 0.
+-- An image as a reading: what stands at each word index. So one definition serves the words in memory, the bytes of a
+-- file, what a crash leaves and any mixed image. Beyond its words an image reads 0.
 use Rattle.std.specs.Prelude.{ℕ, zero, suc, ◌+◌, ◌*◌, List, [], ◌∷◌, cond, nat_lt, drop, flat_map, slice_index}
 use Rattle.byteorder.specs.Endian.{little_number, little_bytes}
 

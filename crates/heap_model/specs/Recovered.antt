@@ -1,4 +1,5 @@
--- What recovery gives back: the blocks that are not kept, the free superblocks, and what draining a class then gives. `kept` is what stays held: of an image what its roots reach, of a heap its held blocks.
+-- What recovery gives back: the blocks that are not kept, the free superblocks, and what draining a class then gives.
+-- `kept` is what stays held: of an image what its roots reach, of a heap its held blocks.
 use Rattle.std.specs.Prelude.{◌≡◌, ℕ, ◌+◌, ◌*◌, ◌<◌, ◌≤◌, List, Contains, AllPairs}
 use Rattle.heap_model.specs.declared.block.Block.{Block}
 use Rattle.heap_model.specs.Geometry.{start_word}
@@ -26,7 +27,8 @@ pub record IsBlockOfClass (capacity class d index : ℕ) (b : Block) : Type 0 wh
   pub at : b.first_word ≡ start_word capacity d + index * words_of_class class
   pub size : b.words ≡ words_of_class class
 
--- what allocating in the class until nothing is left must give: the unkept blocks of the class beside kept ones, and all blocks of the class in the free superblocks and in those never taken
+-- what allocating in the class until nothing is left must give: the unkept blocks of the class beside kept ones, and
+-- all blocks of the class in the free superblocks and in those never taken
 pub data IsDrained (l : Layout) (kept : Block → Type 0) (class : ℕ) : Block → Type 0 where
   beside : (b : Block) (d index : ℕ) → IsClass class → d < l.used → l.info d ≡ class
       → IsBlockOfClass l.capacity class d index b → (kept b → ⊥) → (IsFreeSuperblock l kept d → ⊥) → IsDrained l kept class b

@@ -22,7 +22,8 @@ large_part capacity d b =
     one_if (nat_le superblock_words b.words
     && (nat_lt b.first_word (start_word capacity (d + 1)) && nat_lt (start_word capacity d) (b.first_word + b.words)))
 
--- the anchor of a superblock of the class tells the chain of its free blocks: how many, the first, and the state, which is empty where all are free, full where none is, and else partial
+-- the anchor of a superblock of the class tells the chain of its free blocks: how many, the first, and the state, which
+-- is empty where all are free, full where none is, and else partial
 pub record IsAnchored (image : Image) (class d : ℕ) (chain : List ℕ) : Type 0 where
   pub linked : IsChain image (capacity_of image) class d
       (start_word (capacity_of image) d + anchor_first (image (anchor_word d)) * words_of_class class) chain
@@ -31,7 +32,8 @@ pub record IsAnchored (image : Image) (class d : ℕ) (chain : List ℕ) : Type 
   pub full : (image (anchor_word d) ≡ full_anchor) ↔ (length chain ≡ 0)
   pub partial : length chain ≢ 0 → length chain ≢ blocks_of class → anchor_state (image (anchor_word d)) ≡ partial_state
 
--- each taken superblock is in one place: a list, full in no list, or a held large block; each block of a superblock of a class is in its chain or held, and no held block has a part in a free one
+-- each taken superblock is in one place: a list, full in no list, or a held large block; each block of a superblock of
+-- a class is in its chain or held, and no held block has a part in a free one
 pub record IsShaped (image : Image) (held : List Block) : Type 0 where
   pub descriptors : ℕ → List ℕ
   pub full : ℕ → ℕ

@@ -40,7 +40,8 @@ anchor_count word = word / 8589934592
 abbrev pub full_anchor : ℕ
 full_anchor = 2
 
--- a list head: bits 0 to 23 the first descriptor's index plus 1, or 0 for an empty list; bits 24 to 63 how often it was popped (a counted head, so that a stale compare-exchange fails)
+-- a list head: bits 0 to 23 the first descriptor's index plus 1, or 0 for an empty list; bits 24 to 63 how often it was
+-- popped (a counted head, so that a stale compare-exchange fails)
 abbrev pub head_of : ℕ → ℕ → ℕ
 head_of first pops = first + 16777216 * pops
 

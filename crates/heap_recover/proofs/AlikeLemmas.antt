@@ -1,4 +1,5 @@
--- An image between one and what recovery makes of it is recovered to the same: each word has the one value or the other, but the state and those that a crash leaves with any value.
+-- An image between one and what recovery makes of it is recovered to the same: each word has the one value or the
+-- other, but the state and those that a crash leaves with any value.
 use Rattle.std.proofs.Common.{◌≡◌, ◌≢◌, ℕ, zero, suc, ◌+◌, ◌*◌, ◌<◌, ◌≤◌, ◌⊎◌, inl, inr, List, ◌∷◌, length, slice_index, Contains, Option, None, Some, refl, sym, ap, subst, ◌∙◌, arith}
 use Rattle.heap_model.specs.declared.block.Block.{Block}
 use Rattle.heap_model.specs.Geometry.{magic_word, version_word, capacity_word, used_word, state_word, clean, dirty, info_word, root_word, start_word, kind_word, roots}
@@ -21,7 +22,8 @@ use Rattle.line_memory.specs.View.{View}
 use Rattle.heap_recover.specs.InPlace.{IsRecoveryOf, RecoversAlike, IsBetween, IsPartlyRecovered}
 
 -- no word of the header, no root, no info and no word of a superblock is transient
-stays : (capacity word : ℕ) → (word < 16) ⊎ (((root_word 0 ≤ word) × (word < info_word 0)) ⊎ (((d : ℕ) × (word ≡ info_word d)) ⊎ (start_word capacity 0 ≤ word)))
+stays : (capacity word : ℕ) → (word < 16) ⊎ (((root_word 0 ≤ word) × (word < info_word 0)) ⊎
+    (((d : ℕ) × (word ≡ info_word d)) ⊎ (start_word capacity 0 ≤ word)))
     → IsTransient capacity word → ⊥
 stays capacity _ (inl few) (is_head list word below e) = omega arith
 stays capacity _ (inl few) (is_anchor d word below e) = omega arith
@@ -37,7 +39,8 @@ stays capacity _ (inr (inr (inr inside))) (is_anchor d word below e) = omega ari
 stays capacity _ (inr (inr (inr inside))) (is_link d word below e) = omega arith
 
 module _ (old new : Image) (links : Links) (bytes limit : ℕ) (kind_limit : Option ℕ) (held : List Block)
-    (formed : IsWellFormed bytes old) (kinds_below : HasKindsBelow kind_limit old) (none : (at : ℕ) → IsOutsideIn old links at → ⊥) (within : AreInside limit links)
+    (formed : IsWellFormed bytes old) (kinds_below : HasKindsBelow kind_limit old) (none : (at : ℕ) → IsOutsideIn old links at → ⊥)
+    (within : AreInside limit links)
     (held_are : AreAscending (λ (b : Block). b.first_word) (IsReachedIn old links) held)
     (recovered : IsRecovered old new (IsReachedIn old links)) (image : Image) (partly : IsPartlyRecovered old new image) where
   abbrev kinds : ℕ → ℕ
@@ -48,18 +51,19 @@ module _ (old new : Image) (links : Links) (bytes limit : ℕ) (kind_limit : Opt
   same_as_old word other lasts kept = elim (partly.others word other lasts) as (λ _. image word ≡ old word) [ inl e ↦ e | inr e ↦ e ∙ kept ]
 
   header_same : (word : ℕ) → (word ≡ magic_word) ⊎ ((word ≡ version_word) ⊎ ((word ≡ capacity_word) ⊎ (word ≡ used_word))) → image word ≡ old word
-  header_same word which = same_as_old word (other which) (stays (capacity_of old) word (inl (low which))) (recovered.same word (in_header word which)) where
-    low : (word ≡ magic_word) ⊎ ((word ≡ version_word) ⊎ ((word ≡ capacity_word) ⊎ (word ≡ used_word))) → word < 16
-    low (inl e) = omega arith
-    low (inr (inl e)) = omega arith
-    low (inr (inr (inl e))) = omega arith
-    low (inr (inr (inr e))) = omega arith
+  header_same word which = same_as_old word (other which) (stays (capacity_of old) word (inl (low which)))
+      (recovered.same word (in_header word which)) where
+        low : (word ≡ magic_word) ⊎ ((word ≡ version_word) ⊎ ((word ≡ capacity_word) ⊎ (word ≡ used_word))) → word < 16
+        low (inl e) = omega arith
+        low (inr (inl e)) = omega arith
+        low (inr (inr (inl e))) = omega arith
+        low (inr (inr (inr e))) = omega arith
 
-    other : (word ≡ magic_word) ⊎ ((word ≡ version_word) ⊎ ((word ≡ capacity_word) ⊎ (word ≡ used_word))) → word ≢ state_word
-    other (inl e) = λ f. omega (arith, f)
-    other (inr (inl e)) = λ f. omega (arith, f)
-    other (inr (inr (inl e))) = λ f. omega (arith, f)
-    other (inr (inr (inr e))) = λ f. omega (arith, f)
+        other : (word ≡ magic_word) ⊎ ((word ≡ version_word) ⊎ ((word ≡ capacity_word) ⊎ (word ≡ used_word))) → word ≢ state_word
+        other (inl e) = λ f. omega (arith, f)
+        other (inr (inl e)) = λ f. omega (arith, f)
+        other (inr (inr (inl e))) = λ f. omega (arith, f)
+        other (inr (inr (inr e))) = λ f. omega (arith, f)
 
   capacity_same : capacity_of image ≡ capacity_of old
   capacity_same = header_same capacity_word (inr (inr (inl refl)))
@@ -115,7 +119,8 @@ module _ (old new : Image) (links : Links) (bytes limit : ℕ) (kind_limit : Opt
   traced_same _ (is_linked a from position kind at reached listed is) =
       let long = length-words_from old a.first_word a.words in
       let inside = within.position from (words_in old a) position kind listed in
-      subst (λ w. image w ≡ old w) (sym is) (words_same a (a.first_word + position) (record { kind = from; reach = reached }) (record { from = omega arith; until = omega arith }))
+      subst (λ w. image w ≡ old w) (sym is) (words_same a (a.first_word + position) (record { kind = from; reach = reached })
+      (record { from = omega arith; until = omega arith }))
 
   alike : TracesAlike old image AnyRoot kinds links
   alike = record {
@@ -135,7 +140,8 @@ module _ (old new : Image) (links : Links) (bytes limit : ℕ) (kind_limit : Opt
   from_image = nothing_more old image AnyRoot kinds links alike inside
 
   -- a word that a trace of the old image looks at leads outside in the other no more than there
-  not_outside : (at : ℕ) → IsTraced old kinds links at → ((b : Block) → Leads old (old at) b → IsReached old kinds links b) → LeadsOutside image (image at) → ⊥
+  not_outside : (at : ℕ) → IsTraced old kinds links at → ((b : Block) → Leads old (old at) b → IsReached old kinds links b)
+      → LeadsOutside image (image at) → ⊥
   not_outside at traced reaches out =
       let same = traced_same at traced in
       inside at traced (record {
@@ -150,7 +156,13 @@ module _ (old new : Image) (links : Links) (bytes limit : ℕ) (kind_limit : Opt
   none_there _ (is_root root at below chosen same) out =
       not_outside at (is_root root at below chosen same) (λ b leads. record {
         kind = kinds root;
-        reach = by_start b (kinds root) (record { root = root; below = below; is_chosen = chosen; kind_is = refl; leads = subst (λ x. Leads old (old x) b) same leads });
+        reach = by_start b (kinds root) (record {
+          root = root;
+          below = below;
+          is_chosen = chosen;
+          kind_is = refl;
+          leads = subst (λ x. Leads old (old x) b) same leads;
+        });
       }) out
   none_there _ (is_linked a from position kind at reached listed same) out =
       let before = from_image a from reached in
@@ -179,7 +191,10 @@ module _ (old new : Image) (links : Links) (bytes limit : ℕ) (kind_limit : Opt
   free_same : (d : ℕ) → IsFreeSuperblock (layout_of old) (IsReached old kinds links) d → IsFreeSuperblock (layout_of image) (IsReachedIn image links) d
   free_same d free = record {
     taken = let same = used_same in let taken = free.taken in omega arith;
-    empty = λ b reached part. free.empty b (record { kind = reached.kind; reach = from_image b reached.kind (from_stored b reached.kind reached.reach) })
+    empty = λ b reached part. free.empty b (record {
+      kind = reached.kind;
+      reach = from_image b reached.kind (from_stored b reached.kind reached.reach);
+    })
         (subst (λ c. HasPartIn c b d) capacity_same part);
   }
 
@@ -214,7 +229,8 @@ module _ (old new : List ℕ) (links : Links) (recovered : IsRecovered (slice_in
     state = inr crash.state;
     others = λ word other lasts.
         let same = crash.others word other (λ lost. lasts (subst (λ c. IsTransient c word) capacity lost)) in
-        elim (between.durable word) as (λ _. (image word ≡ slice_index old word) ⊎ (image word ≡ slice_index new word)) [ inl e ↦ inl (same ∙ e) | inr e ↦ inr (same ∙ e) ];
+        elim (between.durable word) as (λ _. (image word ≡ slice_index old word) ⊎ (image word ≡ slice_index new word))
+        [ inl e ↦ inl (same ∙ e) | inr e ↦ inr (same ∙ e) ];
   } where
     capacity : capacity_of (slice_index v.durable) ≡ capacity_of (slice_index old)
     capacity = elim (between.durable capacity_word) as (λ _. capacity_of (slice_index v.durable) ≡ capacity_of (slice_index old)) [
@@ -223,7 +239,8 @@ module _ (old new : List ℕ) (links : Links) (recovered : IsRecovered (slice_in
     ]
 
   -- and each mixture of them
-  pub mixed_partly : (image : Image) → Mixes (slice_index v.volatile) (slice_index v.durable) image → IsPartlyRecovered (slice_index old) (slice_index new) image
+  pub mixed_partly : (image : Image) → Mixes (slice_index v.volatile) (slice_index v.durable) image
+      → IsPartlyRecovered (slice_index old) (slice_index new) image
   mixed_partly image mixes = record {
     state = elim (each state_word) as (λ _. (image state_word ≡ clean) ⊎ (image state_word ≡ dirty)) [
       | inl e ↦ elim formed.state as (λ _. (image state_word ≡ clean) ⊎ (image state_word ≡ dirty)) [ inl is ↦ inl (e ∙ is) | inr is ↦ inr (e ∙ is) ]
@@ -233,18 +250,24 @@ module _ (old new : List ℕ) (links : Links) (recovered : IsRecovered (slice_in
   } where
     each : (word : ℕ) → (image word ≡ slice_index old word) ⊎ (image word ≡ slice_index new word)
     each word = elim (mixes.each word) as (λ _. (image word ≡ slice_index old word) ⊎ (image word ≡ slice_index new word)) [
-      | inl e ↦ elim (between.volatile word) as (λ _. (image word ≡ slice_index old word) ⊎ (image word ≡ slice_index new word)) [ inl o ↦ inl (e ∙ o) | inr n ↦ inr (e ∙ n) ]
-      | inr e ↦ elim (between.durable word) as (λ _. (image word ≡ slice_index old word) ⊎ (image word ≡ slice_index new word)) [ inl o ↦ inl (e ∙ o) | inr n ↦ inr (e ∙ n) ]
+      | inl e ↦ elim (between.volatile word) as (λ _. (image word ≡ slice_index old word) ⊎ (image word ≡ slice_index new word))
+          [ inl o ↦ inl (e ∙ o) | inr n ↦ inr (e ∙ n) ]
+      | inr e ↦ elim (between.durable word) as (λ _. (image word ≡ slice_index old word) ⊎ (image word ≡ slice_index new word))
+          [ inl o ↦ inl (e ∙ o) | inr n ↦ inr (e ∙ n) ]
     ]
 
 -- so recovery of what is left keeps the same
 module _ (old new : List ℕ) (links : Links) (held : List Block) (limit : ℕ) (kind_limit : Option ℕ) (within : AreInside limit links)
     (is : IsRecoveryOf kind_limit old links new held) (v : View) (between : IsBetween old new v) where
-  alike_by : (image : Image) → IsPartlyRecovered (slice_index old) (slice_index new) image → RecoversAlike kind_limit (8 * length old) (slice_index old) image links
-  alike_by = recovers_alike (slice_index old) (slice_index new) links (8 * length old) limit kind_limit held is.formed is.below is.none_outside within is.held_are is.words_are
+  alike_by : (image : Image) → IsPartlyRecovered (slice_index old) (slice_index new) image
+      → RecoversAlike kind_limit (8 * length old) (slice_index old) image links
+  alike_by = recovers_alike (slice_index old) (slice_index new) links
+      (8 * length old) limit kind_limit held is.formed is.below is.none_outside within is.held_are is.words_are
 
-  pub crash_alike : (image : Image) → IsCrashImage (slice_index v.durable) image → RecoversAlike kind_limit (8 * length old) (slice_index old) image links
+  pub crash_alike : (image : Image) → IsCrashImage (slice_index v.durable) image
+      → RecoversAlike kind_limit (8 * length old) (slice_index old) image links
   crash_alike image crash = alike_by image (crash_partly old new links is.words_are is.formed v between image crash)
 
-  pub mixed_alike : (image : Image) → Mixes (slice_index v.volatile) (slice_index v.durable) image → RecoversAlike kind_limit (8 * length old) (slice_index old) image links
+  pub mixed_alike : (image : Image) → Mixes (slice_index v.volatile) (slice_index v.durable) image
+      → RecoversAlike kind_limit (8 * length old) (slice_index old) image links
   mixed_alike image mixes = alike_by image (mixed_partly old new links is.words_are is.formed v between image mixes)

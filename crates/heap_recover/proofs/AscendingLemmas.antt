@@ -35,11 +35,13 @@ ascending_push {A} key is is' xs x old before to here from = record {
     | inl old_one ↦ Contains-append_left xs (x ∷ []) y (old.complete y old_one)
     | inr same ↦ subst (λ z. Contains (xs ++ x ∷ []) z) (sym same) (Contains-push xs x)
   ];
-  ascending = all_pairs_push (λ (a b : A). key a < key b) xs x old.ascending (λ k d below. before (get_or xs k d) (old.sound (get_or xs k d) (Contains-get_or xs k d below)));
+  ascending = all_pairs_push (λ (a b : A). key a < key b) xs x old.ascending
+      (λ k d below. before (get_or xs k d) (old.sound (get_or xs k d) (Contains-get_or xs k d below)));
 }
 
 -- what holds of the pairs of each list, and of one of the first with one of the second, holds of the pairs of both
-pub all_pairs_append : {A : Type 0} (R : A → A → Type 0) (xs ys : List A) → AllPairs R xs → AllPairs R ys → ((x y : A) → Contains xs x → Contains ys y → R x y) → AllPairs R (xs ++ ys)
+pub all_pairs_append : {A : Type 0} (R : A → A → Type 0) (xs ys : List A) → AllPairs R xs → AllPairs R ys
+    → ((x y : A) → Contains xs x → Contains ys y → R x y) → AllPairs R (xs ++ ys)
 all_pairs_append {A} R xs ys in_xs in_ys across i j d less below =
     let long = length-append xs ys in
     elim (cases_lt j (length xs)) as (λ _. R (get_or (xs ++ ys) i d) (get_or (xs ++ ys) j d)) [
@@ -47,17 +49,22 @@ all_pairs_append {A} R xs ys in_xs in_ys across i j d less below =
       | inr past ↦ elim (cases_lt i (length xs)) as (λ _. R (get_or (xs ++ ys) i d) (get_or (xs ++ ys) j d)) [
         | inl first ↦ rw (get_or-append xs ys d i first, get_or-append_right xs ys j d past)
             (across (get_or xs i d) (get_or ys (j - length xs) d) (Contains-get_or xs i d first) (Contains-get_or ys (j - length xs) d (omega arith)))
-        | inr also ↦ rw (get_or-append_right xs ys i d also, get_or-append_right xs ys j d past) (in_ys (i - length xs) (j - length xs) d (omega arith) (omega arith))
+        | inr also ↦ rw (get_or-append_right xs ys i d also, get_or-append_right xs ys j d past)
+            (in_ys (i - length xs) (j - length xs) d (omega arith) (omega arith))
       ]
     ]
 
 -- two lists of members, one behind the other
 pub ascending_append : {A : Type 0} (key : A → ℕ) (is is' both : A → Type 0) (xs ys : List A) → AreAscending key is xs → AreAscending key is' ys
-    → ((x y : A) → is x → is' y → key x < key y) → ((x : A) → is x → both x) → ((x : A) → is' x → both x) → ((x : A) → both x → is x ⊎ is' x) → AreAscending key both (xs ++ ys)
+    → ((x y : A) → is x → is' y → key x < key y) → ((x : A) → is x → both x) → ((x : A) → is' x → both x) → ((x : A) → both x → is x ⊎ is' x)
+    → AreAscending key both (xs ++ ys)
 ascending_append {A} key is is' both xs ys in_xs in_ys across to to' from = record {
-  sound = λ x has. elim (Contains-append_cases xs ys x has) as (λ _. both x) [ inl first ↦ to x (in_xs.sound x first) | inr second ↦ to' x (in_ys.sound x second) ];
-  complete = λ x here. elim (from x here) as (λ _. Contains (xs ++ ys) x) [ inl first ↦ Contains-append_left xs ys x (in_xs.complete x first) | inr second ↦ Contains-append_right xs ys x (in_ys.complete x second) ];
-  ascending = all_pairs_append (λ (a b : A). key a < key b) xs ys in_xs.ascending in_ys.ascending (λ x y in_x in_y. across x y (in_xs.sound x in_x) (in_ys.sound y in_y));
+  sound = λ x has. elim (Contains-append_cases xs ys x has) as (λ _. both x)
+      [ inl first ↦ to x (in_xs.sound x first) | inr second ↦ to' x (in_ys.sound x second) ];
+  complete = λ x here. elim (from x here) as (λ _. Contains (xs ++ ys) x)
+      [ inl first ↦ Contains-append_left xs ys x (in_xs.complete x first) | inr second ↦ Contains-append_right xs ys x (in_ys.complete x second) ];
+  ascending = all_pairs_append (λ (a b : A). key a < key b) xs ys in_xs.ascending in_ys.ascending
+      (λ x y in_x in_y. across x y (in_xs.sound x in_x) (in_ys.sound y in_y));
 }
 
 -- of two ascending lists, each of which has the other's head, the heads are one
@@ -67,12 +74,14 @@ same_head key x y xs ys up up' has has' = elim (head_or_rest y x ys has) as (λ 
   | inl same ↦ sym same
   | inr later ↦ elim (head_or_rest x y xs has') as (λ _. x ≡ y) [
     | inl same ↦ same
-    | inr later' ↦ absurd (let a = order_head (λ a b. key a < key b) y x ys up' later in let b = order_head (λ a b. key a < key b) x y xs up later' in omega arith)
+    | inr later' ↦ absurd (let a = order_head (λ a b. key a < key b) y x ys up' later in
+        let b = order_head (λ a b. key a < key b) x y xs up later' in omega arith)
   ]
 ]
 
 -- and what stands behind the head in one does in the other
-in_later : {A : Type 0} (key : A → ℕ) (x y z : A) (xs ys : List A) → AllPairs (λ a b. key a < key b) (x ∷ xs) → x ≡ y → Contains xs z → Contains (y ∷ ys) z → Contains ys z
+in_later : {A : Type 0} (key : A → ℕ) (x y z : A) (xs ys : List A) → AllPairs (λ a b. key a < key b) (x ∷ xs) → x ≡ y → Contains xs z
+    → Contains (y ∷ ys) z → Contains ys z
 in_later key x y z xs ys up first has there = elim (head_or_rest y z ys there) as (λ _. Contains ys z) [
   | inl same ↦ absurd (let greater = order_head (λ a b. key a < key b) x z xs up has in let e = ap key (first ∙ same) in omega arith)
   | inr later ↦ later

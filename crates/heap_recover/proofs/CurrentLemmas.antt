@@ -27,7 +27,10 @@ module _ (image : Image) (kinds : ℕ → ℕ) (links : Links) (same : (i : ℕ)
   outside_stored at out = record { traced = traced_by_kinds image kinds (kinds_of image) links same at out.traced; outside = out.outside }
 
   pub outside_traced : (at : ℕ) → IsOutsideIn image links at → IsOutside image kinds links at
-  outside_traced at out = record { traced = traced_by_kinds image (kinds_of image) kinds links (λ i less. sym (same i less)) at out.traced; outside = out.outside }
+  outside_traced at out = record {
+    traced = traced_by_kinds image (kinds_of image) kinds links (λ i less. sym (same i less)) at out.traced;
+    outside = out.outside;
+  }
 
   pub tells_stored : (fault : TraceFault) → TellsOutside image kinds links fault → TellsOutsideIn image links (of_trace fault)
   tells_stored (Outside at value) told = (outside_stored at told.0, told.1)

@@ -39,7 +39,8 @@ differ_along old new from (suc count) =
 
 pub differ_from : (old new : Image) (from to : ℕ) → from ≤ to → differences old new from ≤ differences old new to
 differ_from old new from to low =
-    subst (λ k. differences old new from ≤ differences old new k) {x = from + (to - from)} {y = to} (omega arith) (differ_along old new from (to - from))
+    subst (λ k. differences old new from ≤ differences old new k) {x = from + (to - from)} {y = to} (omega arith)
+    (differ_along old new from (to - from))
 
 -- and where none differs, the count stays
 pub none_differ : (old new : List ℕ) (from to : ℕ) → from ≤ to → (Differ old new from to → ⊥)
@@ -76,7 +77,8 @@ line_rises old new line = elim (cases_eq (differences old new (8 * line + 8)) (d
     ]
 
 lines_along : (old new : Image) (from count : ℕ) → changed_lines old new from ≤ changed_lines old new (from + count)
-lines_along old new from zero = subst (λ k. changed_lines old new from ≤ changed_lines old new k) {x = from} {y = from + zero} (omega arith) (omega arith)
+lines_along old new from zero = subst (λ k. changed_lines old new from ≤ changed_lines old new k) {x = from} {y = from + zero} (omega arith)
+    (omega arith)
 lines_along old new from (suc count) =
     let so_far = lines_along old new from count in
     let rises = line_rises old new (from + count) in
@@ -84,7 +86,8 @@ lines_along old new from (suc count) =
 
 pub lines_from : (old new : Image) (from to : ℕ) → from ≤ to → changed_lines old new from ≤ changed_lines old new to
 lines_from old new from to low =
-    subst (λ k. changed_lines old new from ≤ changed_lines old new k) {x = from + (to - from)} {y = to} (omega arith) (lines_along old new from (to - from))
+    subst (λ k. changed_lines old new from ≤ changed_lines old new k) {x = from + (to - from)} {y = to} (omega arith)
+    (lines_along old new from (to - from))
 
 -- a line that is changed has a word that is
 lines_few : (old new : Image) (line : ℕ) → changed_lines old new line ≤ differences old new (8 * line)
@@ -178,7 +181,8 @@ module _ (old new : List ℕ) (settled done : ℕ) (v : View) (so_far : IsStored
   ]
 
   -- the next word is stored
-  pub stored_more : {gives : ℕ → Type 0} (w : View) → settled ≤ done → done < length old → TakesBy gives (IsStore done (slice_index new done)) v w → IsStoredTo old new settled (done + 1) w
+  pub stored_more : {gives : ℕ → Type 0} (w : View) → settled ≤ done → done < length old
+      → TakesBy gives (IsStore done (slice_index new done)) v w → IsStoredTo old new settled (done + 1) w
   stored_more w low within takes = record {
     count = ap (λ (xs : List ℕ). length xs) takes.done.volatile ∙ length-set v.volatile done (slice_index new done) ∙ so_far.count;
     stored = λ word below. elim (cases_eq word done) as (λ _. volatile_at w word ≡ slice_index new word) [
@@ -202,7 +206,8 @@ module _ (old new : List ℕ) (settled done : ℕ) (v : View) (so_far : IsStored
     leaves = store_leaves _ done (slice_index new done) v w takes
 
   -- the line whose words are stored is written back
-  pub line_written : {gives : ℕ → Type 0} (w : View) (line : ℕ) → settled ≡ 8 * line → done ≡ 8 * line + 8 → done ≤ length old → TakesBy gives (IsWriteBack line) v w
+  pub line_written : {gives : ℕ → Type 0} (w : View) (line : ℕ) → settled ≡ 8 * line → done ≡ 8 * line + 8 → done ≤ length old
+      → TakesBy gives (IsWriteBack line) v w
       → IsStoredTo old new done done w
   line_written w line from to within takes = record {
     count = ap (λ (xs : List ℕ). length xs) adds.volatile ∙ so_far.count;
@@ -250,7 +255,8 @@ module _ (old new : List ℕ) (settled done : ℕ) (v : View) (so_far : IsStored
   pub adds_between : (w : View) → AddsNothing v w → IsBetween old new w
   adds_between w adds = record {
     count = ap (λ (xs : List ℕ). length xs) adds.volatile ∙ so_far.count;
-    volatile = λ word. subst (λ (xs : List ℕ). (slice_index xs word ≡ slice_index old word) ⊎ (slice_index xs word ≡ slice_index new word)) (sym adds.volatile) (seen_between word);
+    volatile = λ word. subst (λ (xs : List ℕ). (slice_index xs word ≡ slice_index old word) ⊎ (slice_index xs word ≡ slice_index new word))
+        (sym adds.volatile) (seen_between word);
     durable = λ word. left_between word (durable_at w word) (adds.durable word);
   }
 
@@ -266,7 +272,8 @@ module _ (old new : List ℕ) (settled done : ℕ) (v : View) (so_far : IsStored
   }
 
   -- a fence, behind the last word: each is the new one
-  pub fence_stores : {gives : ℕ → Type 0} (w : View) → settled ≡ length old → done ≡ length old → length new ≡ length old → IsSound w → TakesBy gives IsFence v w → HoldsDurably new w
+  pub fence_stores : {gives : ℕ → Type 0} (w : View) → settled ≡ length old → done ≡ length old → length new ≡ length old → IsSound w
+      → TakesBy gives IsFence v w → HoldsDurably new w
   fence_stores w all end same sound takes = record {
     volatile = seen_new;
     durable = same_lists w.durable new (sound.lengths ∙ ap (λ (xs : List ℕ). length xs) seen_new) durable_new;
@@ -289,7 +296,8 @@ module _ (old new : List ℕ) (settled done : ℕ) (v : View) (so_far : IsStored
         | inl waits ↦ takes.done.durable word waits ∙ seen word
         | inr none ↦ takes.done.others word none ∙ draw_stays word below none
       ]
-      | inr past ↦ get_or_past w.durable word 0 (let l = sound.lengths in let c = so_far.count in let a = ap (λ (xs : List ℕ). length xs) adds.volatile in omega arith)
+      | inr past ↦ get_or_past w.durable word 0 (let l = sound.lengths in let c = so_far.count in
+          let a = ap (λ (xs : List ℕ). length xs) adds.volatile in omega arith)
           ∙ sym (get_or_past new word 0 (omega arith))
     ] where
       draw_stays : (word : ℕ) → word < settled → (IsPending v word → ⊥) → durable_at (after_draw takes.number v) word ≡ slice_index new word
@@ -316,7 +324,8 @@ refused_budget v w ticket refuses = elim refuses as (λ _. w.budget ≡ v.budget
 ]
 
 -- where it stopped is told by what it drew
-pub stopped_at : (old new : List ℕ) (most ticket : ℕ) (v w : View) → IsSound w → IsStoppedBetween old new 0 most ticket v w → IsStoppedAt old new most ticket v w
+pub stopped_at : (old new : List ℕ) (most ticket : ℕ) (v w : View) → IsSound w → IsStoppedBetween old new 0 most ticket v w
+    → IsStoppedAt old new most ticket v w
 stopped_at old new most ticket v w sound cut = record {
   stopped = cut.stopped;
   above = let above = sound.stopping ticket cut.stopped in let same = cut.budget in omega arith;
@@ -325,7 +334,8 @@ stopped_at old new most ticket v w sound cut = record {
 }
 
 -- a call is refused after few tickets
-pub refused_cut : {gives : ℕ → Type 0} (old new : List ℕ) (settled done before most : ℕ) (v u w : View) (ticket : ℕ) → IsStoredTo old new settled done u → RefusesBy gives ticket u w
+pub refused_cut : {gives : ℕ → Type 0} (old new : List ℕ) (settled done before most : ℕ) (v u w : View) (ticket : ℕ)
+    → IsStoredTo old new settled done u → RefusesBy gives ticket u w
     → u.budget ≡ v.budget → u.stopped ≡ v.stopped → IsSound u → u.drawn + 1 ≤ v.drawn + most
     → v.drawn + steps_until (slice_index old) (slice_index new) done ≤ u.drawn + before → IsStoppedBetween old new before most ticket v w
 refused_cut old new settled done before most v u w ticket so_far refuses same stays sound few steps = record {
@@ -337,13 +347,15 @@ refused_cut old new settled done before most v u w ticket so_far refuses same st
 }
 
 -- the fence behind all stores is refused
-pub fence_cut : {gives : ℕ → Type 0} (old new : List ℕ) (ticket : ℕ) (v u w : View) → IsStoredTo old new (length old) (length old) u → RefusesBy gives ticket u w → u.budget ≡ v.budget → u.stopped ≡ v.stopped
+pub fence_cut : {gives : ℕ → Type 0} (old new : List ℕ) (ticket : ℕ) (v u w : View) → IsStoredTo old new (length old) (length old) u
+    → RefusesBy gives ticket u w → u.budget ≡ v.budget → u.stopped ≡ v.stopped
     → IsSound u → IsSound w → u.drawn + 1 ≡ v.drawn + steps_between (slice_index old) (slice_index new) (length old)
     → IsStoppedAt old new (steps_between (slice_index old) (slice_index new) (length old)) ticket v w
 fence_cut old new ticket v u w so_far refuses same stays sound sound_then all =
     let lines = lines_from (slice_index old) (slice_index new) ((length old - 1) / 8) (length old / 8) (omega arith) in
     stopped_at old new (steps_between (slice_index old) (slice_index new) (length old)) ticket v w sound_then
-    (refused_cut old new (length old) (length old) 0 (steps_between (slice_index old) (slice_index new) (length old)) v u w ticket so_far refuses same stays sound (omega arith) (omega arith))
+    (refused_cut old new (length old) (length old) 0 (steps_between (slice_index old) (slice_index new) (length old))
+    v u w ticket so_far refuses same stays sound (omega arith) (omega arith))
 
 -- a store and a write-back draw one ticket each
 pub store_draws : {gives : ℕ → Type 0} (word value : ℕ) (v w : View) → TakesBy gives (IsStore word value) v w → w.drawn ≡ v.drawn + 1
@@ -375,7 +387,8 @@ pub fence_within : {gives : ℕ → Type 0} (v u w : View) → u.budget ≡ v.bu
 fence_within v u w same takes = let draws = fence_draws u w takes in let allowed = takes.allowed in omega arith
 
 -- where a step behind another cuts off, so many tickets were drawn in all
-pub cut_later : (old new : List ℕ) (before then few most ticket : ℕ) (v u w : View) → IsStoppedBetween old new then few ticket u w → u.budget ≡ v.budget → u.stopped ≡ v.stopped
+pub cut_later : (old new : List ℕ) (before then few most ticket : ℕ) (v u w : View) → IsStoppedBetween old new then few ticket u w
+    → u.budget ≡ v.budget → u.stopped ≡ v.stopped
     → u.drawn + few ≤ v.drawn + most
     → v.drawn + then ≤ u.drawn + before → IsStoppedBetween old new before most ticket v w
 cut_later old new before then few most ticket v u w cut same stays less steps = record {

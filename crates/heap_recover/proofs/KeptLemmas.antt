@@ -22,10 +22,21 @@ module _ (l : Layout) (kept other : Block → Type 0) (to : (b : Block) → kept
   holds_with holds = record { block = holds.block; is_kept = to holds.block holds.is_kept; part = holds.part }
 
   pub spare_with : (class w : ℕ) → IsSpare l kept class d w → IsSpare l other class d w
-  spare_with class w spare = record { index = spare.index; block = spare.block; is_block = spare.is_block; first = spare.first; unkept = λ here. spare.unkept (from spare.block here) }
+  spare_with class w spare = record {
+    index = spare.index;
+    block = spare.block;
+    is_block = spare.is_block;
+    first = spare.first;
+    unkept = λ here. spare.unkept (from spare.block here);
+  }
 
   pub partial_with : (class : ℕ) → IsPartial l kept class d → IsPartial l other class d
-  partial_with class partial = record { taken = partial.taken; info_is = partial.info_is; holds = holds_with partial.holds; spare = (partial.spare.0, spare_with class partial.spare.0 partial.spare.1) }
+  partial_with class partial = record {
+    taken = partial.taken;
+    info_is = partial.info_is;
+    holds = holds_with partial.holds;
+    spare = (partial.spare.0, spare_with class partial.spare.0 partial.spare.1);
+  }
 
   pub full_with : (class : ℕ) → IsFullyKept l kept class d → IsFullyKept l other class d
   full_with class full = record { taken = full.taken; info_is = full.info_is; all = λ index b is_b. to b (full.all index b is_b) }
@@ -44,7 +55,8 @@ module _ (old new : Image) (kept other : Block → Type 0) (to : (b : Block) →
     chains = is.chains;
     listed = λ list few. ascending_same (λ d. d) (IsListed (layout_of old) kept list) (IsListed (layout_of old) other list) (is.descriptors list)
         (λ d. listed_with (layout_of old) kept other to from d list) (λ d. listed_with (layout_of old) other kept from to d list) (is.listed list few);
-    chained = λ class d is_class partial. ascending_same (λ w. w) (IsSpare (layout_of old) kept class d) (IsSpare (layout_of old) other class d) (is.chains d)
+    chained = λ class d is_class partial. ascending_same (λ w. w) (IsSpare (layout_of old) kept class d) (IsSpare (layout_of old) other class d)
+        (is.chains d)
         (spare_with (layout_of old) kept other to from d class) (spare_with (layout_of old) other kept from to d class)
         (is.chained class d is_class (partial_with (layout_of old) other kept from to d class partial));
     state = is.state;
@@ -57,7 +69,8 @@ module _ (old new : Image) (kept other : Block → Type 0) (to : (b : Block) →
     full = λ class d is_class full. is.full class d is_class (full_with (layout_of old) other kept from to d class full);
     in_large = λ d large. is.in_large d (large_with (layout_of old) other kept from to d large);
     untaken = is.untaken;
-    inside = λ word low away. is.inside word low (λ class d is_class partial. away class d is_class (partial_with (layout_of old) kept other to from d class partial));
+    inside = λ word low away. is.inside word low (λ class d is_class partial. away class d is_class
+        (partial_with (layout_of old) kept other to from d class partial));
   }
 
 -- what a slice of a whole vector is written back as
@@ -65,18 +78,25 @@ pub written_back : (xs items : List ℕ) (n : ℕ) → n ≡ length xs → take 
 written_back xs items n all = ap (λ k. take k (xs ++ drop (length xs) items)) all ∙ take-append_seam xs (drop (length xs) items)
 
 -- what a trace has marked is what is reached
-pub marked_reached : (image : Image) (kinds : ℕ → ℕ) (links : Links) (pairs : List (Block × ℕ)) → AreReached image kinds links pairs → (b : Block) → IsMarked pairs b → IsReached image kinds links b
+pub marked_reached : (image : Image) (kinds : ℕ → ℕ) (links : Links) (pairs : List (Block × ℕ)) → AreReached image kinds links pairs
+    → (b : Block) → IsMarked pairs b → IsReached image kinds links b
 marked_reached image kinds links pairs are b marked = record { kind = marked.kind; reach = (are.each b marked.kind).0 marked.pair }
 
-pub reached_marked : (image : Image) (kinds : ℕ → ℕ) (links : Links) (pairs : List (Block × ℕ)) → AreReached image kinds links pairs → (b : Block) → IsReached image kinds links b → IsMarked pairs b
+pub reached_marked : (image : Image) (kinds : ℕ → ℕ) (links : Links) (pairs : List (Block × ℕ)) → AreReached image kinds links pairs
+    → (b : Block) → IsReached image kinds links b → IsMarked pairs b
 reached_marked image kinds links pairs are b reached = record { kind = reached.kind; pair = (are.each b reached.kind).1 reached.reach }
 
 -- and so are blocks of the image
-pub marked_blocks : (image : Image) (kinds : ℕ → ℕ) (links : Links) (pairs : List (Block × ℕ)) → AreReached image kinds links pairs → KeepsBlocks (layout_of image) (IsMarked pairs)
-marked_blocks image kinds links pairs are = record { each = λ b marked. reached_block image kinds links b marked.kind ((are.each b marked.kind).0 marked.pair) }
+pub marked_blocks : (image : Image) (kinds : ℕ → ℕ) (links : Links) (pairs : List (Block × ℕ)) → AreReached image kinds links pairs
+    → KeepsBlocks (layout_of image) (IsMarked pairs)
+marked_blocks image kinds links pairs are = record {
+  each = λ b marked. reached_block image kinds links b marked.kind
+      ((are.each b marked.kind).0 marked.pair);
+}
 
 -- the heap that is made where some blocks are kept is that where others are that are the same
-pub made_with : (words : List ℕ) (kept other : Block → Type 0) (answer : Recovered) → ((b : Block) → kept b → other b) → ((b : Block) → other b → kept b)
+pub made_with : (words : List ℕ) (kept other : Block → Type 0) (answer : Recovered) → ((b : Block) → kept b → other b)
+    → ((b : Block) → other b → kept b)
     → IsMadeOf words kept answer → IsMadeOf words other answer
 made_with words kept other answer to from made =
     let image = slice_index words in
@@ -91,7 +111,8 @@ made_with words kept other answer to from made =
     }
 
 -- so is the one where the marked blocks are kept, and that where the reached ones are
-pub made_of_reached : (words : List ℕ) (kinds : ℕ → ℕ) (links : Links) (pairs : List (Block × ℕ)) (answer : Recovered) → AreReached (slice_index words) kinds links pairs
+pub made_of_reached : (words : List ℕ) (kinds : ℕ → ℕ) (links : Links) (pairs : List (Block × ℕ)) (answer : Recovered)
+    → AreReached (slice_index words) kinds links pairs
     → IsMadeOf words (IsMarked pairs) answer → IsMadeOf words (IsReached (slice_index words) kinds links) answer
 made_of_reached words kinds links pairs answer are =
     made_with words (IsMarked pairs) (IsReached (slice_index words) kinds links) answer

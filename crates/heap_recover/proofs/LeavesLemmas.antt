@@ -17,7 +17,8 @@ use Rattle.heap_at_rest.proofs.PartLemmas.{class_inside}
 use Rattle.heap_recover.proofs.SuperblockLemmas.{but_last_in}
 
 -- along a walk each first word leads to the next
-walk_step : (next : ℕ → ℕ) (bs : List ℕ) (from : ℕ) → Walks next from bs → (j : ℕ) → suc j < length bs → next (slice_index bs j) ≡ slice_index bs (suc j)
+walk_step : (next : ℕ → ℕ) (bs : List ℕ) (from : ℕ) → Walks next from bs → (j : ℕ) → suc j < length bs
+    → next (slice_index bs j) ≡ slice_index bs (suc j)
 walk_step next [] from walks j below = absurd (omega arith)
 walk_step next (b ∷ []) from walks j below = absurd (omega arith)
 walk_step next (b ∷ c ∷ cs) from walks zero below = walks.1.0
@@ -70,7 +71,8 @@ module _ (l : Layout) (kept : Block → Type 0) (class d : ℕ) (chain : List �
   }
 
   -- so the next of the spare at an index is the one behind it
-  next_is : (w next : ℕ) → IsNextSpare l kept class d w next → (i : ℕ) × (suc i < length chain) × (slice_index chain i ≡ w) × (slice_index chain (suc i) ≡ next)
+  next_is : (w next : ℕ) → IsNextSpare l kept class d w next → (i : ℕ) × (suc i < length chain) × (slice_index chain i ≡ w)
+      × (slice_index chain (suc i) ≡ next)
   next_is w next is =
       let here = index_of w is.spare in
       let there = index_of next is.is_next in
@@ -88,7 +90,8 @@ leaves_superblock old new kept recovered d = record { relinked = relinked; other
       let chain = recovered.chains d in
       let found = next_is (layout_of old) kept is.class d chain (recovered.chained is.class d is.is_class is.partial) w next is.next_spare in
       let rechained = recovered.partial is.class d is.is_class is.partial in
-      ap new (sym found.2) ∙ walk_step new chain (start_word (capacity_of old) d + rechained.first * words_of_class is.class) rechained.walks found.0 found.1 ∙ found.3
+      ap new (sym found.2) ∙ walk_step new chain (start_word (capacity_of old) d + rechained.first * words_of_class is.class)
+      rechained.walks found.0 found.1 ∙ found.3
 
   others : (word : ℕ) → start_word (capacity_of old) d ≤ word → word < start_word (capacity_of old) (d + 1)
       → ((next : ℕ) → IsRelinked (layout_of old) kept d word next → ⊥) → new word ≡ old word
@@ -100,7 +103,8 @@ leaves_superblock old new kept recovered d = record { relinked = relinked; other
       let same : e ≡ d = omega (arith, inside.0, inside.1, inside.2) in
       let last = before_last (recovered.chains e) word linked in
       let next = next_at (layout_of old) kept class e (recovered.chains e) are last.index last.below in
-      unlinked (slice_index (recovered.chains e) (suc last.index)) (subst (λ i. IsRelinked (layout_of old) kept i word (slice_index (recovered.chains e) (suc last.index))) same
+      unlinked (slice_index (recovered.chains e) (suc last.index)) (subst
+      (λ i. IsRelinked (layout_of old) kept i word (slice_index (recovered.chains e) (suc last.index))) same
       (record {
         class = class;
         is_class = is_class;

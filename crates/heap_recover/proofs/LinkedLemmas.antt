@@ -1,4 +1,5 @@
--- What is left once the lists are linked and the state is written: lists and links for the kept blocks, and the descriptor of each superblock by its role.
+-- What is left once the lists are linked and the state is written: lists and links for the kept blocks, and the
+-- descriptor of each superblock by its role.
 use Rattle.std.proofs.Common.{◌≡◌, ◌≢◌, ℕ, ◌<◌, ◌≤◌, ◌⊎◌, inl, inr, List, [], slice_index_or, subst, ◌∙◌, arith}
 use Rattle.std.specs.List.{Contains}
 use Rattle.std.proofs.lemmas.Bool.{cases_lt}
@@ -44,7 +45,8 @@ IsSettled old new d Large = HasInfoAndAnchor new d (old (info_word d)) full_anch
 
 module _ (old written new : Image) (kept : Block → Type 0) (roles : List Role) (linked : AreLinked old written new kept roles) where
   -- a word that is no state, head or link of a listed superblock is as it was written
-  after_lists : (word : ℕ) → word ≢ state_word → ((j : ℕ) → j < lists → word ≢ head_word j) → ((d j : ℕ) → j < lists → IsMember roles j d → word ≢ link_word d) → new word ≡ written word
+  after_lists : (word : ℕ) → word ≢ state_word → ((j : ℕ) → j < lists → word ≢ head_word j)
+      → ((d j : ℕ) → j < lists → IsMember roles j d → word ≢ link_word d) → new word ≡ written word
   after_lists word no_state no_head no_link = linked.others word no_state ∙ linked.are_listed.others word no_head no_link
 
   pub info_left : (d : ℕ) → new (info_word d) ≡ written (info_word d)
@@ -60,24 +62,30 @@ module _ (old written new : Image) (kept : Block → Type 0) (roles : List Role)
   -- the words that recovery leaves alone
   pub kept_left : (word : ℕ) → IsKeptWord (capacity_of old) word → new word ≡ written word
   kept_left word is = after_lists word (kept_no_state (capacity_of old) word is) (kept_no_head (capacity_of old) word is)
-      (λ d j few member same. kept_apart (capacity_of old) d word (let below = member_below (layout_of old) kept roles linked.roles_are j d member in let fits = linked.fits in omega arith) is (is_link word same))
+      (λ d j few member same. kept_apart (capacity_of old) d word (let below =
+      member_below (layout_of old) kept roles linked.roles_are j d member in let fits = linked.fits in omega arith) is (is_link word same))
 
   -- the descriptors of each list
   abbrev pub members_at : (list : ℕ) → (list < lists) ⊎ (lists ≤ list) → List ℕ
   members_at = list_below lists (λ list few. (linked.are_listed.each list few).members)
 
-  pub members_in_order : (list : ℕ) → list < lists → (which : (list < lists) ⊎ (lists ≤ list)) → AreAscending (λ d. d) (IsListed (layout_of old) kept list) (members_at list which)
-  members_in_order list few (inl few') = ascending_same (λ d. d) (IsMember roles list) (IsListed (layout_of old) kept list) (linked.are_listed.each list few').members
-      (member_listed (layout_of old) kept roles linked.roles_are list) (λ d is. listed_member (layout_of old) kept roles linked.roles_are list d few is) (linked.are_listed.each list few').are_members
+  pub members_in_order : (list : ℕ) → list < lists → (which : (list < lists) ⊎ (lists ≤ list))
+      → AreAscending (λ d. d) (IsListed (layout_of old) kept list) (members_at list which)
+  members_in_order list few (inl few') = ascending_same (λ d. d) (IsMember roles list) (IsListed (layout_of old) kept list)
+      (linked.are_listed.each list few').members
+      (member_listed (layout_of old) kept roles linked.roles_are list)
+      (λ d is. listed_member (layout_of old) kept roles linked.roles_are list d few is) (linked.are_listed.each list few').are_members
   members_in_order list few (inr past) = absurd (omega arith)
 
   pub head_left : (list : ℕ) → list < lists → (which : (list < lists) ⊎ (lists ≤ list)) → new (head_word list) ≡ first_number (members_at list which)
   head_left list few (inl few') = linked.others (head_word list) (λ same. omega arith) ∙ (linked.are_listed.each list few').head
   head_left list few (inr past) = absurd (omega arith)
 
-  pub links_left : (list : ℕ) → list < lists → (which : (list < lists) ⊎ (lists ≤ list)) → Follows (λ d. new (link_word d)) (capacity_of old) (first_number (members_at list which)) (members_at list which)
+  pub links_left : (list : ℕ) → list < lists → (which : (list < lists) ⊎ (lists ≤ list))
+      → Follows (λ d. new (link_word d)) (capacity_of old) (first_number (members_at list which)) (members_at list which)
   links_left list few (inl few') = let is_list = linked.are_listed.each list few' in
-      follows_same (λ d. linked.listed (link_word d)) (λ d. new (link_word d)) (capacity_of old) (first_number is_list.members) is_list.members (λ d has. linked.others (link_word d) (λ same. omega arith)) is_list.follows
+      follows_same (λ d. linked.listed (link_word d)) (λ d. new (link_word d)) (capacity_of old) (first_number is_list.members) is_list.members
+      (λ d has. linked.others (link_word d) (λ same. omega arith)) is_list.follows
   links_left list few (inr past) = absurd (omega arith)
 
   in_members : (list d : ℕ) (few : list < lists) (which : (list < lists) ⊎ (lists ≤ list)) → IsMember roles list d → Contains (members_at list which) d
@@ -85,7 +93,8 @@ module _ (old written new : Image) (kept : Block → Type 0) (roles : List Role)
   in_members list d few (inr past) is = absurd (omega arith)
 
   -- the link of a superblock in no list
-  pub link_left : (d : ℕ) → written (link_word d) ≡ 0 → ((list : ℕ) → list < lists → Contains (members_at list (cases_lt list lists)) d → ⊥) → new (link_word d) ≡ 0
+  pub link_left : (d : ℕ) → written (link_word d) ≡ 0 → ((list : ℕ) → list < lists → Contains (members_at list (cases_lt list lists)) d → ⊥)
+      → new (link_word d) ≡ 0
   link_left d none away =
       after_lists (link_word d) (λ same. omega arith) (λ j few same. omega arith)
       (λ e j few is same. let is_d : e ≡ d = omega arith in away j few (in_members j d few (cases_lt j lists) (subst (IsMember roles j) is_d is)))
@@ -100,7 +109,8 @@ module _ (old written new : Image) (kept : Block → Type 0) (roles : List Role)
     pub full_left : (class d : ℕ) → IsClass class → IsFullyKept (layout_of old) kept class d → HasInfoAndAnchor new d class full_anchor
     full_left class d is full = let here = linked.roles_are.each d full.taken in
         let left : HasInfoAndAnchor new d (old (info_word d)) full_anchor =
-        subst (IsSettled old new d) (full_role (layout_of old) kept d (record { number = class; is = is }) (slice_index_or roles d Large) here.spares here.is full) (settled d full.taken) in
+        subst (IsSettled old new d) (full_role (layout_of old) kept d (record { number = class; is = is })
+        (slice_index_or roles d Large) here.spares here.is full) (settled d full.taken) in
         record { info_is = left.info_is ∙ full.info_is; anchor_is = left.anchor_is }
 
     pub large_left : (d : ℕ) → IsInLarge (layout_of old) kept d → HasInfoAndAnchor new d (old (info_word d)) full_anchor

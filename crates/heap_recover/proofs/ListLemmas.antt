@@ -52,7 +52,8 @@ module _ (roles : List Role) (list : ℕ) where
       old
 
   -- all of them
-  pub members_all : (ds : List ℕ) (count : ℕ) → length roles ≤ count → AreAscending (λ d. d) (IsMemberAmong roles list count) ds → AreAscending (λ d. d) (IsMember roles list) ds
+  pub members_all : (ds : List ℕ) (count : ℕ) → length roles ≤ count → AreAscending (λ d. d) (IsMemberAmong roles list count) ds
+      → AreAscending (λ d. d) (IsMember roles list) ds
   members_all ds count all old = ascending_same (λ d. d) (IsMemberAmong roles list count) (IsMember roles list) ds (λ d is. is.member)
       (λ d is. record { member = is; among = (let below = is.below in omega arith) }) old
 
@@ -78,7 +79,8 @@ number_past (d ∷ ds) zero past = absurd (omega arith)
 number_past (d ∷ ds) (suc i) past = number_past ds i (omega arith)
 
 -- links that hold the numbers lead along the list
-pub follows_from : (link : ℕ → ℕ) (capacity : ℕ) (ds : List ℕ) → All (λ d. d < capacity) ds → ((j : ℕ) → j < length ds → link (slice_index ds j) ≡ number_at ds (suc j))
+pub follows_from : (link : ℕ → ℕ) (capacity : ℕ) (ds : List ℕ) → All (λ d. d < capacity) ds
+    → ((j : ℕ) → j < length ds → link (slice_index ds j) ≡ number_at ds (suc j))
     → Follows link capacity (first_number ds) ds
 follows_from link capacity [] below links = refl
 follows_from link capacity (d ∷ ds) below links = (
@@ -98,10 +100,12 @@ option_not None n test same = absurd (cc)
 option_not (Some m) n test same = let is : m ≡ n = cc in eqb-false m n test is
 
 -- a superblock is a member or not by its role, whatever stands behind the last one
-pub member_here : (roles : List Role) (list d : ℕ) (other : Role) → d < length roles → list_of (get_or roles d other) ≡ Some list → IsMember roles list d
+pub member_here : (roles : List Role) (list d : ℕ) (other : Role) → d < length roles → list_of (get_or roles d other) ≡ Some list
+    → IsMember roles list d
 member_here roles list d other below same = record { below = below; in_list = ap list_of (get_or_default roles d Large other below) ∙ same }
 
-pub no_member : (roles : List Role) (list d : ℕ) (other : Role) → d < length roles → (list_of (get_or roles d other) ≡ Some list → ⊥) → IsMember roles list d → ⊥
+pub no_member : (roles : List Role) (list d : ℕ) (other : Role) → d < length roles → (list_of (get_or roles d other) ≡ Some list → ⊥)
+    → IsMember roles list d → ⊥
 no_member roles list d other below away is = away (ap list_of (get_or_default roles d other Large below) ∙ is.in_list)
 
 -- a superblock is in one list
@@ -114,8 +118,10 @@ pub linked : (old mid : List ℕ) (capacity list : ℕ) (ds : List ℕ) → list
     → IsLinked (slice_index old) (slice_index (set mid (16 + list) (number_at ds 0))) capacity list ds
 linked old mid capacity list ds few long inside written = record {
   head = get_or-set_same mid (16 + list) (number_at ds 0) 0 (let same = written.long in omega arith) ∙ first_of ds;
-  follows = follows_from (λ d. slice_index new (link_word d)) capacity ds inside (λ j below. away (link_word (slice_index ds j)) (λ same. omega arith) ∙ written.written j below);
-  others = λ word no_head no_link. away word no_head ∙ written.others word (λ j below same. no_link (slice_index ds j) (Contains-get_or ds j 0 below) same);
+  follows = follows_from (λ d. slice_index new (link_word d)) capacity ds inside
+      (λ j below. away (link_word (slice_index ds j)) (λ same. omega arith) ∙ written.written j below);
+  others = λ word no_head no_link. away word no_head ∙ written.others word
+      (λ j below same. no_link (slice_index ds j) (Contains-get_or ds j 0 below) same);
 } where
   new : List ℕ
   new = set mid (16 + list) (number_at ds 0)
@@ -142,17 +148,21 @@ listed_more old mid new capacity roles list ds members first next few = record {
       members = was.members;
       are_members = was.are_members;
       head = next.others (head_word j) (λ same. omega arith) (λ d has same. omega arith) ∙ was.head;
-      follows = follows_same (λ d. mid (link_word d)) (λ d. new (link_word d)) capacity (first_number was.members) was.members (λ d has. kept j d less (was.are_members.sound d has)) was.follows;
+      follows = follows_same (λ d. mid (link_word d)) (λ d. new (link_word d)) capacity (first_number was.members) was.members
+          (λ d has. kept j d less (was.are_members.sound d has)) was.follows;
     }
     | inr past ↦ let same : list ≡ j = omega arith in
         subst (λ i. IsList new capacity roles i) same (record { members = ds; are_members = members; head = next.head; follows = next.follows })
   ]
 
-  others : (word : ℕ) → ((j : ℕ) → j < list + 1 → word ≢ head_word j) → ((d j : ℕ) → j < list + 1 → IsMember roles j d → word ≢ link_word d) → new word ≡ old word
+  others : (word : ℕ) → ((j : ℕ) → j < list + 1 → word ≢ head_word j) → ((d j : ℕ) → j < list + 1 → IsMember roles j d → word ≢ link_word d)
+      → new word ≡ old word
   others word no_head no_link =
       next.others word (no_head list (omega arith)) (λ d has. no_link d list (omega arith) (members.sound d has))
       ∙ first.others word (λ j less. no_head j (omega arith)) (λ d j less. no_link d j (omega arith))
 
 -- members are superblocks of the image
-pub members_inside : (roles : List Role) (list capacity : ℕ) (ds : List ℕ) → length roles ≤ capacity → AreAscending (λ d. d) (IsMember roles list) ds → All (λ d. d < capacity) ds
-members_inside roles list capacity ds few members k x less = let below = (members.sound (get_or ds k x) (Contains-get_or ds k x less)).below in omega arith
+pub members_inside : (roles : List Role) (list capacity : ℕ) (ds : List ℕ) → length roles ≤ capacity
+    → AreAscending (λ d. d) (IsMember roles list) ds → All (λ d. d < capacity) ds
+members_inside roles list capacity ds few members k x less = let below = (members.sound (get_or ds k x) (Contains-get_or ds k x less)).below in
+    omega arith

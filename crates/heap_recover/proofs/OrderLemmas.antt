@@ -34,13 +34,15 @@ first_written line [] = ([], refl)
 first_written line (x ∷ xs) = (write_back line ∷ [], refl)
 
 first_stores : (old new : Image) (first k more : ℕ) → AreFirst (stores_from old new first k) (stores_from old new first (k + more))
-first_stores old new first k zero = subst (λ n. AreFirst (stores_from old new first k) (stores_from old new first n)) {x = k} {y = k + zero} (omega arith) (first_all _)
+first_stores old new first k zero = subst (λ n. AreFirst (stores_from old new first k) (stores_from old new first n)) {x = k} {y = k + zero}
+    (omega arith) (first_all _)
 first_stores old new first k (suc more) =
     subst (λ n. AreFirst (stores_from old new first k) (stores_from old new first n)) {x = suc (k + more)} {y = k + suc more} (omega arith)
     (first_then _ _ _ (first_stores old new first k more) (store_of old new (first + (k + more)), refl))
 
 first_lines : (old new : Image) (line more : ℕ) → AreFirst (steps_in old new line) (steps_in old new (line + more))
-first_lines old new line zero = subst (λ n. AreFirst (steps_in old new line) (steps_in old new n)) {x = line} {y = line + zero} (omega arith) (first_all _)
+first_lines old new line zero = subst (λ n. AreFirst (steps_in old new line) (steps_in old new n)) {x = line} {y = line + zero} (omega arith)
+    (first_all _)
 first_lines old new line (suc more) =
     subst (λ n. AreFirst (steps_in old new line) (steps_in old new n)) {x = suc (line + more)} {y = line + suc more} (omega arith)
     (first_then _ _ _ (first_lines old new line more) (written_back (line + more) (stores_from old new (8 * (line + more)) 8), refl))
@@ -51,7 +53,8 @@ first_of_line : (old new : Image) (line lines : ℕ) (taken : List Step) → lin
 first_of_line old new line lines taken below first =
     first_then _ _ _
     (first_behind (steps_in old new line) _ _ (first_then _ _ _ first (first_written line (stores_from old new (8 * line) 8))))
-    (subst (λ n. AreFirst (steps_in old new (suc line)) (steps_in old new n)) {x = suc line + (lines - suc line)} {y = lines} (omega arith) (first_lines old new (suc line) (lines - suc line)))
+    (subst (λ n. AreFirst (steps_in old new (suc line)) (steps_in old new n)) {x = suc line + (lines - suc line)} {y = lines} (omega arith)
+    (first_lines old new (suc line) (lines - suc line)))
 
 -- a store for each word that differs
 stores_long : (old new : Image) (first n : ℕ) → length (stores_from old new first n) + differences old new first ≡ differences old new (first + n)
@@ -60,7 +63,8 @@ stores_long old new first (suc n) =
     let so_far = stores_long old new first n in
     let next = ap (differences old new) {x = first + n + 1} {y = first + suc n} (omega arith) in
     let long = length-append (stores_from old new first n) (store_of old new (first + n)) in
-    elim (cases_eq (old (first + n)) (new (first + n))) as (λ _. length (stores_from old new first (suc n)) + differences old new first ≡ differences old new (first + suc n)) [
+    elim (cases_eq (old (first + n)) (new (first + n))) as (λ _. length
+    (stores_from old new first (suc n)) + differences old new first ≡ differences old new (first + suc n)) [
       | inl same ↦
           let none = ap (λ t. length (cond t [] (store (first + n) (new (first + n)) ∷ []))) (eq-eqb (old (first + n)) (new (first + n)) same) in
           let stays = differ_same old new (first + n) same in omega arith
@@ -79,7 +83,8 @@ written_some line (x ∷ xs) some = refl
 
 -- a line in which a word differs is written back behind its stores
 line_with : (old new : List ℕ) (line : ℕ) → Differ old new (8 * line) (8 * line + 8)
-    → written_back line (stores_from (slice_index old) (slice_index new) (8 * line) 8) ≡ stores_from (slice_index old) (slice_index new) (8 * line) 8 ++ (write_back line ∷ [])
+    → written_back line (stores_from (slice_index old) (slice_index new) (8 * line) 8) ≡ stores_from (slice_index old) (slice_index new)
+    (8 * line) 8 ++ (write_back line ∷ [])
 line_with old new line differ = let long = stores_long (slice_index old) (slice_index new) (8 * line) 8 in written_some line _ (omega arith)
 
 -- and of another one there is no step
@@ -89,7 +94,8 @@ line_without old new line none =
     ap (written_back line) empty ∙ sym empty
   where
     few : differences (slice_index old) (slice_index new) (8 * line + 8) ≤ differences (slice_index old) (slice_index new) (8 * line)
-    few = elim (cases_lt (differences (slice_index old) (slice_index new) (8 * line)) (differences (slice_index old) (slice_index new) (8 * line + 8))) as
+    few = elim (cases_lt (differences (slice_index old) (slice_index new) (8 * line))
+        (differences (slice_index old) (slice_index new) (8 * line + 8))) as
         (λ _. differences (slice_index old) (slice_index new) (8 * line + 8) ≤ differences (slice_index old) (slice_index new) (8 * line)) [
           | inl more ↦ absurd (none more)
           | inr no_more ↦ no_more
@@ -100,7 +106,8 @@ line_without old new line none =
 
 module _ {M : Type 0} (view : M → View) (draws : M → M → ℕ → Type 0) where
   -- one row behind another
-  pub takes_then : (xs ys : List Step) (from m to : M) → TakesAll view draws from xs m → TakesAll view draws m ys to → TakesAll view draws from (xs ++ ys) to
+  pub takes_then : (xs ys : List Step) (from m to : M) → TakesAll view draws from xs m → TakesAll view draws m ys to
+      → TakesAll view draws from (xs ++ ys) to
   takes_then [] ys from m to before after = subst (λ (n : M). TakesAll view draws n ys to) before after
   takes_then (x ∷ xs) ys from m to before after = (before.0, before.1, takes_then xs ys before.0 m to before.2 after)
 
@@ -108,7 +115,8 @@ module _ {M : Type 0} (view : M → View) (draws : M → M → ℕ → Type 0) w
   takes_one step from to takes = (to, takes, refl)
 
   -- the word differs, and is stored to
-  pub stored_one : (old new : Image) (word : ℕ) (from to : M) → old word ≢ new word → TakesBy (draws from to) (IsStore word (new word)) (view from) (view to)
+  pub stored_one : (old new : Image) (word : ℕ) (from to : M) → old word ≢ new word
+      → TakesBy (draws from to) (IsStore word (new word)) (view from) (view to)
       → TakesAll view draws from (store_of old new word) to
   stored_one old new word from to other takes =
       subst (λ t. TakesAll view draws from (cond t [] (store word (new word) ∷ [])) to) (sym (ne_eqb (old word) (new word) other))
@@ -120,7 +128,8 @@ module _ {M : Type 0} (view : M → View) (draws : M → M → ℕ → Type 0) w
       subst (λ t. TakesAll view draws from (cond t [] (store word (new word) ∷ [])) to) (sym (eq-eqb (old word) (new word) same)) stays
 
   -- the next word of a line
-  pub stored_next : (old new : Image) (first word : ℕ) (from m to : M) → first ≤ word → TakesAll view draws from (stores_from old new first (word - first)) m
+  pub stored_next : (old new : Image) (first word : ℕ) (from m to : M) → first ≤ word
+      → TakesAll view draws from (stores_from old new first (word - first)) m
       → TakesAll view draws m (store_of old new word) to → TakesAll view draws from (stores_from old new first (word + 1 - first)) to
   stored_next old new first word from m to low before after =
       subst (λ n. TakesAll view draws from (stores_from old new first n) to) {x = suc (word - first)} {y = word + 1 - first} (omega arith)
@@ -140,22 +149,27 @@ module _ {M : Type 0} (view : M → View) (draws : M → M → ℕ → Type 0) w
     refused = refused;
   } where
     f : AreFirst (stores_from old new first (word - first)) (stores_from old new first 8)
-    f = subst (λ n. AreFirst (stores_from old new first (word - first)) (stores_from old new first n)) {x = (word - first) + (8 - (word - first))} {y = 8} (omega arith)
+    f = subst (λ n. AreFirst (stores_from old new first (word - first)) (stores_from old new first n)) {x =
+        (word - first) + (8 - (word - first))} {y = 8} (omega arith)
         (first_stores old new first (word - first) (8 - (word - first)))
 
   -- a line more, with its write-back
   pub line_next : (old new : List ℕ) (line : ℕ) (from m n to : M) → Differ old new (8 * line) (8 * line + 8)
-      → TakesAll view draws from (steps_in (slice_index old) (slice_index new) line) m → TakesAll view draws m (stores_from (slice_index old) (slice_index new) (8 * line) 8) n
-      → TakesBy (draws n to) (IsWriteBack line) (view n) (view to) → TakesAll view draws from (steps_in (slice_index old) (slice_index new) (line + 1)) to
+      → TakesAll view draws from (steps_in (slice_index old) (slice_index new) line) m
+      → TakesAll view draws m (stores_from (slice_index old) (slice_index new) (8 * line) 8) n
+      → TakesBy (draws n to) (IsWriteBack line) (view n) (view to) → TakesAll view draws from
+      (steps_in (slice_index old) (slice_index new) (line + 1)) to
   line_next old new line from m n to differ before stores written =
       subst (λ k. TakesAll view draws from (steps_in (slice_index old) (slice_index new) k) to) {x = suc line} {y = line + 1} (omega arith)
       (takes_then (steps_in (slice_index old) (slice_index new) line) _ from m to before
       (subst (λ (xs : List Step). TakesAll view draws m xs to) (sym (line_with old new line differ))
-      (takes_then (stores_from (slice_index old) (slice_index new) (8 * line) 8) (write_back line ∷ []) m n to stores (takes_one (write_back line) n to written))))
+      (takes_then (stores_from (slice_index old) (slice_index new) (8 * line) 8) (write_back line ∷ []) m n to stores
+      (takes_one (write_back line) n to written))))
 
   -- or without one
   pub line_skipped : (old new : List ℕ) (line : ℕ) (from m to : M) → (Differ old new (8 * line) (8 * line + 8) → ⊥)
-      → TakesAll view draws from (steps_in (slice_index old) (slice_index new) line) m → TakesAll view draws m (stores_from (slice_index old) (slice_index new) (8 * line) 8) to
+      → TakesAll view draws from (steps_in (slice_index old) (slice_index new) line) m
+      → TakesAll view draws m (stores_from (slice_index old) (slice_index new) (8 * line) 8) to
       → TakesAll view draws from (steps_in (slice_index old) (slice_index new) (line + 1)) to
   line_skipped old new line from m to none before stores =
       subst (λ k. TakesAll view draws from (steps_in (slice_index old) (slice_index new) k) to) {x = suc line} {y = line + 1} (omega arith)
@@ -177,7 +191,8 @@ module _ {M : Type 0} (view : M → View) (draws : M → M → ℕ → Type 0) w
     f = first_of_line old new line lines cut.taken below (cut.others, cut.are_first)
 
   -- and so is its write-back
-  pub write_back_cut : (old new : Image) (line lines ticket : ℕ) (from m last to : M) → line < lines → TakesAll view draws from (steps_in old new line) m
+  pub write_back_cut : (old new : Image) (line lines ticket : ℕ) (from m last to : M) → line < lines
+      → TakesAll view draws from (steps_in old new line) m
       → TakesAll view draws m (stores_from old new (8 * line) 8) last → RefusesBy (draws last to) ticket (view last) (view to)
       → IsCutOffIn view draws (steps_in old new lines) ticket from to
   write_back_cut old new line lines ticket from m last to below before stores refused =
@@ -185,12 +200,14 @@ module _ {M : Type 0} (view : M → View) (draws : M → M → ℕ → Type 0) w
       (record { taken = stores_from old new (8 * line) 8; others = []; are_first = append_none _; last = last; took = stores; refused = refused })
 
   -- the fence is taken behind all steps
-  pub fence_behind : (steps : List Step) (from last to : M) → TakesAll view draws from steps last → TakesBy (draws last to) IsFence (view last) (view to)
+  pub fence_behind : (steps : List Step) (from last to : M) → TakesAll view draws from steps last
+      → TakesBy (draws last to) IsFence (view last) (view to)
       → IsDoneBy view draws steps from to
   fence_behind steps from last to took fenced = record { last = last; took = took; fenced = fenced }
 
   -- or refused
-  pub fence_refused : (steps : List Step) (ticket : ℕ) (from last to : M) → TakesAll view draws from steps last → RefusesBy (draws last to) ticket (view last) (view to)
+  pub fence_refused : (steps : List Step) (ticket : ℕ) (from last to : M) → TakesAll view draws from steps last
+      → RefusesBy (draws last to) ticket (view last) (view to)
       → IsCutOffIn view draws steps ticket from to
   fence_refused steps ticket from last to took refused =
       record { taken = steps; others = []; are_first = append_none steps; last = last; took = took; refused = refused }

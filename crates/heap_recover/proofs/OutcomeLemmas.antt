@@ -21,11 +21,13 @@ use Rattle.heap_at_rest.proofs.RecoveryLeftLemmas.{listed_cases, partial_listed,
 use Rattle.heap_recover.proofs.AscendingLemmas.{ascending_one}
 
 -- links along one list begin alike, and are the same at its members
-one_start : (link link' : ℕ → ℕ) (capacity from from' : ℕ) (ds : List ℕ) → Follows link capacity from ds → Follows link' capacity from' ds → from ≡ from'
+one_start : (link link' : ℕ → ℕ) (capacity from from' : ℕ) (ds : List ℕ) → Follows link capacity from ds → Follows link' capacity from' ds
+    → from ≡ from'
 one_start link link' capacity from from' [] along along' = along ∙ sym along'
 one_start link link' capacity from from' (d ∷ ds) along along' = along.0 ∙ sym along'.0
 
-one_link : (link link' : ℕ → ℕ) (capacity from from' : ℕ) (ds : List ℕ) (d : ℕ) → Follows link capacity from ds → Follows link' capacity from' ds → Contains ds d → link d ≡ link' d
+one_link : (link link' : ℕ → ℕ) (capacity from from' : ℕ) (ds : List ℕ) (d : ℕ) → Follows link capacity from ds
+    → Follows link' capacity from' ds → Contains ds d → link d ≡ link' d
 one_link link link' capacity from from' [] d along along' has = absurd (in_none d has)
 one_link link link' capacity from from' (e ∷ ds) d along along' has = elim (head_or_rest e d ds has) as (λ _. link d ≡ link' d) [
   | inl same ↦ subst (λ x. link x ≡ link' x) same (one_start link link' capacity (link e) (link' e) ds along.2 along'.2)
@@ -33,7 +35,8 @@ one_link link link' capacity from from' (e ∷ ds) d along along' has = elim (he
 ]
 
 -- walks along one chain go on alike from each block but the last
-one_next : (next next' : ℕ → ℕ) (from from' : ℕ) (bs : List ℕ) (w : ℕ) → Walks next from bs → Walks next' from' bs → Contains (but_last bs) w → next w ≡ next' w
+one_next : (next next' : ℕ → ℕ) (from from' : ℕ) (bs : List ℕ) (w : ℕ) → Walks next from bs → Walks next' from' bs → Contains (but_last bs) w
+    → next w ≡ next' w
 one_next next next' from from' [] w walks walks' has = absurd (in_none w has)
 one_next next next' from from' (b ∷ []) w walks walks' has = absurd (in_none w has)
 one_next next next' from from' (b ∷ c ∷ bs) w walks walks' has = elim (head_or_rest b w (but_last (c ∷ bs)) has) as (λ _. next w ≡ next' w) [
@@ -64,17 +67,21 @@ module _ (old new other : Image) (kept : Block → Type 0) (held : List Block) (
   -- lists and chains
   one_list : (list : ℕ) → list < lists → again.descriptors list ≡ is.descriptors list
   one_list list less =
-      ascending_one (λ d. d) (IsListed l kept list) (IsListed l kept list) (again.descriptors list) (is.descriptors list) (λ d h. h) (λ d h. h) (again.listed list less) (is.listed list less)
+      ascending_one (λ d. d) (IsListed l kept list) (IsListed l kept list) (again.descriptors list) (is.descriptors list) (λ d h. h) (λ d h. h)
+      (again.listed list less) (is.listed list less)
 
   one_chain : (class d : ℕ) → IsClass class → IsPartial l kept class d → again.chains d ≡ is.chains d
   one_chain class d is_class part =
-      ascending_one (λ w. w) (IsSpare l kept class d) (IsSpare l kept class d) (again.chains d) (is.chains d) (λ w h. h) (λ w h. h) (again.chained class d is_class part) (is.chained class d is_class part)
+      ascending_one (λ w. w) (IsSpare l kept class d) (IsSpare l kept class d) (again.chains d) (is.chains d) (λ w h. h) (λ w h. h)
+      (again.chained class d is_class part) (is.chained class d is_class part)
 
   -- links
   listed_link : (list d : ℕ) → list < lists → IsListed l kept list d → other (link_word d) ≡ new (link_word d)
   listed_link list d less listed =
-      let along = subst (λ ds. Follows (λ e. other (link_word e)) (capacity_of old) (first_number ds) ds) (one_list list less) (again.links list less) in
-      one_link (λ e. other (link_word e)) (λ e. new (link_word e)) (capacity_of old) _ _ (is.descriptors list) d along (is.links list less) ((is.listed list less).complete d listed)
+      let along = subst (λ ds. Follows (λ e. other (link_word e)) (capacity_of old) (first_number ds) ds) (one_list list less)
+      (again.links list less) in
+      one_link (λ e. other (link_word e)) (λ e. new (link_word e)) (capacity_of old) _ _ (is.descriptors list) d along (is.links list less)
+      ((is.listed list less).complete d listed)
 
   unlisted_link : (d : ℕ) → d < capacity_of old → ((list : ℕ) → list < lists → IsListed l kept list d → ⊥) → other (link_word d) ≡ new (link_word d)
   unlisted_link d less none =
@@ -83,16 +90,19 @@ module _ (old new other : Image) (kept : Block → Type 0) (held : List Block) (
 
   -- a superblock that was never taken is in no list
   in_no_list : (d : ℕ) → (d < l.used → ⊥) → (list : ℕ) → list < lists → IsListed l kept list d → ⊥
-  in_no_list d untaken list few listed = elim (listed_cases l kept list d few listed) as (λ _. ⊥) [ inl free ↦ untaken free.taken | inr part ↦ untaken part.1.taken ]
+  in_no_list d untaken list few listed = elim (listed_cases l kept list d few listed) as
+      (λ _. ⊥) [ inl free ↦ untaken free.taken | inr part ↦ untaken part.1.taken ]
 
   one_link_word : (d : ℕ) → d < capacity_of old → Standing l kept d → other (link_word d) ≡ new (link_word d)
   one_link_word d less (is_untaken past) = unlisted_link d less (in_no_list d (λ taken. omega arith))
   one_link_word d less (is_free free) = listed_link 0 d (omega arith) free
-  one_link_word d less (is_partial class is_class part) = listed_link class d (let last = is_class.last in omega arith) (partial_listed l kept class d is_class part)
-  one_link_word d less (is_fully_kept class is_class full) = unlisted_link d less (λ list few listed. elim (listed_cases l kept list d few listed) as (λ _. ⊥) [
-    | inl free ↦ let holds = full_holds l kept class d is_class full in free.empty holds.block holds.is_kept holds.part
-    | inr part ↦ full_not_partial l kept class list d full part.1
-  ])
+  one_link_word d less (is_partial class is_class part) = listed_link class d (let last = is_class.last in
+      omega arith) (partial_listed l kept class d is_class part)
+  one_link_word d less (is_fully_kept class is_class full) = unlisted_link d less
+      (λ list few listed. elim (listed_cases l kept list d few listed) as (λ _. ⊥) [
+        | inl free ↦ let holds = full_holds l kept class d is_class full in free.empty holds.block holds.is_kept holds.part
+        | inr part ↦ full_not_partial l kept class list d full part.1
+      ])
   one_link_word d less (is_in_large large) = unlisted_link d less (λ list few listed. elim (listed_cases l kept list d few listed) as (λ _. ⊥) [
     | inl free ↦ free.empty large.holds.block large.holds.is_kept large.holds.part
     | inr part ↦ large_not_partial l kept list d part.0 large part.1
@@ -126,7 +136,8 @@ module _ (old new other : Image) (kept : Block → Type 0) (held : List Block) (
   -- superblocks: where the two differ, no chain has the word, so both are as they were
   one_chained : (class d word : ℕ) → IsClass class → IsPartial l kept class d → Contains (but_last (is.chains d)) word → other word ≡ new word
   one_chained class d word is_class part has =
-      let walks = subst (λ bs. Walks other (start_word (capacity_of old) d + (again.partial class d is_class part).first * words_of_class class) bs) (one_chain class d is_class part)
+      let walks = subst (λ bs. Walks other (start_word (capacity_of old) d + (again.partial class d is_class part).first * words_of_class class)
+      bs) (one_chain class d is_class part)
       (again.partial class d is_class part).walks in
       one_next other new _ _ (is.chains d) word walks (is.partial class d is_class part).walks has
 
@@ -208,7 +219,8 @@ module _ (old new other : Image) (kept : Block → Type 0) (held : List Block) (
   ]
 
 -- so lists of words that are both what recovery makes of an image are one
-pub one_outcome : (old new other : List ℕ) (kept : Block → Type 0) (held : List Block) → length other ≡ length new → AreAscending (λ (b : Block). b.first_word) kept held
+pub one_outcome : (old new other : List ℕ) (kept : Block → Type 0) (held : List Block) → length other ≡ length new
+    → AreAscending (λ (b : Block). b.first_word) kept held
     → IsRecovered (slice_index old) (slice_index new) kept → IsRecovered (slice_index old) (slice_index other) kept → other ≡ new
 one_outcome old new other kept held long are is again =
     ext_get_or 0 other new long (λ i below. one_word (slice_index old) (slice_index new) (slice_index other) kept held are is again i)

@@ -30,7 +30,14 @@ role_spares old kept d _ _ (is_partial class spares partial chained) = (
   record {
     some = (let has = chained.complete partial.spare.0 partial.spare.1 in let below = has.1 in omega arith);
     ascending = chained.ascending;
-    blocks = λ w has. let spare = chained.sound w has in (spare.index, record { below = spare.is_block.below; at = sym spare.first ∙ spare.is_block.at; size = refl });
+    blocks = λ w has. let spare = chained.sound w has in (
+      spare.index,
+      record {
+        below = spare.is_block.below;
+        at = sym spare.first ∙ spare.is_block.at;
+        size = refl;
+      },
+    );
   },
   partial.info_is,
 )
@@ -61,7 +68,11 @@ pub kept_where : (capacity word : ℕ) → IsKeptWord capacity word
     → ((word < 1064) ⊎ (superblocks_end capacity ≤ word)) ⊎ ((e : ℕ) × (at : ℕ) × (e < capacity) × (3 ≤ at) × (at < 8) × (word ≡ info_word e + at))
 kept_where capacity _ (header_kept word is) = inl (inl (elim is as (λ _. word < 1064) [
   | inl magic ↦ omega arith
-  | inr rest ↦ elim rest as (λ _. word < 1064) [ inl version ↦ omega arith | inr last ↦ elim last as (λ _. word < 1064) [ inl capacity_is ↦ omega arith | inr used ↦ omega arith ] ]
+  | inr rest ↦ elim rest as (λ _. word < 1064) [
+    | inl version ↦ omega arith
+    | inr last ↦ elim last as
+        (λ _. word < 1064) [ inl capacity_is ↦ omega arith | inr used ↦ omega arith ]
+  ]
 ]))
 kept_where capacity _ (is_root i word below is) = inl (inl (omega arith))
 kept_where capacity _ (is_kind i word below is) = inl (inr (omega arith))
@@ -72,7 +83,11 @@ kept_where capacity _ (is_reserved word (in_descriptor d at _ below low high is)
 pub kept_no_state : (capacity word : ℕ) → IsKeptWord capacity word → word ≡ state_word → ⊥
 kept_no_state capacity _ (header_kept word is) same = elim is as (λ _. ⊥) [
   | inl magic ↦ omega arith
-  | inr rest ↦ elim rest as (λ _. ⊥) [ inl version ↦ omega arith | inr last ↦ elim last as (λ _. ⊥) [ inl capacity_is ↦ omega arith | inr used ↦ omega arith ] ]
+  | inr rest ↦ elim rest as (λ _. ⊥) [
+    | inl version ↦ omega arith
+    | inr last ↦ elim last as
+        (λ _. ⊥) [ inl capacity_is ↦ omega arith | inr used ↦ omega arith ]
+  ]
 ]
 kept_no_state capacity _ (is_root i word below is) same = omega arith
 kept_no_state capacity _ (is_kind i word below is) same = omega arith
@@ -83,11 +98,16 @@ kept_no_state capacity _ (is_reserved word (in_descriptor d at _ below low high 
 pub kept_no_head : (capacity word : ℕ) → IsKeptWord capacity word → (j : ℕ) → j < lists → word ≡ head_word j → ⊥
 kept_no_head capacity _ (header_kept word is) j few same = elim is as (λ _. ⊥) [
   | inl magic ↦ omega arith
-  | inr rest ↦ elim rest as (λ _. ⊥) [ inl version ↦ omega arith | inr last ↦ elim last as (λ _. ⊥) [ inl capacity_is ↦ omega arith | inr used ↦ omega arith ] ]
+  | inr rest ↦ elim rest as (λ _. ⊥) [
+    | inl version ↦ omega arith
+    | inr last ↦ elim last as
+        (λ _. ⊥) [ inl capacity_is ↦ omega arith | inr used ↦ omega arith ]
+  ]
 ]
 kept_no_head capacity _ (is_root i word below is) j few same = omega arith
 kept_no_head capacity _ (is_kind i word below is) j few same = omega arith
-kept_no_head capacity _ (is_reserved word (in_header _ low high used_not lists_not)) j few same = elim lists_not as (λ _. ⊥) [ inl before ↦ omega arith | inr behind ↦ omega arith ]
+kept_no_head capacity _ (is_reserved word (in_header _ low high used_not lists_not)) j few same =
+    elim lists_not as (λ _. ⊥) [ inl before ↦ omega arith | inr behind ↦ omega arith ]
 kept_no_head capacity _ (is_reserved word (in_descriptor d at _ below low high is)) j few same = omega arith
 
 -- a word of a superblock's blocks belongs to no lower superblock
@@ -128,7 +148,8 @@ pub record SameIn (image other : Image) (capacity d : ℕ) : Type 0 where
   pub inside : (word : ℕ) → start_word capacity d ≤ word → word < start_word capacity (d + 1) → other word ≡ image word
 
 -- so a superblock that is rebuilt in one is rebuilt in the other
-described_same : (old new other : Image) (d : ℕ) (spares : List ℕ) (role : Role) → HasSpares (capacity_of old) d spares role → SameIn new other (capacity_of old) d
+described_same : (old new other : Image) (d : ℕ) (spares : List ℕ) (role : Role) → HasSpares (capacity_of old) d spares role
+    → SameIn new other (capacity_of old) d
     → IsDescribed old new d spares role → IsDescribed old other d spares role
 described_same old new other d spares Free has same is = record { info_is = same.info ∙ is.info_is; anchor_is = same.anchor ∙ is.anchor_is }
 described_same old new other d spares (Partial class) has same is = record {
@@ -140,7 +161,8 @@ described_same old new other d spares (Partial class) has same is = record {
 described_same old new other d spares (Full class) has same is = record { info_is = same.info ∙ is.info_is; anchor_is = same.anchor ∙ is.anchor_is }
 described_same old new other d spares Large has same is = record { info_is = same.info ∙ is.info_is; anchor_is = same.anchor ∙ is.anchor_is }
 
-pub done_same : (old new other : Image) (kept : Block → Type 0) (d : ℕ) (role : Role) → SameIn new other (capacity_of old) d → IsRebuiltInRole old new kept d role → IsRebuiltInRole old other kept d role
+pub done_same : (old new other : Image) (kept : Block → Type 0) (d : ℕ) (role : Role) → SameIn new other (capacity_of old) d
+    → IsRebuiltInRole old new kept d role → IsRebuiltInRole old other kept d role
 done_same old new other kept d role same is = record {
   spares = is.spares;
   has_role = is.has_role;
@@ -149,7 +171,8 @@ done_same old new other kept d role same is = record {
 }
 
 -- the same info and capacity to begin with
-described_from : (old mid new : Image) (d : ℕ) (spares : List ℕ) (role : Role) → mid (info_word d) ≡ old (info_word d) → capacity_of mid ≡ capacity_of old
+described_from : (old mid new : Image) (d : ℕ) (spares : List ℕ) (role : Role) → mid (info_word d) ≡ old (info_word d)
+    → capacity_of mid ≡ capacity_of old
     → IsDescribed mid new d spares role → IsDescribed old new d spares role
 described_from old mid new d spares Free info capacity is = is
 described_from old mid new d spares (Partial class) info capacity is = record {
@@ -166,7 +189,8 @@ done_none old kept blocks = record {
   long = refl;
   each = λ e below. absurd (omega arith);
   links = λ e below. absurd (omega arith);
-  in_order = ascending_none (λ (b : Block). b.first_word) (IsKeptBelow (capacity_of old) kept 0) (λ b is. let inside = block_inside (layout_of old) b (blocks.each b is.is_kept) in let below = is.below in omega (arith, inside.0));
+  in_order = ascending_none (λ (b : Block). b.first_word) (IsKeptBelow (capacity_of old) kept 0)
+      (λ b is. let inside = block_inside (layout_of old) b (blocks.each b is.is_kept) in let below = is.below in omega (arith, inside.0));
   others = λ word outside. refl;
 }
 
@@ -177,14 +201,17 @@ goes_on_none l kept blocks = record {
 }
 
 -- the next superblock is rebuilt
-pub done_next : (old mid new : Image) (kept : Block → Type 0) (d : ℕ) (held more : List Block) (roles : List Role) (role : Role) (spares : List ℕ) → d < capacity_of old
-    → AreDone old mid kept d held roles → IsRole (layout_of old) kept d role spares → AreAscending (λ (b : Block). b.first_word) (IsKeptIn (capacity_of old) kept d) more
+pub done_next : (old mid new : Image) (kept : Block → Type 0) (d : ℕ) (held more : List Block) (roles : List Role) (role : Role)
+    (spares : List ℕ) → d < capacity_of old
+    → AreDone old mid kept d held roles → IsRole (layout_of old) kept d role spares
+    → AreAscending (λ (b : Block). b.first_word) (IsKeptIn (capacity_of old) kept d) more
     → IsRebuiltAs mid new (capacity_of old) d role spares → AreDone old new kept (d + 1) (held ++ more) (roles ++ role ∷ [])
 done_next old mid new kept d held more roles role spares below first has_role in_d rebuilt = record {
   long = length-append roles (role ∷ []) ∙ ap (λ n. n + 1) first.long;
   each = each;
   links = links;
-  in_order = ascending_append (λ (b : Block). b.first_word) (IsKeptBelow capacity kept d) (IsKeptIn capacity kept d) (IsKeptBelow capacity kept (d + 1)) held more first.in_order in_d
+  in_order = ascending_append (λ (b : Block). b.first_word) (IsKeptBelow capacity kept d) (IsKeptIn capacity kept d)
+      (IsKeptBelow capacity kept (d + 1)) held more first.in_order in_d
       (λ a b lower here. let low = lower.below in let from = here.from in omega arith)
       (λ b lower. record { is_kept = lower.is_kept; below = (let low = lower.below in omega arith) })
       (λ b here. record { is_kept = here.is_kept; below = here.until })
@@ -203,13 +230,16 @@ done_next old mid new kept d held more roles role spares below first has_role in
 
   -- a word of a lower one stays
   stays : (e word : ℕ) → e < d → IsOf (capacity_of old) e word → new word ≡ mid word
-  stays e word less owned = rebuilt.others word (λ other. let same = one_owner (capacity_of old) e d word (omega arith) below owned other in omega arith)
+  stays e word less owned = rebuilt.others word (λ other. let same = one_owner (capacity_of old) e d word (omega arith) below owned other in
+      omega arith)
 
   here_done : IsRebuiltInRole old new kept d role
   here_done = record {
     spares = spares;
     has_role = has_role;
-    described = described_from old mid new d spares role (fresh (info_word d) (is_info (info_word d) refl)) (first.others capacity_word (λ e less owned. kept_apart (capacity_of old) e capacity_word (omega arith) (header_kept capacity_word (inr (inr (inl refl)))) owned)) rebuilt.described;
+    described = described_from old mid new d spares role (fresh (info_word d) (is_info (info_word d) refl))
+        (first.others capacity_word (λ e less owned. kept_apart (capacity_of old) e capacity_word (omega arith)
+        (header_kept capacity_word (inr (inr (inl refl)))) owned)) rebuilt.described;
     inside = record { each = λ word low high unlinked. rebuilt.inside.each word low high unlinked ∙ fresh word (is_inside word low high) };
   }
 
@@ -222,7 +252,8 @@ done_next old mid new kept d held more roles role spares below first has_role in
           inside = λ word low high. stays e word lower (is_inside word low high);
         }) (first.each e lower))
     | inr past ↦ let same : d ≡ e = omega arith in
-        let seam : slice_index_or (roles ++ role ∷ []) e Large ≡ role = subst (λ i. slice_index_or (roles ++ role ∷ []) i Large ≡ role) (first.long ∙ same) (get_or-append_seam roles role [] Large) in
+        let seam : slice_index_or (roles ++ role ∷ []) e Large ≡ role =
+        subst (λ i. slice_index_or (roles ++ role ∷ []) i Large ≡ role) (first.long ∙ same) (get_or-append_seam roles role [] Large) in
         subst (λ r. IsRebuiltInRole old new kept e r) (sym seam) (subst (λ i. IsRebuiltInRole old new kept i role) same here_done)
   ]
 
@@ -242,7 +273,8 @@ cleared_none old capacity used = record {
 }
 
 -- the next superblock is cleared
-pub cleared_next : (old mid new : Image) (capacity used d : ℕ) → used ≤ d → d < capacity → AreCleared old mid capacity used d → IsRebuiltAs mid new capacity d Free [] → AreCleared old new capacity used (d + 1)
+pub cleared_next : (old mid new : Image) (capacity used d : ℕ) → used ≤ d → d < capacity → AreCleared old mid capacity used d
+    → IsRebuiltAs mid new capacity d Free [] → AreCleared old new capacity used (d + 1)
 cleared_next old mid new capacity used d from below first rebuilt = record { each = each; links = links; inside = inside; others = others } where
   stays : (e word : ℕ) → e < d → IsOf capacity e word → new word ≡ mid word
   stays e word less owned = rebuilt.others word (λ other. let same = one_owner capacity e d word (omega arith) below owned other in omega arith)
@@ -269,7 +301,8 @@ cleared_next old mid new capacity used d from below first rebuilt = record { eac
   inside e low less = record {
     each = λ word from until unlinked. elim (cases_lt e d) as (λ _. new word ≡ old word) [
       | inl lower ↦ stays e word lower (is_inside word from until) ∙ (first.inside e low lower).each word from until unlinked
-      | inr past ↦ let same : e ≡ d = omega arith in rebuilt.inside.each word (omega arith) (omega arith) unlinked ∙ fresh word (is_inside word (omega arith) (omega arith))
+      | inr past ↦ let same : e ≡ d = omega arith in rebuilt.inside.each word (omega arith) (omega arith) unlinked
+          ∙ fresh word (is_inside word (omega arith) (omega arith))
     ];
   }
 
@@ -277,9 +310,13 @@ cleared_next old mid new capacity used d from below first rebuilt = record { eac
   others word outside = rebuilt.others word (outside d from (omega arith)) ∙ first.others word (λ e low less. outside e low (omega arith))
 
 -- the capacity, and the next info, are as they were
-pub done_capacity : (old new : Image) (kept : Block → Type 0) (d : ℕ) (held : List Block) (roles : List Role) → d ≤ capacity_of old → AreDone old new kept d held roles → capacity_of new ≡ capacity_of old
-done_capacity old new kept d held roles below done = done.others capacity_word (λ e less owned. kept_apart (capacity_of old) e capacity_word (omega arith) (header_kept capacity_word (inr (inr (inl refl)))) owned)
+pub done_capacity : (old new : Image) (kept : Block → Type 0) (d : ℕ) (held : List Block) (roles : List Role) → d ≤ capacity_of old
+    → AreDone old new kept d held roles → capacity_of new ≡ capacity_of old
+done_capacity old new kept d held roles below done = done.others capacity_word
+    (λ e less owned. kept_apart (capacity_of old) e capacity_word (omega arith) (header_kept capacity_word (inr (inr (inl refl)))) owned)
 
-pub done_info : (old new : Image) (kept : Block → Type 0) (d : ℕ) (held : List Block) (roles : List Role) → d < capacity_of old → AreDone old new kept d held roles → new (info_word d) ≡ old (info_word d)
+pub done_info : (old new : Image) (kept : Block → Type 0) (d : ℕ) (held : List Block) (roles : List Role) → d < capacity_of old
+    → AreDone old new kept d held roles → new (info_word d) ≡ old (info_word d)
 done_info old new kept d held roles below done =
-    done.others (info_word d) (λ e less owned. let same = one_owner (capacity_of old) e d (info_word d) (omega arith) below owned (is_info (info_word d) refl) in omega arith)
+    done.others (info_word d) (λ e less owned. let same = one_owner (capacity_of old) e d (info_word d) (omega arith) below owned
+    (is_info (info_word d) refl) in omega arith)

@@ -37,7 +37,11 @@ module _ (old done cleared listed new : Image) (kept : Block → Type 0) (held :
   linked : AreLinked old cleared new kept roles
   linked = record {
     fits = fits;
-    roles_are = record { long = are_done.long; each = λ d below. let here = are_done.each d below in record { spares = here.spares; is = here.has_role } };
+    roles_are = record {
+      long = are_done.long;
+      each = λ d below. let here = are_done.each d below in
+          record { spares = here.spares; is = here.has_role };
+    };
     listed = listed;
     are_listed = are_listed;
     state = state_is;
@@ -46,7 +50,8 @@ module _ (old done cleared listed new : Image) (kept : Block → Type 0) (held :
 
   -- what the first pass left of a taken superblock stays
   taken_left : (d word : ℕ) → d < used_of old → IsOf (capacity_of old) d word → cleared word ≡ done word
-  taken_left d word below owned = are_cleared.others word (λ e low high other. let same = one_owner (capacity_of old) d e word (omega arith) high owned other in omega arith)
+  taken_left d word below owned = are_cleared.others word (λ e low high other. let same =
+      one_owner (capacity_of old) d e word (omega arith) high owned other in omega arith)
 
   abbrev role_of : ℕ → Role
   role_of d = slice_index_or roles d Large
@@ -77,25 +82,33 @@ module _ (old done cleared listed new : Image) (kept : Block → Type 0) (held :
 
   untaken_left : (d : ℕ) → used_of old ≤ d → d < capacity_of old → HasInfoAndAnchor new d 0 0
   untaken_left d past below = let was = are_cleared.each d past below in
-      record { info_is = info_left old cleared new kept roles linked d ∙ was.info_is; anchor_is = anchor_left old cleared new kept roles linked d ∙ was.anchor_is }
+      record {
+        info_is = info_left old cleared new kept roles linked d ∙ was.info_is;
+        anchor_is = anchor_left old cleared new kept roles linked d ∙ was.anchor_is;
+      }
 
   -- the chain of each superblock
   abbrev chain_at : (d : ℕ) → (d < used_of old) ⊎ (used_of old ≤ d) → List ℕ
   chain_at = list_below (used_of old) (λ d below. (taken_done d below).spares)
 
   -- the chain of a partial superblock
-  chain_in_order : (class d : ℕ) → IsClass class → IsPartial (layout_of old) kept class d → (which : (d < used_of old) ⊎ (used_of old ≤ d)) → AreAscending (λ w. w) (IsSpare (layout_of old) kept class d) (chain_at d which)
-  chain_in_order class d is partial (inl below) = let here = taken_done d below in (partial_role (layout_of old) kept d (record { number = class; is = is }) (role_of d) here.spares here.has_role partial).1
+  chain_in_order : (class d : ℕ) → IsClass class → IsPartial (layout_of old) kept class d → (which : (d < used_of old) ⊎ (used_of old ≤ d))
+      → AreAscending (λ w. w) (IsSpare (layout_of old) kept class d) (chain_at d which)
+  chain_in_order class d is partial (inl below) = let here = taken_done d below in
+      (partial_role (layout_of old) kept d (record { number = class; is = is }) (role_of d) here.spares here.has_role partial).1
   chain_in_order class d is partial (inr past) = absurd (let taken = partial.taken in omega arith)
 
-  rechained : (class d : ℕ) → IsClass class → IsPartial (layout_of old) kept class d → (which : (d < used_of old) ⊎ (used_of old ≤ d)) → IsRechained old new class d (chain_at d which)
+  rechained : (class d : ℕ) → IsClass class → IsPartial (layout_of old) kept class d → (which : (d < used_of old) ⊎ (used_of old ≤ d))
+      → IsRechained old new class d (chain_at d which)
   rechained class d is partial (inl below) = let here = taken_done d below in
-      subst (λ r. IsDescribed old new d here.spares r) (partial_role (layout_of old) kept d (record { number = class; is = is }) (role_of d) here.spares here.has_role partial).0 here.described
+      subst (λ r. IsDescribed old new d here.spares r) (partial_role (layout_of old) kept d (record { number = class; is = is })
+      (role_of d) here.spares here.has_role partial).0 here.described
   rechained class d is partial (inr past) = absurd (let taken = partial.taken in omega arith)
 
   -- a chained word of a superblock that is not chained
   unlinked_in : (d word : ℕ) (role : Role) (spares : List ℕ) → IsRole (layout_of old) kept d role spares
-      → ((class : ℕ) → IsClass class → IsPartial (layout_of old) kept class d → Contains (but_last spares) word → ⊥) → Contains (but_last spares) word → ⊥
+      → ((class : ℕ) → IsClass class → IsPartial (layout_of old) kept class d → Contains (but_last spares) word → ⊥)
+      → Contains (but_last spares) word → ⊥
   unlinked_in d word _ _ (is_free free) away linked = none_of refl linked
   unlinked_in d word _ _ (is_partial class spares partial chained) away linked = away class.number class.is partial linked
   unlinked_in d word _ _ (is_full class full) away linked = none_of refl linked
@@ -103,22 +116,28 @@ module _ (old done cleared listed new : Image) (kept : Block → Type 0) (held :
 
   -- the words of the superblocks
   words_left : (word : ℕ) → start_word (capacity_of old) 0 ≤ word
-      → ((class d : ℕ) → IsClass class → IsPartial (layout_of old) kept class d → Contains (but_last (chain_at d (cases_lt d (used_of old)))) word → ⊥) → new word ≡ old word
+      → ((class d : ℕ) → IsClass class → IsPartial (layout_of old) kept class d
+      → Contains (but_last (chain_at d (cases_lt d (used_of old)))) word → ⊥) → new word ≡ old word
   words_left word low away =
       let d = (superblock_of (capacity_of old) word low).0 in
       let from = (superblock_of (capacity_of old) word low).1 in
       let until = (superblock_of (capacity_of old) word low).2 in
       in_superblock d from until (cases_lt d (used_of old)) (λ class. away class d)
     where
-      in_superblock : (d : ℕ) → start_word (capacity_of old) d ≤ word → word < start_word (capacity_of old) (d + 1) → (which : (d < used_of old) ⊎ (used_of old ≤ d))
-          → ((class : ℕ) → IsClass class → IsPartial (layout_of old) kept class d → Contains (but_last (chain_at d which)) word → ⊥) → new word ≡ old word
-      in_superblock d from until (inl below) away' = let here = taken_done d below in here.inside.each word from until (unlinked_in d word (role_of d) here.spares here.has_role away')
-      in_superblock d from until (inr past) away' = inside_left old cleared new kept roles linked word low ∙ elim (cases_lt d (capacity_of old)) as (λ _. cleared word ≡ old word) [
-        | inl below ↦ (are_cleared.inside d past below).each word from until (λ linked. none_of refl linked) ∙ untouched d past from
-        | inr beyond ↦ are_cleared.others word (λ e low less owned. no_lower (capacity_of old) d e word (omega arith) less from owned) ∙ untouched d past from
-      ] where
-        untouched : (d : ℕ) → used_of old ≤ d → start_word (capacity_of old) d ≤ word → done word ≡ old word
-        untouched d past from = are_done.others word (λ e taken owned. no_lower (capacity_of old) d e word (omega arith) (omega arith) from owned)
+      in_superblock : (d : ℕ) → start_word (capacity_of old) d ≤ word → word < start_word (capacity_of old) (d + 1)
+          → (which : (d < used_of old) ⊎ (used_of old ≤ d))
+          → ((class : ℕ) → IsClass class → IsPartial (layout_of old) kept class d → Contains (but_last (chain_at d which)) word → ⊥)
+          → new word ≡ old word
+      in_superblock d from until (inl below) away' = let here = taken_done d below in
+          here.inside.each word from until (unlinked_in d word (role_of d) here.spares here.has_role away')
+      in_superblock d from until (inr past) away' = inside_left old cleared new kept roles linked word low
+          ∙ elim (cases_lt d (capacity_of old)) as (λ _. cleared word ≡ old word) [
+            | inl below ↦ (are_cleared.inside d past below).each word from until (λ linked. none_of refl linked) ∙ untouched d past from
+            | inr beyond ↦ are_cleared.others word (λ e low less owned. no_lower (capacity_of old) d e word (omega arith) less from owned)
+                ∙ untouched d past from
+          ] where
+            untouched : (d : ℕ) → used_of old ≤ d → start_word (capacity_of old) d ≤ word → done word ≡ old word
+            untouched d past from = are_done.others word (λ e taken owned. no_lower (capacity_of old) d e word (omega arith) (omega arith) from owned)
 
   -- the whole image
   pub recovered : IsRecovered old new kept
@@ -148,7 +167,14 @@ module _ (old done cleared listed new : Image) (kept : Block → Type 0) (held :
     recovered = recovered;
     long = are_done.long;
     in_order = ascending_same (λ (b : Block). b.first_word) (IsKeptBelow (capacity_of old) kept (used_of old)) kept held (λ b is. is.is_kept)
-        (λ b is_kept. record { is_kept = is_kept; below = (let inside = block_inside (layout_of old) b (blocks.each b is_kept) in let some = block_words (layout_of old) b (blocks.each b is_kept) in omega (arith, inside.1)) })
+        (λ b is_kept. record {
+          is_kept = is_kept;
+          below = (let inside = block_inside (layout_of old) b (blocks.each b is_kept) in
+              let some = block_words (layout_of old) b (blocks.each b is_kept) in omega (arith, inside.1));
+        })
         are_done.in_order;
-    free = λ d. (member_listed (layout_of old) kept roles linked.roles_are 0 d, listed_member (layout_of old) kept roles linked.roles_are 0 d (omega arith));
+    free = λ d. (
+      member_listed (layout_of old) kept roles linked.roles_are 0 d,
+      listed_member (layout_of old) kept roles linked.roles_are 0 d (omega arith),
+    );
   }

@@ -43,7 +43,8 @@ module _ (l : Layout) (kept : Block → Type 0) (d : ℕ) where
   partial_role class _ _ (is_large large) partial = absurd (large.no_class (subst IsClass (sym partial.info_is) class.is))
 
   -- a fully kept one that of a full one
-  pub full_role : (class : SizeClass) (role : Role) (spares : List ℕ) → IsRole l kept d role spares → IsFullyKept l kept class.number d → role ≡ Full class
+  pub full_role : (class : SizeClass) (role : Role) (spares : List ℕ) → IsRole l kept d role spares → IsFullyKept l kept class.number d
+      → role ≡ Full class
   full_role class _ _ (is_free free) full = absurd (not_free (full_holds l kept class.number d class.is full) free)
   full_role class _ _ (is_partial other spares partial chained) full =
       absurd (full_not_partial l kept class.number other.number d full partial)
@@ -66,9 +67,11 @@ module _ (l : Layout) (kept : Block → Type 0) (d : ℕ) where
   role_listed list _ _ (is_large large) same = absurd (cc)
 
   -- and that is the list that it is in
-  pub listed_role : (list : ℕ) (role : Role) (spares : List ℕ) → list < lists → IsRole l kept d role spares → IsListed l kept list d → list_of role ≡ Some list
+  pub listed_role : (list : ℕ) (role : Role) (spares : List ℕ) → list < lists → IsRole l kept d role spares → IsListed l kept list d
+      → list_of role ≡ Some list
   listed_role zero role spares few has listed = ap list_of (free_role role spares has listed)
-  listed_role (suc c) role spares few has listed = ap list_of (partial_role (record { number = suc c; is = record { some = omega arith; last = omega arith } }) role spares has listed).0
+  listed_role (suc c) role spares few has listed = ap list_of (partial_role
+      (record { number = suc c; is = record { some = omega arith; last = omega arith } }) role spares has listed).0
 
   -- a superblock in a list has been taken
   pub listed_taken : (list : ℕ) → IsListed l kept list d → d < l.used
@@ -91,10 +94,15 @@ module _ (l : Layout) (kept : Block → Type 0) (roles : List Role) (are : AreRo
   member_below list d is = let below = is.below in let long = are.long in omega arith
 
   pub member_listed : (list d : ℕ) → IsMember roles list d → IsListed l kept list d
-  member_listed list d is = let here = are.each d (member_below list d is) in role_listed l kept d list (slice_index_or roles d Large) here.spares here.is is.in_list
+  member_listed list d is = let here = are.each d (member_below list d is) in
+      role_listed l kept d list (slice_index_or roles d Large) here.spares here.is is.in_list
 
   pub listed_member : (list d : ℕ) → list < lists → IsListed l kept list d → IsMember roles list d
   listed_member list d few is =
       let taken = listed_taken l kept d list is in
       let here = are.each d taken in
-      record { below = (let long = are.long in omega arith); in_list = listed_role l kept d list (slice_index_or roles d Large) here.spares few here.is is }
+      record {
+        below = (let long = are.long in omega arith);
+        in_list =
+            listed_role l kept d list (slice_index_or roles d Large) here.spares few here.is is;
+      }

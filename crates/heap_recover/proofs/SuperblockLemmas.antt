@@ -23,7 +23,8 @@ pub but_last_in : (xs : List ℕ) (w : ℕ) → Contains (but_last xs) w → Con
 but_last_in [] w has = has
 but_last_in (x ∷ []) w has = absurd (none_of refl has)
 but_last_in (x ∷ y ∷ ys) w (zero, below, is) = (zero, omega arith, is)
-but_last_in (x ∷ y ∷ ys) w (suc k, below, is) = let rest = but_last_in (y ∷ ys) w (k, omega arith, is) in (suc rest.0, (let inside = rest.1 in omega arith), rest.2)
+but_last_in (x ∷ y ∷ ys) w (suc k, below, is) = let rest = but_last_in (y ∷ ys) w (k, omega arith, is) in
+    (suc rest.0, (let inside = rest.1 in omega arith), rest.2)
 
 -- a number of a strictly ascending list is at least its index
 pub ascending_index : (xs : List ℕ) → AllPairs (λ x y. x < y) xs → (k : ℕ) → k < length xs → k ≤ slice_index xs k
@@ -44,7 +45,8 @@ spares_inside capacity d spares (Full class) none w has = absurd (none_of none h
 spares_inside capacity d spares Large none w has = absurd (none_of none has)
 
 -- so their words are words of the image
-pub spares_fit : (capacity d : ℕ) (spares : List ℕ) (role : Role) → HasSpares capacity d spares role → d < capacity → All (λ w. w < image_words capacity) spares
+pub spares_fit : (capacity d : ℕ) (spares : List ℕ) (role : Role) → HasSpares capacity d spares role → d < capacity
+    → All (λ w. w < image_words capacity) spares
 spares_fit capacity d spares role has below k x less =
     let inside = spares_inside capacity d spares role has (get_or spares k x) (Contains-get_or spares k x less) in omega (arith, inside.1)
 
@@ -62,14 +64,16 @@ pub record IsFirstSpare (capacity class d : ℕ) (spares : List ℕ) (index : �
   pub quotient : (slice_index spares 0 - start_word capacity d) / words_of_class class ≡ index
   pub few : length spares < 2 ^ 31
 
-pub first_spare : (capacity : ℕ) (class : SizeClass) (d : ℕ) (spares : List ℕ) → capacity ≤ largest_capacity → d < capacity → AreSpares capacity class d spares
+pub first_spare : (capacity : ℕ) (class : SizeClass) (d : ℕ) (spares : List ℕ) → capacity ≤ largest_capacity → d < capacity
+    → AreSpares capacity class d spares
     → (index : ℕ) × IsFirstSpare capacity class.number d spares index
 first_spare capacity class d spares small below are =
     let block = are.blocks (slice_index spares 0) (Contains-get_or spares 0 0 are.some) in
     let at : slice_index spares 0 ≡ start_word capacity d + block.0 * words_of_class class.number = block.1.at in
     let rest : slice_index spares 0 - start_word capacity d ≡ block.0 * words_of_class class.number = omega arith in
     let last = ascending_index spares are.ascending (length spares - 1) (let some = are.some in omega arith) in
-    let inside = spares_inside capacity d spares (Partial class) are (slice_index spares (length spares - 1)) (Contains-get_or spares (length spares - 1) 0 (let some = are.some in omega arith)) in (
+    let inside = spares_inside capacity d spares (Partial class) are (slice_index spares (length spares - 1))
+    (Contains-get_or spares (length spares - 1) 0 (let some = are.some in omega arith)) in (
       block.0,
       record {
         below = block.1.below;
@@ -80,7 +84,8 @@ first_spare capacity class d spares small below are =
     )
 
 -- the spares of a partial superblock
-pub of_partial : (capacity d : ℕ) (class : SizeClass) (spares : List ℕ) (role : Role) → role ≡ Partial class → HasSpares capacity d spares role → AreSpares capacity class d spares
+pub of_partial : (capacity d : ℕ) (class : SizeClass) (spares : List ℕ) (role : Role) → role ≡ Partial class → HasSpares capacity d spares role
+    → AreSpares capacity class d spares
 of_partial capacity d class spares role is has = subst (λ (r : Role). HasSpares capacity d spares r) is has
 
 -- its first spare block, as the code finds it
@@ -89,7 +94,8 @@ pub record IsFoundFirst (capacity class d : ℕ) (spares : List ℕ) (start word
   pub begins : start_word capacity d + (slice_index spares 0 - start) / words * words_of_class class ≡ slice_index spares 0
   pub few : length spares < 2 ^ 31
 
-pub found_first : (capacity : ℕ) (class : SizeClass) (d : ℕ) (spares : List ℕ) (start words : ℕ) → capacity ≤ largest_capacity → d < capacity → AreSpares capacity class d spares
+pub found_first : (capacity : ℕ) (class : SizeClass) (d : ℕ) (spares : List ℕ) (start words : ℕ) → capacity ≤ largest_capacity → d < capacity
+    → AreSpares capacity class d spares
     → start ≡ start_word capacity d → words ≡ words_of_class class.number → IsFoundFirst capacity class.number d spares start words
 found_first capacity class d spares start words small below are start_is words_is =
     let first = first_spare capacity class d spares small below are in
@@ -104,9 +110,11 @@ found_first capacity class d spares start words small below are start_is words_i
     }
 
 -- the chain and the descriptor of a superblock are written
-module _ (old chained new : Image) (capacity d : ℕ) (spares : List ℕ) (anchor : ℕ) (below : d < capacity) (is_chained : IsChained old chained spares) where
+module _ (old chained new : Image) (capacity d : ℕ) (spares : List ℕ) (anchor : ℕ) (below : d < capacity)
+    (is_chained : IsChained old chained spares) where
   -- a word that is no first word of a chained block is as it was before the chain
-  before_chain : (role : Role) → HasSpares capacity d spares role → (word : ℕ) → (IsOf capacity d word → ⊥) ⊎ (word < start_word capacity d) → chained word ≡ old word
+  before_chain : (role : Role) → HasSpares capacity d spares role → (word : ℕ) → (IsOf capacity d word → ⊥) ⊎ (word < start_word capacity d)
+      → chained word ≡ old word
   before_chain role has word away = is_chained.others word (λ linked.
       let inside = spares_inside capacity d spares role has word (but_last_in spares word linked) in
       elim away as (λ _. ⊥) [ inl outside ↦ outside (is_inside word inside.0 inside.1) | inr lower ↦ let low = inside.0 in omega arith ])
@@ -121,19 +129,31 @@ module _ (old chained new : Image) (capacity d : ℕ) (spares : List ℕ) (ancho
       described = described;
       link = written.link_is;
       inside = record { each = λ word low high unlinked. inside_kept word low ∙ is_chained.others word unlinked };
-      others = λ word outside. written.others word (λ same. outside (is_info word same)) (λ same. outside (is_anchor word same)) (λ same. outside (is_link word same)) ∙ before_chain role has word (inl outside);
+      others = λ word outside. written.others word (λ same. outside (is_info word same)) (λ same. outside (is_anchor word same))
+          (λ same. outside (is_link word same)) ∙ before_chain role has word (inl outside);
     }
 
-  pub described : (role : Role) → capacity_of old ≡ capacity → HasInfo (old (info_word d)) role → HasSpares capacity d spares role → IsAnchorOf capacity d spares anchor role → IsWrittenAs chained new d role anchor
+  pub described : (role : Role) → capacity_of old ≡ capacity → HasInfo (old (info_word d)) role → HasSpares capacity d spares role
+      → IsAnchorOf capacity d spares anchor role → IsWrittenAs chained new d role anchor
       → IsDescribed old new d spares role
   described Free same info has is written = record { info_is = written.info; anchor_is = written.anchor_is ∙ is }
   described (Partial class) same info are counts written = record {
     first = counts.first;
-    words = record { info_is = written.info ∙ before_chain (Partial class) are (info_word d) (inr (omega arith)) ∙ info; anchor_is = written.anchor_is ∙ counts.is };
+    words = record {
+      info_is = written.info ∙ before_chain (Partial class) are (info_word d) (inr (omega arith)) ∙ info;
+      anchor_is = written.anchor_is ∙ counts.is;
+    };
     walks = subst (λ n. Walks new (start_word n d + counts.first * words_of_class class.number) spares) (sym same)
         (walks_same chained new (start_word capacity d + counts.first * words_of_class class.number) spares
         (λ b has. inside_kept (Partial class) are written b (spares_inside capacity d spares (Partial class) are b has).0)
         (is_chained.walks (start_word capacity d + counts.first * words_of_class class.number) (λ some. counts.begins)));
   }
-  described (Full class) same info none is written = record { info_is = written.info ∙ before_chain (Full class) none (info_word d) (inr (omega arith)); anchor_is = written.anchor_is ∙ is }
-  described Large same info none is written = record { info_is = written.info ∙ before_chain Large none (info_word d) (inr (omega arith)); anchor_is = written.anchor_is ∙ is }
+  described (Full class) same info none is written = record {
+    info_is = written.info
+        ∙ before_chain (Full class) none (info_word d) (inr (omega arith));
+    anchor_is = written.anchor_is ∙ is;
+  }
+  described Large same info none is written = record {
+    info_is = written.info ∙ before_chain Large none (info_word d) (inr (omega arith));
+    anchor_is = written.anchor_is ∙ is;
+  }

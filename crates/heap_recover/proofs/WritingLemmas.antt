@@ -25,9 +25,11 @@ written_more at value old new count apart inside first = record {
   written = λ j below. elim (cases_lt j count) as (λ _. slice_index (set new (at count) (value count)) (at j) ≡ value j) [
     | inl before ↦ get_or-set_other new (at count) (at j) (value count) 0 (apart j before) ∙ first.written j before
     | inr last ↦ let same : j ≡ count = omega arith in
-        subst (λ i. slice_index (set new (at count) (value count)) (at i) ≡ value i) (sym same) (get_or-set_same new (at count) (value count) 0 (let long = first.long in omega arith))
+        subst (λ i. slice_index (set new (at count) (value count)) (at i) ≡ value i) (sym same)
+        (get_or-set_same new (at count) (value count) 0 (let long = first.long in omega arith))
   ];
-  others = λ word away. get_or-set_other new (at count) word (value count) 0 (away count (omega arith)) ∙ first.others word (λ j below. away j (omega arith));
+  others = λ word away. get_or-set_other new (at count) word (value count) 0 (away count (omega arith))
+      ∙ first.others word (λ j below. away j (omega arith));
 } where
   length-set' : length (set new (at count) (value count)) ≡ length old
   length-set' = length-set new (at count) (value count) ∙ first.long
@@ -47,8 +49,10 @@ but_last_has (b ∷ c ∷ cs) zero below = (0, omega arith, refl)
 but_last_has (b ∷ c ∷ cs) (suc j) below = let rest = but_last_has (c ∷ cs) j (omega arith) in (suc rest.0, omega arith, rest.2)
 
 -- a chain is written
-pub written_chain : (old new chain : List ℕ) → AreWritten (λ j. slice_index chain j) (λ j. slice_index chain (suc j)) old new (length chain - 1) → IsChained (slice_index old) (slice_index new) chain
+pub written_chain : (old new chain : List ℕ) → AreWritten (λ j. slice_index chain j) (λ j. slice_index chain (suc j)) old new (length chain - 1)
+    → IsChained (slice_index old) (slice_index new) chain
 written_chain old new chain all = record {
   walks = λ from first. walks_from (slice_index new) chain from first (λ j below. all.written j (omega arith));
-  others = λ word away. all.others word (λ j below same. away (subst (λ w. Contains (but_last chain) w) (sym same) (but_last_has chain j (omega arith))));
+  others = λ word away. all.others word (λ j below same. away (subst (λ w. Contains (but_last chain) w) (sym same)
+      (but_last_has chain j (omega arith))));
 }

@@ -19,7 +19,8 @@ TellsOutsideIn image links (Header cause) = ⊥
 TellsOutsideIn image links (Outside at value) = IsOutsideIn image links at × (value ≡ image at)
 TellsOutsideIn image links Memory = Unit {0}
 
--- The first cause that makes the header of the words bad; or, where it is good, a word that is outside in the current words, and its value. Of want of memory nothing is said.
+-- The first cause that makes the header of the words bad; or, where it is good, a word that is outside in the current
+-- words, and its value. Of want of memory nothing is said.
 abbrev pub TellsFault : Option ℕ → List ℕ → List ℕ → Links → RecoverFault → Type 0
 TellsFault limit words current links (Header cause) = header_fault limit (8 * length words) (slice_index words) ≡ Some cause
 TellsFault limit words current links (Outside at value) =

@@ -45,7 +45,8 @@ pub record HoldsDurably (words : List ℕ) (v : View) : Type 0 where
   pub volatile : v.volatile ≡ words
   pub durable : v.durable ≡ words
 
--- Recovery of the other image keeps the same as that of the one. Its header is good, with kinds below the limit, and nothing in it is outside. The same blocks are
+-- Recovery of the other image keeps the same as that of the one. Its header is good, with kinds below the limit, and
+-- nothing in it is outside. The same blocks are
 -- reached as the same kinds, with the same words, from the same roots of the same kinds. The same superblocks are free.
 pub record RecoversAlike (limit : Option ℕ) (bytes : ℕ) (image other : Image) (links : Links) : Type 0 where
   pub formed : IsWellFormed bytes other

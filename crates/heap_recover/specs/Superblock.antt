@@ -22,7 +22,8 @@ pub record IsRelinked (l : Layout) (kept : Block → Type 0) (d w next : ℕ) : 
   pub partial : IsPartial l kept class d
   pub next_spare : IsNextSpare l kept class d w next
 
--- of the words of superblock d, the first of each block that is not kept leads to the next such block where superblock d is of a class and has kept blocks; each other word stays
+-- of the words of superblock d, the first of each block that is not kept leads to the next such block where superblock
+-- d is of a class and has kept blocks; each other word stays
 pub record LeavesSuperblock (old new : Image) (kept : Block → Type 0) (d : ℕ) : Type 0 where
   pub relinked : (w next : ℕ) → IsRelinked (layout_of old) kept d w next → new w ≡ next
   pub others : (word : ℕ) → start_word (capacity_of old) d ≤ word → word < start_word (capacity_of old) (d + 1)

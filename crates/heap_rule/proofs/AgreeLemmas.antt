@@ -46,14 +46,22 @@ only_then v u w a b = b ∙ ap (λ (z : View). record z { volatile = w.volatile;
 pub only_parts : (v w : View) → RecordsOnly v w → parts_of w ≡ parts_of v
 only_parts v w only = ap parts_of only
 
-pub only_seat : (me me' : Me ℕ SeatViews) (notes : SeatNotes) (capacity : ℕ) {budget : ℕ} (shared : SharedView) (table : TableId) → IsSingleSeat me notes capacity budget → IsAt shared table me' (view_in me'.0)
+pub only_seat : (me me' : Me ℕ SeatViews) (notes : SeatNotes) (capacity : ℕ) {budget : ℕ} (shared : SharedView) (table : TableId)
+    → IsSingleSeat me notes capacity budget → IsAt shared table me' (view_in me'.0)
     → RecordsOnly (view_in me.0) (view_in me'.0) → IsSingleSeat me' notes capacity budget
 only_seat me me' notes capacity shared table old at only =
     let same : (view_in me'.0).setup ≡ (view_in me.0).setup = ap (λ (v : View). v.setup) only in record {
       single = at.single;
       no_slots = at.no_slots;
       kept = keep_fits notes _ (view_in me'.0) only at.has (record {
-        notes_are = let n = old.kept.notes_are in record { ticket = n.ticket; stopped = n.stopped; seen_used = n.seen_used; seen_head = n.seen_head; seen_link = n.seen_link; seen_anchor = n.seen_anchor };
+        notes_are = let n = old.kept.notes_are in record {
+          ticket = n.ticket;
+          stopped = n.stopped;
+          seen_used = n.seen_used;
+          seen_head = n.seen_head;
+          seen_link = n.seen_link;
+          seen_anchor = n.seen_anchor;
+        };
         caches = old.kept.caches;
         batch = old.kept.batch;
       });
@@ -68,30 +76,37 @@ can_settle v word going own = record { going = going; ticket = tt; shown = own }
 may_settle : (v : View) (word value : ℕ) → v.stopped ≡ None → Owns v word → May (learned v word value) (Settle word)
 may_settle v word value going own = may_of (learned v word value) (Settle word) (settle_can v word value (can_settle v word going own))
 
-pub agree_put : (v u : View) (word value place : ℕ) → v.stopped ≡ None → HasSoundState u → place ≡ image_words v.setup.capacity + word → LearnsOwn word value v u → MayPut (Settle word) u place value
+pub agree_put : (v u : View) (word value place : ℕ) → v.stopped ≡ None → HasSoundState u → place ≡ image_words v.setup.capacity + word
+    → LearnsOwn word value v u → MayPut (Settle word) u place value
 agree_put v u word value place going has place_is (is_own own s is u_is) = subst (λ z. MayPut (Settle word) z place value) (sym u_is)
     (may_put (may_settle v word value going own) (place_is ∙ settle_place v word value own) (settle_store v word value own))
 agree_put v u word value place going has place_is (not_own not u_is) = may_not (λ may. not (subst (λ z. Owns z word) u_is (may has).ready))
 
 -- the word is settled by the look
-pub agreed : (v w : SeatView) (u : View) (word value : ℕ) → v.view.stopped ≡ None → LearnsOwn word value v.view u → DoesIfMay (Settle word) u w.view → SettlesOwn word v w
+pub agreed : (v w : SeatView) (u : View) (word value : ℕ) → v.view.stopped ≡ None → LearnsOwn word value v.view u
+    → DoesIfMay (Settle word) u w.view → SettlesOwn word v w
 agreed v w u word value going (is_own own s is u_is) (does found event) =
-    let done = settled_event v.view w.view word value found s is (can_settle v.view word going own) (subst (λ z. IsEvent (Settle word) z found w.view) u_is event) in fences.is_own own done.0 done.1
-agreed v w u word value going (is_own own s is u_is) (does_not not same) = absurd (not (subst (λ z. May z (Settle word)) (sym u_is) (may_settle v.view word value going own)))
+    let done = settled_event v.view w.view word value found s is (can_settle v.view word going own)
+    (subst (λ z. IsEvent (Settle word) z found w.view) u_is event) in fences.is_own own done.0 done.1
+agreed v w u word value going (is_own own s is u_is) (does_not not same) =
+    absurd (not (subst (λ z. May z (Settle word)) (sym u_is) (may_settle v.view word value going own)))
 agreed v w u word value going (not_own not u_is) (does found event) = absurd (not (subst (λ z. Owns z word) u_is event.may.ready))
 agreed v w u word value going (not_own not u_is) (does_not none same) = fences.not_own not (same ∙ u_is)
 
 -- or by the store after it
-settled_then : (v u w : SeatView) (word value n : ℕ) → v.view.stopped ≡ None → LearnsOwn word value v.view u.view → Owns u.view word → IsEvent (Settle word) u.view n w.view → SettlesOwn word v w
+settled_then : (v u w : SeatView) (word value n : ℕ) → v.view.stopped ≡ None → LearnsOwn word value v.view u.view → Owns u.view word
+    → IsEvent (Settle word) u.view n w.view → SettlesOwn word v w
 settled_then v u w word value n going (is_own own s is u_is) owns event =
-    let done = settled_event v.view w.view word value n s is (can_settle v.view word going own) (subst (λ z. IsEvent (Settle word) z n w.view) u_is event) in fences.is_own own done.0 done.1
+    let done = settled_event v.view w.view word value n s is (can_settle v.view word going own)
+    (subst (λ z. IsEvent (Settle word) z n w.view) u_is event) in fences.is_own own done.0 done.1
 settled_then v u w word value n going (not_own not u_is) owns event = absurd (not (subst (λ z. Owns z word) u_is owns))
 
 left_then : (v u w : SeatView) (word value : ℕ) → LearnsOwn word value v.view u.view → (Owns u.view word → ⊥) → w.view ≡ u.view → SettlesOwn word v w
 left_then v u w word value (is_own own s is u_is) none same = absurd (none (subst (λ z. Owns z word) (sym u_is) (own_still v.view word value own)))
 left_then v u w word value (not_own not u_is) none same = fences.not_own not (same ∙ u_is)
 
-pub found_then : (v u w : SeatView) (word value : ℕ) → v.view.stopped ≡ None → LearnsOwn word value v.view u.view → SettlesOwn word u w → SettlesOwn word v w
+pub found_then : (v u w : SeatView) (word value : ℕ) → v.view.stopped ≡ None → LearnsOwn word value v.view u.view → SettlesOwn word u w
+    → SettlesOwn word v w
 found_then v u w word value going looked (fences.is_own own n event) = settled_then v u w word value n going looked own event
 found_then v u w word value going looked (fences.not_own none same) = left_then v u w word value looked none same
 

@@ -29,11 +29,13 @@ use Rattle.heap_rule.proofs.SeatLemmas.{keep_fits}
 use Rattle.heap_rule.proofs.ViewLemmas.{block_class, block_cut}
 
 -- the index of a block in its superblock
-pub block_index : (capacity class d b : ℕ) → IsClass class → IsCutBlock capacity class d b → (b - start_word capacity d) / words_of_class class < 2147483648
+pub block_index : (capacity class d b : ℕ) → IsClass class → IsCutBlock capacity class d b
+    → (b - start_word capacity d) / words_of_class class < 2147483648
 block_index capacity class d b is cut =
     let e : b - start_word capacity d ≡ cut.index * words_of_class class = (let z = cut.at in omega arith) in
     let two = two_words class is in
-    let index_is : (b - start_word capacity d) / words_of_class class ≡ cut.index = ap (λ n. n / words_of_class class) e ∙ mul-div_cancel cut.index {n = words_of_class class} (omega arith) in
+    let index_is : (b - start_word capacity d) / words_of_class class ≡ cut.index = ap (λ n. n / words_of_class class) e
+    ∙ mul-div_cancel cut.index {n = words_of_class class} (omega arith) in
     let l = cut.below in let few = few_blocks class is in omega arith
 
 module _ (v : View) (s : HasSoundState v) (d : ℕ) (of_d : v.batch.descriptor ≡ d) (some : 1 ≤ length v.batch.blocks) where
@@ -68,7 +70,8 @@ module _ (v : View) (s : HasSoundState v) (d : ℕ) (of_d : v.batch.descriptor �
 -- where the anchor is as it was seen it has room for the batch, and becomes what is said
 pub give_exchange : (notes : SeatNotes) (v : View) (d word new : ℕ) → IsKeptOf notes v → CanGive v d → IsThere v.ticket → seen_word v.seen_anchor ≡ word
     → (anchor_state word ≢ 3 → notes.batch.count + anchor_count word ≤ blocks_of notes.batch.class
-    → new ≡ given_anchor word ((notes.batch.first - start_word v.setup.capacity d) / words_of_class notes.batch.class) notes.batch.count (blocks_of notes.batch.class))
+    → new ≡ given_anchor word ((notes.batch.first - start_word v.setup.capacity d) / words_of_class notes.batch.class) notes.batch.count
+    (blocks_of notes.batch.class))
     → IsExchange (Give d) v word new
 give_exchange notes v d word new kept can ticket is new_is s found found_is = by_case (cases_eq found word) where
   m : Memory
@@ -82,47 +85,80 @@ give_exchange notes v d word new kept can ticket is new_is s found found_is = by
       let state = gives.state_fits v.setup m s.views s.seat v s.below s.at s.sound.good ticket d (give_may v s d can) as_seen in
       let room = gives.count_fits v.setup m s.views s.seat v s.below s.at s.sound.good ticket d (give_may v s d can) as_seen in
       let all = gives.count_is v.setup m s.views s.seat v s.below s.at s.sound.good ticket d (give_may v s d can) as_seen in
-      let state_is = ap anchor_state (as_seen ∙ is) in let count_is = ap anchor_count is in let blocks_is = ap blocks_of kept.batch.class in let n = kept.batch.count in
+      let state_is = ap anchor_state (as_seen ∙ is) in let count_is = ap anchor_count is in let blocks_is = ap blocks_of kept.batch.class in
+      let n = kept.batch.count in
       new_is (λ three. omega (arith, three)) (omega arith)
-      ∙ ap (λ x. given_anchor x ((notes.batch.first - start) / words_of_class notes.batch.class) notes.batch.count (blocks_of notes.batch.class)) (sym is)
-      ∙ ap (λ x. given_anchor (seen_word v.seen_anchor) ((x - start) / words_of_class notes.batch.class) notes.batch.count (blocks_of notes.batch.class)) (sym kept.batch.first)
-      ∙ ap (λ x. given_anchor (seen_word v.seen_anchor) ((first_of v.batch.blocks - start) / words_of_class x) notes.batch.count (blocks_of x)) (sym kept.batch.class)
-      ∙ ap (λ x. given_anchor (seen_word v.seen_anchor) ((first_of v.batch.blocks - start) / words_of_class v.batch.class) x (blocks_of v.batch.class)) (sym kept.batch.count)
+      ∙ ap (λ x. given_anchor x ((notes.batch.first - start) / words_of_class notes.batch.class) notes.batch.count
+      (blocks_of notes.batch.class)) (sym is)
+      ∙ ap (λ x. given_anchor (seen_word v.seen_anchor) ((x - start) / words_of_class notes.batch.class) notes.batch.count
+      (blocks_of notes.batch.class)) (sym kept.batch.first)
+      ∙ ap (λ x. given_anchor (seen_word v.seen_anchor) ((first_of v.batch.blocks - start) / words_of_class x) notes.batch.count (blocks_of x))
+      (sym kept.batch.class)
+      ∙ ap (λ x. given_anchor (seen_word v.seen_anchor) ((first_of v.batch.blocks - start) / words_of_class v.batch.class) x
+      (blocks_of v.batch.class)) (sym kept.batch.count)
 
-  by_case : (found ≡ word) ⊎ (found ≢ word) → cond (nat_eq found (seen_word v.seen_anchor)) (batch_anchor v d) found ≡ cond (nat_eq found word) new found
-  by_case (inl same) = hit found (seen_word v.seen_anchor) (batch_anchor v d) found (same ∙ sym is) ∙ sym (becomes (sym found_is ∙ same ∙ sym is)) ∙ sym (hit found word new found same)
+  by_case : (found ≡ word) ⊎ (found ≢ word) → cond (nat_eq found (seen_word v.seen_anchor)) (batch_anchor v d) found ≡ cond
+      (nat_eq found word) new found
+  by_case (inl same) = hit found (seen_word v.seen_anchor) (batch_anchor v d) found (same ∙ sym is)
+      ∙ sym (becomes (sym found_is ∙ same ∙ sym is)) ∙ sym (hit found word new found same)
   by_case (inr other) = missed found (seen_word v.seen_anchor) (batch_anchor v d) found (λ e. other (e ∙ is)) ∙ sym (missed found word new found other)
 
 -- what is kept of a seat that knows less of words
 pub trims : (notes : SeatNotes) (v : View) → Fits notes v → Fits notes (trimmed v)
 trims notes v f = record {
-  notes_are = record { ticket = f.notes_are.ticket; stopped = f.notes_are.stopped; seen_used = f.notes_are.seen_used; seen_head = f.notes_are.seen_head; seen_link = f.notes_are.seen_link; seen_anchor = f.notes_are.seen_anchor };
+  notes_are = record {
+    ticket = f.notes_are.ticket;
+    stopped = f.notes_are.stopped;
+    seen_used = f.notes_are.seen_used;
+    seen_head = f.notes_are.seen_head;
+    seen_link = f.notes_are.seen_link;
+    seen_anchor = f.notes_are.seen_anchor;
+  };
   caches = f.caches;
   batch = f.batch;
 }
 
-pub batch_given : (notes : SeatNotes) (v w : View) (d found word : ℕ) → IsKeptOf notes v → IsEvent (Give d) v found w → HasSoundState w → seen_word v.seen_anchor ≡ word → found ≡ word
+pub batch_given : (notes : SeatNotes) (v w : View) (d found word : ℕ) → IsKeptOf notes v → IsEvent (Give d) v found w → HasSoundState w
+    → seen_word v.seen_anchor ≡ word → found ≡ word
     → IsKeptOf (record notes { ticket = None; seen_anchor = None; batch = empty_batch }) w
 batch_given notes v w d found word kept event has is same =
-    keep_fits _ _ w (event.after ∙ hit found (seen_word v.seen_anchor) (given v d) _ (same ∙ sym is)) has (trims _ _ (by_state (nat_eq (seen_word v.seen_anchor) full_anchor))) where
+    keep_fits _ _ w (event.after ∙ hit found (seen_word v.seen_anchor) (given v d) _ (same ∙ sym is)) has
+    (trims _ _ (by_state (nat_eq (seen_word v.seen_anchor) full_anchor))) where
       x : View
       x = record (won v) { batch = no_batch; seen_anchor = None; gives = v.gives + 1 }
 
       fits : Fits (record notes { ticket = None; seen_anchor = None; batch = empty_batch }) x
       fits = record {
-        notes_are = record { ticket = refl; stopped = kept.notes_are.stopped; seen_used = kept.notes_are.seen_used; seen_head = kept.notes_are.seen_head; seen_link = kept.notes_are.seen_link; seen_anchor = refl };
+        notes_are = record {
+          ticket = refl;
+          stopped = kept.notes_are.stopped;
+          seen_used = kept.notes_are.seen_used;
+          seen_head = kept.notes_are.seen_head;
+          seen_link = kept.notes_are.seen_link;
+          seen_anchor = refl;
+        };
         caches = kept.caches;
         batch = record { descriptor = refl; class = refl; first = refl; last = refl; count = refl; linked = refl };
       }
 
-      by_state : (full : Bool) → Fits (record notes { ticket = None; seen_anchor = None; batch = empty_batch }) (cond full (claimed x d v.batch.class) x)
+      by_state : (full : Bool) → Fits (record notes { ticket = None; seen_anchor = None; batch = empty_batch })
+          (cond full (claimed x d v.batch.class) x)
       by_state true = claims _ x d v.batch.class fits
       by_state false = fits
 
-pub give_lost : (notes : SeatNotes) (v w : View) (d found word : ℕ) → IsKeptOf notes v → IsEvent (Give d) v found w → HasSoundState w → seen_word v.seen_anchor ≡ word → found ≢ word
+pub give_lost : (notes : SeatNotes) (v w : View) (d found word : ℕ) → IsKeptOf notes v → IsEvent (Give d) v found w → HasSoundState w
+    → seen_word v.seen_anchor ≡ word → found ≢ word
     → IsKeptOf (record notes { ticket = None; seen_anchor = None }) w
-give_lost notes v w d found word kept event has is other = keep_fits _ _ w (event.after ∙ missed found (seen_word v.seen_anchor) (given v d) _ (λ e. other (e ∙ is))) has (record {
-  notes_are = record { ticket = refl; stopped = kept.notes_are.stopped; seen_used = kept.notes_are.seen_used; seen_head = kept.notes_are.seen_head; seen_link = kept.notes_are.seen_link; seen_anchor = refl };
-  caches = kept.caches;
-  batch = kept.batch;
-})
+give_lost notes v w d found word kept event has is other = keep_fits _ _ w (event.after
+    ∙ missed found (seen_word v.seen_anchor) (given v d) _ (λ e. other (e ∙ is))) has (record {
+      notes_are = record {
+        ticket = refl;
+        stopped = kept.notes_are.stopped;
+        seen_used = kept.notes_are.seen_used;
+        seen_head = kept.notes_are.seen_head;
+        seen_link = kept.notes_are.seen_link;
+        seen_anchor = refl;
+      };
+      caches = kept.caches;
+      batch = kept.batch;
+    })

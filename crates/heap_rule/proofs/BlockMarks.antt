@@ -18,7 +18,8 @@ pub marked_alike : (marks : List Bool) (f g : ℕ → ℕ) → ((n : ℕ) → g 
 marked_alike marks f g same are n = (λ e. subst (λ m. 0 < m) (sym (same n)) ((are n).0 e), λ some. (are n).1 (subst (λ m. 0 < m) (same n) some))
 
 -- marks to which some numbers came
-pub marked_more : (old new : List Bool) (f g : ℕ → ℕ) (xs : List ℕ) → IsMarking old new xs true → ((n : ℕ) → g n ≡ f n + times n xs) → AreMarked old f → AreMarked new g
+pub marked_more : (old new : List Bool) (f g : ℕ → ℕ) (xs : List ℕ) → IsMarking old new xs true → ((n : ℕ) → g n ≡ f n + times n xs)
+    → AreMarked old f → AreMarked new g
 marked_more old new f g xs marking same are n = elim (cases_lt 0 (times n xs)) as (λ _. (get_or new n false ≡ true) ↔ (0 < g n)) [
   | inl here ↦ (λ e. let s = same n in omega arith, λ some. marking.inside n here)
   | inr none ↦ let s = same n in (
@@ -28,7 +29,8 @@ marked_more old new f g xs marking same are n = elim (cases_lt 0 (times n xs)) a
 ]
 
 -- marks that some numbers, each of which counted once, lost
-pub marked_less : (old new : List Bool) (f g : ℕ → ℕ) (xs : List ℕ) → IsMarking old new xs false → ((n : ℕ) → g n + times n xs ≡ f n) → ((n : ℕ) → f n ≤ 1) → AreMarked old f → AreMarked new g
+pub marked_less : (old new : List Bool) (f g : ℕ → ℕ) (xs : List ℕ) → IsMarking old new xs false → ((n : ℕ) → g n + times n xs ≡ f n)
+    → ((n : ℕ) → f n ≤ 1) → AreMarked old f → AreMarked new g
 marked_less old new f g xs marking same once are n = elim (cases_lt 0 (times n xs)) as (λ _. (get_or new n false ≡ true) ↔ (0 < g n)) [
   | inl here ↦ (λ e. absurd (true≢false (sym e ∙ marking.inside n here)), λ some. absurd (let s = same n in let o = once n in omega arith))
   | inr none ↦ let s = same n in (
@@ -38,13 +40,15 @@ marked_less old new f g xs marking same once are n = elim (cases_lt 0 (times n x
 ]
 
 -- a member of a list by class, after the list of one class is another
-in_set : (lists : List (List ℕ)) (class : ℕ) (xs : List ℕ) (c b : ℕ) → class < length lists → 0 < times b (of_class (set lists class xs) c) → ((c ≡ class) × (0 < times b xs)) ⊎ (0 < times b (of_class lists c))
+in_set : (lists : List (List ℕ)) (class : ℕ) (xs : List ℕ) (c b : ℕ) → class < length lists → 0 < times b (of_class (set lists class xs) c)
+    → ((c ≡ class) × (0 < times b xs)) ⊎ (0 < times b (of_class lists c))
 in_set lists class xs c b less some = elim (cases_eq c class) [
   | inl same ↦ inl (same, subst (λ l. 0 < times b l) (of_class_same lists class xs c same less) some)
   | inr other ↦ inr (subst (λ l. 0 < times b l) (of_class_other lists class xs c other) some)
 ]
 
-module _ (p : OwnedParts) (class : ℕ) (less_small : class < length p.small) (less : class < length p.caches) (some : 1 ≤ length (of_class p.caches class)) where
+module _ (p : OwnedParts) (class : ℕ) (less_small : class < length p.small) (less : class < length p.caches)
+    (some : 1 ≤ length (of_class p.caches class)) where
   abbrev cs : List ℕ
   cs = of_class p.caches class
 
@@ -59,7 +63,8 @@ module _ (p : OwnedParts) (class : ℕ) (less_small : class < length p.small) (l
   alloc_parts = record p { small = set p.small class (first ∷ of_class p.small class); caches = set p.caches class (rest_of cs) }
 
   pub alloc_times : (b : ℕ) → times_had b alloc_parts ≡ times_had b p
-  alloc_times b = let s = total_lists b p.small class (first ∷ of_class p.small class) less_small in let t = total_lists b p.caches class (rest_of cs) less in let c = in_cache b in omega arith
+  alloc_times b = let s = total_lists b p.small class (first ∷ of_class p.small class) less_small in
+      let t = total_lists b p.caches class (rest_of cs) less in let c = in_cache b in omega arith
 
   pub alloc_classes : (classes : List ℕ) → AreClasses classes p → AreClasses classes alloc_parts
   alloc_classes classes are = record {
@@ -81,7 +86,8 @@ module _ (p : OwnedParts) (class : ℕ) (less_small : class < length p.small) (l
   lift_parts = record p { caches = set p.caches class (rest_of cs); batch = p.batch ++ first ∷ []; batch_class = class }
 
   pub lift_times : (b : ℕ) → times_had b lift_parts ≡ times_had b p
-  lift_times b = let t = total_lists b p.caches class (rest_of cs) less in let c = in_cache b in let a = times_append b p.batch (first ∷ []) in omega arith
+  lift_times b = let t = total_lists b p.caches class (rest_of cs) less in let c = in_cache b in let a = times_append b p.batch (first ∷ []) in
+      omega arith
 
   -- the batch is empty, or of the same superblock
   pub lift_classes : (classes : List ℕ) → (1 ≤ length p.batch → p.batch_class ≡ class) → AreClasses classes p → AreClasses classes lift_parts
@@ -101,12 +107,17 @@ module _ (p : OwnedParts) (class : ℕ) (less_small : class < length p.small) (l
     member_some b (x ∷ xs) there = omega arith
 
 -- a held block is in front of the cache of its class
-module _ (p : OwnedParts) (class : ℕ) (block : ℕ) (less_small : class < length p.small) (less : class < length p.caches) (held : 0 < times block (of_class p.small class)) where
+module _ (p : OwnedParts) (class : ℕ) (block : ℕ) (less_small : class < length p.small) (less : class < length p.caches)
+    (held : 0 < times block (of_class p.small class)) where
   abbrev pub free_parts : OwnedParts
-  free_parts = record p { small = set p.small class (without block (of_class p.small class)); caches = set p.caches class (block ∷ of_class p.caches class) }
+  free_parts = record p {
+    small = set p.small class (without block (of_class p.small class));
+    caches = set p.caches class (block ∷ of_class p.caches class);
+  }
 
   pub free_times : (b : ℕ) → times_had b free_parts ≡ times_had b p
-  free_times b = let s = total_lists b p.small class (without block (of_class p.small class)) less_small in let t = total_lists b p.caches class (block ∷ of_class p.caches class) less in
+  free_times b = let s = total_lists b p.small class (without block (of_class p.small class)) less_small in
+      let t = total_lists b p.caches class (block ∷ of_class p.caches class) less in
       let w = times_without b block (of_class p.small class) held in omega arith
 
   pub free_classes : (classes : List ℕ) → AreClasses classes p → AreClasses classes free_parts
@@ -134,7 +145,8 @@ module _ (p : OwnedParts) (class d : ℕ) (xs : List ℕ) (less : class < length
   cached_times b = let t = total_lists b p.caches class xs less in let e = ap (times b) empty in omega arith
 
   pub cached_classes : (classes : List ℕ) → d < length classes → ((b : ℕ) → 0 < times b xs → superblock_at p.capacity b ≡ d)
-      → ((b : ℕ) → 0 < times_had b p → superblock_at p.capacity b ≡ d → get_or classes d 0 ≡ class) → AreClasses classes p → AreClasses (set classes d class) cached_parts
+      → ((b : ℕ) → 0 < times_had b p → superblock_at p.capacity b ≡ d → get_or classes d 0 ≡ class) → AreClasses classes p
+      → AreClasses (set classes d class) cached_parts
   cached_classes classes inside of_d same are = record {
     held = λ c b there. kept b c (are.held c b there) (let t = in_total b c p.small there in omega arith);
     cached = λ c b there. elim (in_set p.caches class xs c b less there) [
@@ -146,8 +158,10 @@ module _ (p : OwnedParts) (class d : ℕ) (xs : List ℕ) (less : class < length
     in_total : (b c : ℕ) (lists : List (List ℕ)) → 0 < times b (of_class lists c) → 0 < total (times b) lists
     in_total b c lists there = in_lists_total b c lists there
 
-    kept : (b c : ℕ) → get_or classes (superblock_at p.capacity b) 0 ≡ c → 0 < times_had b p → get_or (set classes d class) (superblock_at p.capacity b) 0 ≡ c
+    kept : (b c : ℕ) → get_or classes (superblock_at p.capacity b) 0 ≡ c → 0 < times_had b p
+        → get_or (set classes d class) (superblock_at p.capacity b) 0 ≡ c
     kept b c is had = elim (cases_eq (superblock_at p.capacity b) d) [
-      | inl here ↦ ap (λ n. get_or (set classes d class) n 0) here ∙ get_or-set_same classes d class 0 inside ∙ sym (same b had here) ∙ ap (λ n. get_or classes n 0) (sym here) ∙ is
+      | inl here ↦ ap (λ n. get_or (set classes d class) n 0) here ∙ get_or-set_same classes d class 0 inside ∙ sym (same b had here)
+          ∙ ap (λ n. get_or classes n 0) (sym here) ∙ is
       | inr other ↦ get_or-set_other classes d (superblock_at p.capacity b) class 0 other ∙ is
     ]

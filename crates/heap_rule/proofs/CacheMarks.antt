@@ -23,16 +23,19 @@ pub first_at : (bs : List ℕ) (b : ℕ) → 1 ≤ length bs → b ≡ first_of 
 first_at [] b some is = absurd (omega arith)
 first_at (x ∷ bs) b some is = sym is
 
-module _ (v : View) (class : ℕ) (s : HasSoundState v) (i b : ℕ) (less : i < length (of_class v.caches class)) (at : get_or (of_class v.caches class) i b ≡ b) where
+module _ (v : View) (class : ℕ) (s : HasSoundState v) (i b : ℕ) (less : i < length (of_class v.caches class))
+    (at : get_or (of_class v.caches class) i b ≡ b) where
   own : 0 < times_block b v
   own = let t = in_lists_total b class v.caches (entry_times (of_class v.caches class) i b less at) in omega arith
 
   pub cached_below : b < image_words v.setup.capacity
   cached_below = let inside = (block_range v s b own).1 in omega arith
 
-  pub next_at : (found : ℕ) → found ≡ get_or s.words b 0 → i + 1 < length (of_class v.caches class) → get_or (of_class v.caches class) (i + 1) found ≡ found
+  pub next_at : (found : ℕ) → found ≡ get_or s.words b 0 → i + 1 < length (of_class v.caches class)
+      → get_or (of_class v.caches class) (i + 1) found ≡ found
   next_at found is more = subst (λ n. get_or (of_class v.caches class) n found ≡ found) (sym (add-one i))
       (subst (λ n. get_or (of_class v.caches class) (suc i) n ≡ n) (leads ∙ sym is)
-      (walk_on (next (memory_of v.setup.capacity s.words)) (first_of (of_class v.caches class)) (of_class v.caches class) i b ((s.sound.good.blocks s.seat v s.below s.at).cache_linked class) (omega arith) at)) where
+      (walk_on (next (memory_of v.setup.capacity s.words)) (first_of (of_class v.caches class)) (of_class v.caches class) i b
+      ((s.sound.good.blocks s.seat v s.below s.at).cache_linked class) (omega arith) at)) where
         leads : next (memory_of v.setup.capacity s.words) b ≡ get_or s.words b 0
         leads = read_is v.setup.capacity s.words (volatile_at (data_cell b)) (block_cell v s b own)

@@ -30,8 +30,10 @@ module _ (k : Setup) (now kept : List ℕ) (views : List View) (closed : IsClose
   kept_at word less = let long = closed.kept_long in behind_now word ∙ get_or_append_left kept (closed.drawn ∷ []) 0 word (omega arith)
 
   drawn_at : get_or words (2 * image_words k.capacity) 0 ≡ closed.drawn
-  drawn_at = ap (λ n. get_or words n 0) (let twice : 2 * image_words k.capacity ≡ image_words k.capacity + (image_words k.capacity + 0) = omega arith in twice)
-      ∙ behind_now (image_words k.capacity + 0) ∙ ap (λ n. get_or (kept ++ (closed.drawn ∷ [])) (n + 0) 0) (sym closed.kept_long) ∙ get_or-append-add kept (closed.drawn ∷ []) 0 0
+  drawn_at = ap (λ n. get_or words n 0) (let twice : 2 * image_words k.capacity ≡ image_words k.capacity + (image_words k.capacity + 0) =
+      omega arith in twice)
+      ∙ behind_now (image_words k.capacity + 0) ∙ ap (λ n. get_or (kept ++ (closed.drawn ∷ [])) (n + 0) 0) (sym closed.kept_long)
+      ∙ get_or-append-add kept (closed.drawn ∷ []) 0 0
 
   -- the sound state that it is, in which each seat has its last view
   abbrev pub last_state : (i : ℕ) (v : View) → i < length views → get_or views i v ≡ v → v.carries ≡ 0 → HasSoundState v
@@ -46,36 +48,44 @@ module _ (k : Setup) (now kept : List ℕ) (views : List View) (closed : IsClose
     at = at;
   }
 
-  pub mixed_is : (image : Image) → Mixes (slice_index now) (slice_index kept) image → Mixes (volatile_image k.capacity words) (durable_image k.capacity words) image
+  pub mixed_is : (image : Image) → Mixes (slice_index now) (slice_index kept) image
+      → Mixes (volatile_image k.capacity words) (durable_image k.capacity words) image
   mixed_is image mixed =
-      subst (λ (i : Image). Mixes i (durable_image k.capacity words) image) (sym (volatile_is k.capacity now kept closed.drawn closed.now_long closed.kept_long))
-      (subst (λ (i : Image). Mixes (slice_index now) i image) (sym (durable_is k.capacity now kept closed.drawn closed.now_long closed.kept_long)) mixed)
+      subst (λ (i : Image). Mixes i (durable_image k.capacity words) image)
+      (sym (volatile_is k.capacity now kept closed.drawn closed.now_long closed.kept_long))
+      (subst (λ (i : Image). Mixes (slice_index now) i image) (sym (durable_is k.capacity now kept closed.drawn closed.now_long
+      closed.kept_long)) mixed)
 
   pub recorded : Each views (HasRecorded (slice_index now) (slice_index kept))
   recorded i v below at =
       let same = (closed.sound.good.set_up i v below at).setup in
       let capacity = ap (λ (s : Setup). s.capacity) same in
-      subst (λ (image : Image). HasRecorded image (slice_index kept) v) (ap (λ c. volatile_image c words) capacity ∙ volatile_is k.capacity now kept closed.drawn closed.now_long closed.kept_long)
-      (subst (λ (image : Image). HasRecorded (volatile_image v.setup.capacity words) image v) (ap (λ c. durable_image c words) capacity ∙ durable_is k.capacity now kept closed.drawn closed.now_long closed.kept_long)
+      subst (λ (image : Image). HasRecorded image (slice_index kept) v) (ap (λ c. volatile_image c words) capacity
+      ∙ volatile_is k.capacity now kept closed.drawn closed.now_long closed.kept_long)
+      (subst (λ (image : Image). HasRecorded (volatile_image v.setup.capacity words) image v) (ap (λ c. durable_image c words) capacity
+      ∙ durable_is k.capacity now kept closed.drawn closed.now_long closed.kept_long)
       (view_recorded v words views (subst (λ s. Sound s words views) (sym same) closed.sound) i below at))
 
   pub images : (image : Image) → Mixes (slice_index now) (slice_index kept) image → Each views (λ v. v.carries ≡ 0 → IsImageOf v image)
   images image mixed i v below at seat = record {
     has = last_state i v below at seat;
-    mixed = subst (λ c. Mixes (volatile_image c words) (durable_image c words) image) (sym (ap (λ (s : Setup). s.capacity) (closed.sound.good.set_up i v below at).setup)) (mixed_is image mixed);
+    mixed = subst (λ c. Mixes (volatile_image c words) (durable_image c words) image)
+        (sym (ap (λ (s : Setup). s.capacity) (closed.sound.good.set_up i v below at).setup)) (mixed_is image mixed);
   }
 
   pub crashes : (image : Image) → IsCrashImage (slice_index kept) image → Each views (λ v. v.carries ≡ 0 → IsCrashOf v image)
   crashes image crash i v below at seat = record {
     has = last_state i v below at seat;
-    crash = subst (λ (kept : Image). IsCrashImage kept image) (sym (ap (λ (s : Setup). durable_image s.capacity words) (closed.sound.good.set_up i v below at).setup
+    crash = subst (λ (kept : Image). IsCrashImage kept image) (sym
+        (ap (λ (s : Setup). durable_image s.capacity words) (closed.sound.good.set_up i v below at).setup
         ∙ durable_is k.capacity now kept closed.drawn closed.now_long closed.kept_long)) crash;
   }
 
   pub closes : (image : Image) → IsClosedImage (slice_index now) image → Each views (λ v. v.carries ≡ 0 → IsCloseOf v image)
   closes image close i v below at seat = record {
     has = last_state i v below at seat;
-    close = subst (λ (now : Image). IsClosedImage now image) (sym (ap (λ (s : Setup). volatile_image s.capacity words) (closed.sound.good.set_up i v below at).setup
+    close = subst (λ (now : Image). IsClosedImage now image) (sym (ap (λ (s : Setup). volatile_image s.capacity words)
+        (closed.sound.good.set_up i v below at).setup
         ∙ volatile_is k.capacity now kept closed.drawn closed.now_long closed.kept_long)) close;
   }
 
@@ -83,7 +93,8 @@ module _ (k : Setup) (now kept : List ℕ) (views : List View) (closed : IsClose
   taken_in_all = sym (now_at used_word (omega arith)) ∙ closed.sound.good.adds.taken
 
   pub kept_behind : slice_index kept used_word ≤ slice_index now used_word
-  kept_behind = let behind = closed.sound.good.shaped.durable.behind in let a = now_at used_word (omega arith) in let b = kept_at used_word (omega arith) in omega arith
+  kept_behind = let behind = closed.sound.good.shaped.durable.behind in let a = now_at used_word (omega arith) in
+      let b = kept_at used_word (omega arith) in omega arith
 
   pub in_room : slice_index now used_word ≤ k.capacity
   in_room = let room = closed.sound.good.shaped.durable.room in let a = now_at used_word (omega arith) in omega arith

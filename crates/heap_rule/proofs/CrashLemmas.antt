@@ -51,14 +51,18 @@ fixed_lasts c word (inr (inr kind)) lost = kind_lasts c word kind lost
 
 -- the state is no seat's own
 own_not_state : (v : View) (word : ℕ) → IsOwn v (cell_at v.setup.capacity word) → word ≢ state_word
-own_not_state v word own same = let none : 0 < times_own v (cell_at v.setup.capacity 3) = subst (λ n. 0 < times_own v (cell_at v.setup.capacity n)) same own in omega arith
+own_not_state v word own same = let none : 0 < times_own v (cell_at v.setup.capacity 3) =
+    subst (λ n. 0 < times_own v (cell_at v.setup.capacity n)) same own in omega arith
 
 module _ (v : View) (s : HasSoundState v) where
   pub kept_capacity : capacity_of (durable_image v.setup.capacity s.words) ≡ v.setup.capacity
-  kept_capacity = pick (nat_lt 2 (image_words v.setup.capacity)) _ _ (lt-ltb 2 (image_words v.setup.capacity) (omega arith)) ∙ (s.sound.fixed 2 (inl (omega arith))).1 ∙ s.sound.capacity
+  kept_capacity = pick (nat_lt 2 (image_words v.setup.capacity)) _ _ (lt-ltb 2 (image_words v.setup.capacity) (omega arith))
+      ∙ (s.sound.fixed 2 (inl (omega arith))).1 ∙ s.sound.capacity
 
-  lasts : (word : ℕ) → IsOwn v (cell_at v.setup.capacity word) → Lasts (cell_at v.setup.capacity word) → IsTransient (capacity_of (durable_image v.setup.capacity s.words)) word → ⊥
-  lasts word own last lost = lasting v.setup.capacity (cell_at v.setup.capacity word) (own_there v word own) last word (own_index v word own) (subst (λ c. IsTransient c word) kept_capacity lost)
+  lasts : (word : ℕ) → IsOwn v (cell_at v.setup.capacity word) → Lasts (cell_at v.setup.capacity word)
+      → IsTransient (capacity_of (durable_image v.setup.capacity s.words)) word → ⊥
+  lasts word own last lost = lasting v.setup.capacity (cell_at v.setup.capacity word) (own_there v word own) last word (own_index v word own)
+      (subst (λ c. IsTransient c word) kept_capacity lost)
 
 module _ (v : View) (image : Image) (is : IsCrashOf v image) where
   pub crash_named : (b : Block) → IsHeld v b → Names image (8 * b.first_word) b
@@ -67,16 +71,20 @@ module _ (v : View) (image : Image) (is : IsCrashOf v image) where
 
   pub crash_durable : HasDurableRecords v image
   crash_durable = record {
-    each = λ word own last value shows. is.crash.others word (own_not_state v word own) (lasts v is.has word own last) ∙ kept_recorded v is.has word own value shows;
+    each = λ word own last value shows. is.crash.others word (own_not_state v word own) (lasts v is.has word own last)
+        ∙ kept_recorded v is.has word own value shows;
   }
 
   pub crash_fixed : HasFixedWordsButState v.setup image
   crash_fixed = record {
-    each = λ word fixed other. is.crash.others word other (λ lost. fixed_lasts v.setup.capacity word fixed (subst (λ c. IsTransient c word) (kept_capacity v is.has) lost))
-        ∙ pick (nat_lt word (image_words v.setup.capacity)) _ _ (lt-ltb word (image_words v.setup.capacity) (fixed_below v.setup.capacity word fixed)) ∙ (is.has.sound.fixed word fixed).1;
+    each = λ word fixed other. is.crash.others word other (λ lost. fixed_lasts v.setup.capacity word fixed
+        (subst (λ c. IsTransient c word) (kept_capacity v is.has) lost))
+        ∙ pick (nat_lt word (image_words v.setup.capacity)) _ _ (lt-ltb word (image_words v.setup.capacity)
+        (fixed_below v.setup.capacity word fixed)) ∙ (is.has.sound.fixed word fixed).1;
   }
 
-  pub crash_good : IsWellFormed (8 * length v.setup.opened) (slice_index v.setup.opened) → (limit : Option ℕ) → HasKindsBelow limit (slice_index v.setup.opened)
+  pub crash_good : IsWellFormed (8 * length v.setup.opened) (slice_index v.setup.opened) → (limit : Option ℕ)
+      → HasKindsBelow limit (slice_index v.setup.opened)
       → header_fault limit (8 * image_words v.setup.capacity) image ≡ None
   crash_good good = crash_header v.setup is.has.words is.has.views is.has.sound image is.crash good
 
@@ -93,10 +101,12 @@ module _ (v : View) (image : Image) (is : IsCloseOf v image) where
   pub close_fixed : HasFixedWordsButState v.setup image
   close_fixed = record {
     each = λ word fixed other. is.close.others word other
-        ∙ pick (nat_lt word (image_words v.setup.capacity)) _ _ (lt-ltb word (image_words v.setup.capacity) (fixed_below v.setup.capacity word fixed)) ∙ (is.has.sound.fixed word fixed).0;
+        ∙ pick (nat_lt word (image_words v.setup.capacity)) _ _ (lt-ltb word (image_words v.setup.capacity)
+        (fixed_below v.setup.capacity word fixed)) ∙ (is.has.sound.fixed word fixed).0;
   }
 
-  pub close_good : IsWellFormed (8 * length v.setup.opened) (slice_index v.setup.opened) → (limit : Option ℕ) → HasKindsBelow limit (slice_index v.setup.opened)
+  pub close_good : IsWellFormed (8 * length v.setup.opened) (slice_index v.setup.opened) → (limit : Option ℕ)
+      → HasKindsBelow limit (slice_index v.setup.opened)
       → header_fault limit (8 * image_words v.setup.capacity) image ≡ None
   close_good good = closed_header v.setup is.has.words is.has.views is.has.sound image is.close good
 
@@ -130,7 +140,8 @@ crash_value (link_cell d) any kept = any
 crash_value cell any kept = kept
 
 -- it is the kept one, where a crash does not leave the word with any value
-crash_kept : (c word : ℕ) (cell : Cell) → is_cell c cell ≡ true → index_of cell ≡ word → (IsTransient c word → ⊥) → (any kept : ℕ) → crash_value cell any kept ≡ kept
+crash_kept : (c word : ℕ) (cell : Cell) → is_cell c cell ≡ true → index_of cell ≡ word → (IsTransient c word → ⊥) → (any kept : ℕ)
+    → crash_value cell any kept ≡ kept
 unfolding crash_value
 crash_kept c word used_cell is at last any kept = refl
 crash_kept c word (head_cell list) is at last any kept = absurd (last (is_head list word (ltb-true list lists is) (sym at)))
@@ -151,9 +162,12 @@ crash_left c word last any kept = elim (cell_there c word) [
 -- it is any, where a crash does
 crash_any : (c word : ℕ) → IsTransient c word → (any kept : ℕ) → crash_value (cell_at c word) any kept ≡ any
 unfolding crash_value
-crash_any c word (is_head list w few same) any kept = ap (λ n. crash_value (cell_at c n) any kept) same ∙ ap (λ cell. crash_value cell any kept) (cell_at_index c (head_cell list) (lt-ltb list lists few))
-crash_any c word (is_anchor d w less same) any kept = ap (λ n. crash_value (cell_at c n) any kept) same ∙ ap (λ cell. crash_value cell any kept) (cell_at_index c (anchor_cell d) (lt-ltb d c less))
-crash_any c word (is_link d w less same) any kept = ap (λ n. crash_value (cell_at c n) any kept) same ∙ ap (λ cell. crash_value cell any kept) (cell_at_index c (link_cell d) (lt-ltb d c less))
+crash_any c word (is_head list w few same) any kept = ap (λ n. crash_value (cell_at c n) any kept) same
+    ∙ ap (λ cell. crash_value cell any kept) (cell_at_index c (head_cell list) (lt-ltb list lists few))
+crash_any c word (is_anchor d w less same) any kept = ap (λ n. crash_value (cell_at c n) any kept) same
+    ∙ ap (λ cell. crash_value cell any kept) (cell_at_index c (anchor_cell d) (lt-ltb d c less))
+crash_any c word (is_link d w less same) any kept = ap (λ n. crash_value (cell_at c n) any kept) same
+    ∙ ap (λ cell. crash_value cell any kept) (cell_at_index c (link_cell d) (lt-ltb d c less))
 
 module _ (v : View) (s : HasSoundState v) where
   pub some_crash : (any : ℕ → ℕ) → (image : Image) × IsCrashOf v image × HasTransients v.setup.capacity any image
@@ -164,7 +178,8 @@ module _ (v : View) (s : HasSoundState v) where
       crash = record {
         state = refl;
         others = λ word other last. skip (nat_eq word state_word) _ _ (not-eq word state_word other)
-            ∙ crash_left v.setup.capacity word (λ lost. last (subst (λ c. IsTransient c word) (sym (kept_capacity v s)) lost)) (any word) (durable_image v.setup.capacity s.words word);
+            ∙ crash_left v.setup.capacity word (λ lost. last (subst (λ c. IsTransient c word) (sym (kept_capacity v s)) lost)) (any word)
+            (durable_image v.setup.capacity s.words word);
       };
     },
     record {

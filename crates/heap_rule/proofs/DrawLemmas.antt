@@ -31,24 +31,30 @@ module _ (v w : View) (word found : ℕ) (event : IsEvent (Settle word) v found 
   made = record v { volatile = learn v.volatile word x; durable = learn v.durable word x }
 
   long_volatile : word < length v.volatile
-  long_volatile = let s = event.before in let l = (s.sound.good.set_up s.seat v s.below s.at).volatile in let b = own_below v word event.may.ready in omega arith
+  long_volatile = let s = event.before in let l = (s.sound.good.set_up s.seat v s.below s.at).volatile in
+      let b = own_below v word event.may.ready in omega arith
 
   long_durable : word < length v.durable
-  long_durable = let s = event.before in let l = (s.sound.good.set_up s.seat v s.below s.at).durable in let b = own_below v word event.may.ready in omega arith
+  long_durable = let s = event.before in let l = (s.sound.good.set_up s.seat v s.below s.at).durable in
+      let b = own_below v word event.may.ready in omega arith
 
   -- of the word that is settled, the recorded value is that of the word
   value_is : (cell : Cell) (value : ℕ) → is_cell v.setup.capacity cell ≡ true → index_of cell ≡ word → Shows v cell value → x ≡ value
-  value_is cell value is here shows = ap (memory_of v.setup.capacity event.before.words).volatile (sym (ap (cell_at v.setup.capacity) here) ∙ cell_at_index v.setup.capacity cell is) ∙ shown v event.before cell value is shows
+  value_is cell value is here shows = ap (memory_of v.setup.capacity event.before.words).volatile (sym (ap (cell_at v.setup.capacity) here)
+      ∙ cell_at_index v.setup.capacity cell is) ∙ shown v event.before cell value is shows
 
   shows_made : (cell : Cell) (value : ℕ) → is_cell v.setup.capacity cell ≡ true → Shows v cell value → Shows made cell value
   shows_made cell value is shows = elim (cases_eq (index_of cell) word) as (λ _. Shows made cell value) [
-    | inl here ↦ ap (λ n. get_or (set v.volatile word (Some x)) n None) here ∙ get_or-set_same v.volatile word (Some x) None long_volatile ∙ ap Some (value_is cell value is here shows)
+    | inl here ↦ ap (λ n. get_or (set v.volatile word (Some x)) n None) here ∙ get_or-set_same v.volatile word (Some x) None long_volatile
+        ∙ ap Some (value_is cell value is here shows)
     | inr other ↦ get_or-set_other v.volatile word (index_of cell) (Some x) None other ∙ shows
   ]
 
-  durable_made : (cell : Cell) (value : ℕ) → is_cell v.setup.capacity cell ≡ true → Shows v cell value → ShowsDurable v cell value → ShowsDurable made cell value
+  durable_made : (cell : Cell) (value : ℕ) → is_cell v.setup.capacity cell ≡ true → Shows v cell value → ShowsDurable v cell value
+      → ShowsDurable made cell value
   durable_made cell value is shows durable = elim (cases_eq (index_of cell) word) as (λ _. ShowsDurable made cell value) [
-    | inl here ↦ ap (λ n. get_or (set v.durable word (Some x)) n None) here ∙ get_or-set_same v.durable word (Some x) None long_durable ∙ ap Some (value_is cell value is here shows)
+    | inl here ↦ ap (λ n. get_or (set v.durable word (Some x)) n None) here ∙ get_or-set_same v.durable word (Some x) None long_durable
+        ∙ ap Some (value_is cell value is here shows)
     | inr other ↦ get_or-set_other v.durable word (index_of cell) (Some x) None other ∙ durable
   ]
 
@@ -63,7 +69,10 @@ module _ (v w : View) (word found : ℕ) (event : IsEvent (Settle word) v found 
   links_made : (bs : List ℕ) → ((b : ℕ) → 0 < times b bs → is_cell v.setup.capacity (data_cell b) ≡ true) → ShowsLinks v bs → ShowsLinks made bs
   links_made [] cells links = tt
   links_made (b ∷ []) cells links = tt
-  links_made (b ∷ c ∷ bs) cells links = (shows_made (data_cell b) c (cells b (let one = eq-eqb-one b b refl in omega arith)) links.0, links_made (c ∷ bs) (λ y some. cells y (omega arith)) links.1)
+  links_made (b ∷ c ∷ bs) cells links = (
+    shows_made (data_cell b) c (cells b (let one = eq-eqb-one b b refl in omega arith)) links.0,
+    links_made (c ∷ bs) (λ y some. cells y (omega arith)) links.1,
+  )
 
   shift_made : (shift : Option Shift) → CanShift v shift → CanShift made shift
   shift_made None can = tt
@@ -74,21 +83,25 @@ module _ (v w : View) (word found : ℕ) (event : IsEvent (Settle word) v found 
     info_is = shows_made (info_cell d) can.class (info_there v s d can.durable) can.info_is;
     durable_info_is = durable_made (info_cell d) can.class (info_there v s d can.durable) can.info_is can.durable_info_is;
     durable = can.durable;
-    linked = links_made (class_blocks v.setup.capacity can.class d) (λ b some. cut_cell v.setup.capacity can.class d b can.is_class (block_of v.setup.capacity can.class d b some) (below_capacity v s d can.durable)) can.linked;
+    linked = links_made (class_blocks v.setup.capacity can.class d)
+        (λ b some. cut_cell v.setup.capacity can.class d b can.is_class (block_of v.setup.capacity can.class d b some)
+        (below_capacity v s d can.durable)) can.linked;
     uncached = can.uncached;
   }
   shift_made (Some (Alloc class)) can = record { is_class = can.is_class; cached = can.cached }
   shift_made (Some (Free block)) can = record {
     class = can.class;
     held = can.held;
-    linked = λ some. shows_made (data_cell block) _ (block_cell v s block (let t = in_lists_total block can.class v.small can.held in omega arith)) (can.linked some);
+    linked = λ some. shows_made (data_cell block) _ (block_cell v s block (let t = in_lists_total block can.class v.small can.held in
+        omega arith)) (can.linked some);
   }
   shift_made (Some (Lift class)) can = record {
     is_class = can.is_class;
     cached = can.cached;
     same = can.same;
     unchanged = can.unchanged;
-    linked = λ some. shows_made (data_cell (last_of v.batch.blocks)) _ (block_cell v s (last_of v.batch.blocks) (let t = last_there v.batch.blocks some in omega arith)) (can.linked some);
+    linked = λ some. shows_made (data_cell (last_of v.batch.blocks)) _
+        (block_cell v s (last_of v.batch.blocks) (let t = last_there v.batch.blocks some in omega arith)) (can.linked some);
   }
   shift_made (Some (Large d n)) can = record {
     some = can.some;
@@ -106,7 +119,8 @@ module _ (v w : View) (word found : ℕ) (event : IsEvent (Settle word) v found 
   shift_made (Some (Split block)) can = record { held = can.held; first = can.first }
 
   pub settled_can : (shift : Option Shift) → Can v (Tick shift) → Can w (Tick shift)
-  settled_can shift can = subst (λ u. Can u (Tick shift)) (sym event.after) (record { going = can.going; ticket = tt; shown = shift_made shift can.shown })
+  settled_can shift can = subst (λ u. Can u (Tick shift)) (sym event.after)
+      (record { going = can.going; ticket = tt; shown = shift_made shift can.shown })
 
 -- after a word may have been settled
 own_can : (word : ℕ) (v w : SeatView) (shift : Option Shift) → SettlesOwn word v w → Can v.view (Tick shift) → Can w.view (Tick shift)
@@ -127,4 +141,5 @@ early_going r v w (a_store word is settles keeps) = own_going word v w settles
 
 -- an odd number names a store
 pub early_is : (r : ℕ) (recent : List ℕ) (word : Option ℕ) → r % 2 ≢ 0 → slice_get recent (r / 2 % 16) ≡ word → early_word r recent ≡ word
-early_is r recent word odd is = ap (λ b. if b then slice_get recent (r / 2 % 16) else None) (let one : r % 2 ≡ 1 = omega arith in eq-eqb (r % 2) 1 one) ∙ is
+early_is r recent word odd is = ap (λ b. if b then slice_get recent (r / 2 % 16) else None) (let one : r % 2 ≡ 1 = omega arith in
+    eq-eqb (r % 2) 1 one) ∙ is

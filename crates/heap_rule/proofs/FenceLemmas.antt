@@ -39,23 +39,29 @@ module _ (v w : View) (word found : ℕ) (event : IsEvent (Settle word) v found 
   )
 
   long_volatile : word < length v.volatile
-  long_volatile = let s = event.before in let l = (s.sound.good.set_up s.seat v s.below s.at).volatile in let b = own_below v word event.may.ready in omega arith
+  long_volatile = let s = event.before in let l = (s.sound.good.set_up s.seat v s.below s.at).volatile in
+      let b = own_below v word event.may.ready in omega arith
 
   long_durable : word < length v.durable
-  long_durable = let s = event.before in let l = (s.sound.good.set_up s.seat v s.below s.at).durable in let b = own_below v word event.may.ready in omega arith
+  long_durable = let s = event.before in let l = (s.sound.good.set_up s.seat v s.below s.at).durable in
+      let b = own_below v word event.may.ready in omega arith
 
   pub is_durable : IsRecordedDurable w word
   is_durable = subst (λ u. IsRecordedDurable u word) (sym event.after) (record {
     value = x;
-    volatile = ap (λ n. get_or (set v.volatile word (Some x)) n None) (own_index v word event.may.ready) ∙ get_or-set_same v.volatile word (Some x) None long_volatile;
-    durable = ap (λ n. get_or (set v.durable word (Some x)) n None) (own_index v word event.may.ready) ∙ get_or-set_same v.durable word (Some x) None long_durable;
+    volatile = ap (λ n. get_or (set v.volatile word (Some x)) n None) (own_index v word event.may.ready)
+        ∙ get_or-set_same v.volatile word (Some x) None long_volatile;
+    durable = ap (λ n. get_or (set v.durable word (Some x)) n None) (own_index v word event.may.ready)
+        ∙ get_or-set_same v.durable word (Some x) None long_durable;
   })
 
   -- of another own word the same is recorded
   pub other_kept : (k : ℕ) → k ≢ word → Owns v k → KeepsRecords v w k
   other_kept k other own = subst (λ u. KeepsRecords v u k) (sym event.after) (record {
-    volatile = ap (λ n. get_or (set v.volatile word (Some x)) n None) (own_index v k own) ∙ get_or-set_other v.volatile word k (Some x) None other ∙ sym (ap (λ n. get_or v.volatile n None) (own_index v k own));
-    durable = ap (λ n. get_or (set v.durable word (Some x)) n None) (own_index v k own) ∙ get_or-set_other v.durable word k (Some x) None other ∙ sym (ap (λ n. get_or v.durable n None) (own_index v k own));
+    volatile = ap (λ n. get_or (set v.volatile word (Some x)) n None) (own_index v k own)
+        ∙ get_or-set_other v.volatile word k (Some x) None other ∙ sym (ap (λ n. get_or v.volatile n None) (own_index v k own));
+    durable = ap (λ n. get_or (set v.durable word (Some x)) n None) (own_index v k own) ∙ get_or-set_other v.durable word k (Some x) None other
+        ∙ sym (ap (λ n. get_or v.durable n None) (own_index v k own));
   })
 
   pub stays_durable : (k : ℕ) → Owns v k → IsRecordedDurable v k → IsRecordedDurable w k
@@ -71,24 +77,28 @@ module _ (v w : View) (word found : ℕ) (event : IsEvent (Settle word) v found 
   -- what loads see of an own word stays as it was recorded
   pub stays_seen : (k value : ℕ) → Owns v k → Shows v (cell_at v.setup.capacity k) value → Shows w (cell_at v.setup.capacity k) value
   stays_seen k value own before = elim (cases_eq k word) as (λ _. Shows w (cell_at v.setup.capacity k) value) [
-    | inl same ↦ subst (λ z. Shows w (cell_at v.setup.capacity z) value) (sym same) (here (subst (λ z. Shows v (cell_at v.setup.capacity z) value) same before))
+    | inl same ↦ subst (λ z. Shows w (cell_at v.setup.capacity z) value) (sym same)
+        (here (subst (λ z. Shows v (cell_at v.setup.capacity z) value) same before))
     | inr other ↦ (other_kept k other own).volatile ∙ before
   ] where
     here : Shows v (cell_at v.setup.capacity word) value → Shows w (cell_at v.setup.capacity word) value
     here is = subst (λ u. Shows u (cell_at v.setup.capacity word) value) (sym event.after) (
-        ap (λ n. get_or (set v.volatile word (Some x)) n None) (own_index v word event.may.ready) ∙ get_or-set_same v.volatile word (Some x) None long_volatile
+        ap (λ n. get_or (set v.volatile word (Some x)) n None) (own_index v word event.may.ready)
+        ∙ get_or-set_same v.volatile word (Some x) None long_volatile
         ∙ ap Some (shown v event.before (cell_at v.setup.capacity word) value (own_there v word event.may.ready) is))
 
   pub rest_stays : w ≡ record v { volatile = w.volatile; durable = w.durable }
   rest_stays = subst (λ u. u ≡ record v { volatile = u.volatile; durable = u.durable }) (sym event.after) refl
 
-settles_one_more : (v u w : View) (words : List ℕ) (word found : ℕ) → Settles v words u → IsEvent (Settle word) u found w → Settles v (words ++ word ∷ []) w
+settles_one_more : (v u w : View) (words : List ℕ) (word found : ℕ) → Settles v words u → IsEvent (Settle word) u found w
+    → Settles v (words ++ word ∷ []) w
 settles_one_more v u w [] word found is event = (w, (found, subst (λ z. IsEvent (Settle word) z found w) is event), refl)
 settles_one_more v u w (y ∷ words) word found is event = (is.0, is.1, settles_one_more is.0 u w words word found is.2 event)
 
 -- what a word's settling says speaks of the view alone
 pub settles_at : (word : ℕ) (u v w : SeatView) → u.view ≡ v.view → SettlesOwn word u w → SettlesOwn word v w
-settles_at word u v w same (is_own own found event) = is_own (subst (λ z. Owns z word) same own) found (subst (λ z. IsEvent (Settle word) z found w.view) same event)
+settles_at word u v w same (is_own own found event) = is_own (subst (λ z. Owns z word) same own) found
+    (subst (λ z. IsEvent (Settle word) z found w.view) same event)
 settles_at word u v w same (not_own not kept) = not_own (λ own. not (subst (λ z. Owns z word) (sym same) own)) (kept ∙ same)
 
 keeps_then : (v u w : View) (k : ℕ) → u.setup ≡ v.setup → KeepsRecords v u k → KeepsRecords u w k → KeepsRecords v w k
@@ -115,9 +125,21 @@ pub record IsRow (v w : SeatView) (words : List ℕ) : Type 0 where
   pub stores : w.stores ≡ v.stores
 
 pub row_start : (v : SeatView) → IsRow v v []
-row_start v = record { settles = refl; own = λ k. (λ o. o, λ o. o); in_row = λ k some. absurd (omega arith); seen = λ k value own is. is; others = λ k own none. record { volatile = refl; durable = refl }; rest = refl; all = λ k marked own. inr marked; left = λ k marked. marked; going = refl; stores = refl }
+row_start v = record {
+  settles = refl;
+  own = λ k. (λ o. o, λ o. o);
+  in_row = λ k some. absurd (omega arith);
+  seen = λ k value own is. is;
+  others = λ k own none. record { volatile = refl; durable = refl };
+  rest = refl;
+  all = λ k marked own. inr marked;
+  left = λ k marked. marked;
+  going = refl;
+  stores = refl;
+}
 
-module _ (v u w : SeatView) (words : List ℕ) (word : ℕ) (row : IsRow v u words) (marked : IsMarked u.marks word) (stores : w.stores ≡ u.stores) (marks : w.marks ≡ set u.marks word false) where
+module _ (v u w : SeatView) (words : List ℕ) (word : ℕ) (row : IsRow v u words) (marked : IsMarked u.marks word) (stores : w.stores ≡ u.stores)
+    (marks : w.marks ≡ set u.marks word false) where
   other_mark : (k : ℕ) → k ≢ word → mark_at w.marks k ≡ mark_at u.marks k
   other_mark k other = ap (λ l. get_or l k false) marks ∙ get_or-set_other u.marks word k false false other
 
@@ -138,14 +160,19 @@ module _ (v u w : SeatView) (words : List ℕ) (word : ℕ) (row : IsRow v u wor
       own = λ k. let a = owns_after u.view w.view word found event k in let b = row.own k in (λ o. b.0 (a.0 o), λ o. a.1 (b.1 o));
       in_row = λ k some. elim (cases_lt 0 (times k words)) [
         | inl old ↦ let r = row.in_row k old in (r.0, r.1, stays_durable u.view w.view word found event k ((row.own k).1 r.1) r.2)
-        | inr none ↦ let here = is_word k (let a = times_append k words (word ∷ []) in omega arith) in
-            (subst (IsMarked v.marks) here (row.left word marked), subst (Owns v.view) here ((row.own word).0 own), subst (IsRecordedDurable w.view) here (is_durable u.view w.view word found event))
+        | inr none ↦ let here = is_word k (let a = times_append k words (word ∷ []) in omega arith) in (
+          subst (IsMarked v.marks) here (row.left word marked),
+          subst (Owns v.view) here ((row.own word).0 own),
+          subst (IsRecordedDurable w.view) here (is_durable u.view w.view word found event),
+        )
       ];
       seen = λ k value owned is. subst (λ (s : Setup). Shows w.view (cell_at s.capacity k) value) same_setup
-          (stays_seen u.view w.view word found event k value ((row.own k).1 owned) (subst (λ (s : Setup). Shows u.view (cell_at s.capacity k) value) (sym same_setup) (row.seen k value owned is)));
+          (stays_seen u.view w.view word found event k value ((row.own k).1 owned)
+          (subst (λ (s : Setup). Shows u.view (cell_at s.capacity k) value) (sym same_setup) (row.seen k value owned is)));
       others = λ k owned none. elim (cases_eq k word) as (λ _. KeepsRecords v.view w.view k) [
         | inl same ↦ absurd (none (subst (IsMarked v.marks) (sym same) (row.left word marked)))
-        | inr other ↦ keeps_then v.view u.view w.view k same_setup (row.others k owned none) (other_kept u.view w.view word found event k other ((row.own k).1 owned))
+        | inr other ↦ keeps_then v.view u.view w.view k same_setup (row.others k owned none)
+            (other_kept u.view w.view word found event k other ((row.own k).1 owned))
       ];
       rest = rest_then v.view u.view w.view row.rest (rest_stays u.view w.view word found event);
       all = λ k m o. elim (cases_eq k word) as (λ _. (0 < times k (words ++ word ∷ [])) ⊎ IsMarked w.marks k) [

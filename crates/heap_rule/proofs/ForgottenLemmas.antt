@@ -9,11 +9,13 @@ pub head_forgotten : (event : Event) (t : SeatNotes) → (event ≡ Pop) ⊎ ((d
 head_forgotten event t (inl is) = subst (λ e. record t { seen_head = None } ≡ forgotten e t) (sym is) refl
 head_forgotten event t (inr is) = subst (λ e. record t { seen_head = None } ≡ forgotten e t) (sym is.1) refl
 
-pub anchor_forgotten : (event : Event) (t : SeatNotes) → ((d : ℕ) × (event ≡ TakeAll d)) ⊎ ((d : ℕ) × (event ≡ Give d)) → record t { seen_anchor = None } ≡ forgotten event t
+pub anchor_forgotten : (event : Event) (t : SeatNotes) → ((d : ℕ) × (event ≡ TakeAll d)) ⊎ ((d : ℕ) × (event ≡ Give d))
+    → record t { seen_anchor = None } ≡ forgotten event t
 anchor_forgotten event t (inl is) = subst (λ e. record t { seen_anchor = None } ≡ forgotten e t) (sym is.1) refl
 anchor_forgotten event t (inr is) = subst (λ e. record t { seen_anchor = None } ≡ forgotten e t) (sym is.1) refl
 
-pub nothing_forgotten : (event : Event) (t : SeatNotes) → ((n : ℕ) → event ≢ TakeFresh n) → event ≢ Pop → ((d : ℕ) → event ≢ Push d) → ((d : ℕ) → event ≢ TakeAll d) → ((d : ℕ) → event ≢ Give d)
+pub nothing_forgotten : (event : Event) (t : SeatNotes) → ((n : ℕ) → event ≢ TakeFresh n) → event ≢ Pop → ((d : ℕ) → event ≢ Push d)
+    → ((d : ℕ) → event ≢ TakeAll d) → ((d : ℕ) → event ≢ Give d)
     → t ≡ forgotten event t
 nothing_forgotten (TakeFresh n) t fresh pop push take give = absurd (fresh n refl)
 nothing_forgotten Pop t fresh pop push take give = absurd (pop refl)

@@ -18,32 +18,37 @@ pub missed : {A : Type 0} (found seen : ℕ) (x y : A) → found ≢ seen → co
 missed found seen x y other = ap (λ b. cond b x y) (ne_eqb found seen other)
 
 -- after the mark is exchanged
-pub fresh_taken : (notes : SeatNotes) (v w : View) (n found used new : ℕ) (anchor : Option Seen) → IsKeptOf notes v → IsEvent (TakeFresh n) v found w → HasSoundState w → seen v.seen_used ≡ used → found ≡ used → new ≡ used + n
-    → snapshot anchor ≡ cleared used n (snapshot notes.seen_anchor) → IsKeptOf (record notes { ticket = None; seen_used = Some new; seen_anchor = anchor }) w
-fresh_taken notes v w n found used new anchor kept event has is same new_is cleared_is = keep_fits _ _ w (event.after ∙ hit found (seen v.seen_used) (taken_fresh v n) _ (same ∙ sym is)) has (record {
-  notes_are = record {
-    ticket = refl;
-    stopped = kept.notes_are.stopped;
-    seen_used = ap Some (ap (λ x. x + n) is ∙ sym new_is);
-    seen_head = kept.notes_are.seen_head;
-    seen_link = kept.notes_are.seen_link;
-    seen_anchor = ap (cleared (seen v.seen_used) n) kept.notes_are.seen_anchor ∙ ap (λ u. cleared u n (snapshot notes.seen_anchor)) is ∙ sym cleared_is;
-  };
-  caches = kept.caches;
-  batch = kept.batch;
-})
+pub fresh_taken : (notes : SeatNotes) (v w : View) (n found used new : ℕ) (anchor : Option Seen) → IsKeptOf notes v
+    → IsEvent (TakeFresh n) v found w → HasSoundState w → seen v.seen_used ≡ used → found ≡ used → new ≡ used + n
+    → snapshot anchor ≡ cleared used n (snapshot notes.seen_anchor)
+    → IsKeptOf (record notes { ticket = None; seen_used = Some new; seen_anchor = anchor }) w
+fresh_taken notes v w n found used new anchor kept event has is same new_is cleared_is =
+    keep_fits _ _ w (event.after ∙ hit found (seen v.seen_used) (taken_fresh v n) _ (same ∙ sym is)) has (record {
+      notes_are = record {
+        ticket = refl;
+        stopped = kept.notes_are.stopped;
+        seen_used = ap Some (ap (λ x. x + n) is ∙ sym new_is);
+        seen_head = kept.notes_are.seen_head;
+        seen_link = kept.notes_are.seen_link;
+        seen_anchor = ap (cleared (seen v.seen_used) n) kept.notes_are.seen_anchor ∙ ap (λ u. cleared u n (snapshot notes.seen_anchor)) is ∙ sym cleared_is;
+      };
+      caches = kept.caches;
+      batch = kept.batch;
+    })
 
-pub fresh_lost : (notes : SeatNotes) (v w : View) (n found used : ℕ) → IsKeptOf notes v → IsEvent (TakeFresh n) v found w → HasSoundState w → seen v.seen_used ≡ used → found ≢ used
+pub fresh_lost : (notes : SeatNotes) (v w : View) (n found used : ℕ) → IsKeptOf notes v → IsEvent (TakeFresh n) v found w → HasSoundState w
+    → seen v.seen_used ≡ used → found ≢ used
     → IsKeptOf (record notes { ticket = None; seen_used = None }) w
-fresh_lost notes v w n found used kept event has is other = keep_fits _ _ w (event.after ∙ missed found (seen v.seen_used) (taken_fresh v n) _ (λ e. other (e ∙ is))) has (record {
-  notes_are = record {
-    ticket = refl;
-    stopped = kept.notes_are.stopped;
-    seen_used = refl;
-    seen_head = kept.notes_are.seen_head;
-    seen_link = kept.notes_are.seen_link;
-    seen_anchor = kept.notes_are.seen_anchor;
-  };
-  caches = kept.caches;
-  batch = kept.batch;
-})
+fresh_lost notes v w n found used kept event has is other = keep_fits _ _ w (event.after
+    ∙ missed found (seen v.seen_used) (taken_fresh v n) _ (λ e. other (e ∙ is))) has (record {
+      notes_are = record {
+        ticket = refl;
+        stopped = kept.notes_are.stopped;
+        seen_used = refl;
+        seen_head = kept.notes_are.seen_head;
+        seen_link = kept.notes_are.seen_link;
+        seen_anchor = kept.notes_are.seen_anchor;
+      };
+      caches = kept.caches;
+      batch = kept.batch;
+    })

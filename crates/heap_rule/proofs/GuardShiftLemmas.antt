@@ -74,7 +74,8 @@ module _ (v : View) (s : HasSoundState v) where
     durable = let floor = (s.sound.good.knows s.seat v s.below s.at).floor in let low = can.durable in omega arith;
     first = info_is d (omega arith) (let some = can.some in omega arith) ∙ ap (λ t. cond t (large_info n) 0) (eq-eqb d d refl);
     others = λ e from until. info_is e (omega arith) until ∙ ap (λ t. cond t (large_info n) 0) (ne_eqb e d (λ same. omega (arith, same)));
-    durable_infos = λ e from until. shown_durable v s (info_cell e) _ (there e until) (can.each e from until).durable_info_is ∙ sym (info_is e from until);
+    durable_infos = λ e from until. shown_durable v s (info_cell e) _ (there e until) (can.each e from until).durable_info_is
+        ∙ sym (info_is e from until);
   } where
     there : (e : ℕ) → e < d + n → is_cell v.setup.capacity (info_cell e) ≡ true
     there e until = info_there v s e (let low = can.durable in omega arith)

@@ -13,7 +13,8 @@ first_of : (seats : List SeatView) → 0 < length seats → SeatView
 first_of [] some = absurd (omega (arith, some))
 first_of (seat ∷ seats) some = seat
 
-module _ (shared : SharedView) (seats : List SeatView) (are : AreSeatsOf shared seats) (none : (seat : SeatView) → Contains seats seat → role seat.view ≡ no_role) where
+module _ (shared : SharedView) (seats : List SeatView) (are : AreSeatsOf shared seats) (none : (seat : SeatView) → Contains seats seat
+    → role seat.view ≡ no_role) where
   role_of : (v : View) → Contains (views_of seats) v → role v ≡ no_role
   role_of v there =
       let below : there.0 < length seats = subst (λ n. there.0 < n) (length-map seats (λ (seat : SeatView). seat.view)) there.1 in

@@ -47,7 +47,8 @@ module _ (v : View) (s : HasSoundState v) where
       let behind = s.sound.good.shaped.durable.behind in let room = s.sound.good.shaped.durable.room in
       record { some = omega arith; from = omega arith; until = omega arith; low = omega arith }
 
-  pub marks_in_order : (durable_used (memory_of v.setup.capacity s.words) ≤ used (memory_of v.setup.capacity s.words)) × (used (memory_of v.setup.capacity s.words) ≤ v.setup.capacity)
+  pub marks_in_order : (durable_used (memory_of v.setup.capacity s.words) ≤ used (memory_of v.setup.capacity s.words))
+      × (used (memory_of v.setup.capacity s.words) ≤ v.setup.capacity)
       × (v.setup.capacity ≤ largest_capacity)
   marks_in_order = (s.sound.good.shaped.durable.behind, s.sound.good.shaped.durable.room, s.sound.good.small)
 
@@ -68,17 +69,23 @@ module _ (v : View) (s : HasSoundState v) where
   held_cell b held word within =
       let placed = held_placed b held in
       let from = placed.from in let until = placed.until in let low = placed.low in let first = within.from in let last = within.until in
-      cell_at_index v.setup.capacity (data_cell word) (and_is (nat_le (start_word v.setup.capacity 0) word) (nat_lt word (superblocks_end v.setup.capacity))
+      cell_at_index v.setup.capacity (data_cell word) (and_is (nat_le (start_word v.setup.capacity 0) word)
+      (nat_lt word (superblocks_end v.setup.capacity))
       (le-leb (start_word v.setup.capacity 0) word (omega arith)) (lt-ltb word (superblocks_end v.setup.capacity) (omega arith)))
 
   held_own : (b : Block) → IsHeld v b → (word : ℕ) → IsIn b word → 0 < times_own v (data_cell word)
   held_own b (a_small class first there) word within = let from = within.from in let until = within.until in
-      let own = in_classes_word word first 0 class v.small from (let e = ap words_of_class (let p : class ≡ 0 + class = omega arith in p) in omega arith) there in omega arith
+      let own = in_classes_word word first 0 class v.small from (let e = ap words_of_class (let p : class ≡ 0 + class = omega arith in p) in
+      omega arith) there in omega arith
   held_own b (a_large d n some count) word within = let from = within.from in let until = within.until in
       let own = span_covers d (superblock_at v.setup.capacity word) v.large (omega arith) (omega arith) (omega arith) in omega arith
 
-  pub block_words_own : (b : Block) → IsHeld v b → (word : ℕ) → IsIn b word → IsOwn v (cell_at v.setup.capacity word) × Lasts (cell_at v.setup.capacity word)
-  block_words_own b held word within = subst (λ (cell : Cell). IsOwn v cell × Lasts cell) (sym (held_cell b held word within)) (held_own b held word within, a_data word)
+  pub block_words_own : (b : Block) → IsHeld v b → (word : ℕ) → IsIn b word → IsOwn v (cell_at v.setup.capacity word)
+      × Lasts (cell_at v.setup.capacity word)
+  block_words_own b held word within = subst (λ (cell : Cell). IsOwn v cell × Lasts cell) (sym (held_cell b held word within))
+      (held_own b held word within, a_data word)
 
-pub root_own : (v : View) (n : ℕ) → n < roots → 0 < times n v.roots → IsOwn v (cell_at v.setup.capacity (root_word n)) × Lasts (cell_at v.setup.capacity (root_word n))
-root_own v n less own = subst (λ (cell : Cell). IsOwn v cell × Lasts cell) (sym (cell_at_index v.setup.capacity (root_cell n) (lt-ltb n roots less))) (own, a_root n)
+pub root_own : (v : View) (n : ℕ) → n < roots → 0 < times n v.roots → IsOwn v (cell_at v.setup.capacity (root_word n))
+    × Lasts (cell_at v.setup.capacity (root_word n))
+root_own v n less own = subst (λ (cell : Cell). IsOwn v cell × Lasts cell)
+    (sym (cell_at_index v.setup.capacity (root_cell n) (lt-ltb n roots less))) (own, a_root n)

@@ -18,12 +18,15 @@ use Rattle.heap_rule.specs.Held.{IsHeldByOne}
 
 -- a carrier whose block was accepted holds none
 holds_none : (v : View) (b : Block) → IsEmptied v → IsHeld v b → ⊥
-holds_none v b emptied (a_small class first there) = let t = in_lists_total first class v.small there in let z = ap (total (times first)) emptied.held.0 in omega arith
+holds_none v b emptied (a_small class first there) = let t = in_lists_total first class v.small there in
+    let z = ap (total (times first)) emptied.held.0 in omega arith
 holds_none v b emptied (a_large d n some is) = let z = ap (span_count d) emptied.held.1 in omega arith
 
-module _ (k : Setup) (words : List ℕ) (views : List View) (sound : Sound k words views) (counted : AreSeatsAndCarriers k views) (b : Block) (held : IsHeldBy views b) where
+module _ (k : Setup) (words : List ℕ) (views : List View) (sound : Sound k words views) (counted : AreSeatsAndCarriers k views) (b : Block)
+    (held : IsHeldBy views b) where
   has_words : 1 ≤ b.words
-  has_words = let two = block_words (layout_of (durable_image k.capacity words)) b ((firm k words views sound).each (durable_image k.capacity words) (record { each = λ word. inr refl }) b held).block in omega arith
+  has_words = let two = block_words (layout_of (durable_image k.capacity words)) b
+      ((firm k words views sound).each (durable_image k.capacity words) (record { each = λ word. inr refl }) b held).block in omega arith
 
   pub one_holder : IsHeldByOne views b
   one_holder = record {
@@ -34,14 +37,16 @@ module _ (k : Setup) (words : List ℕ) (views : List View) (sound : Sound k wor
     holds = held.holds;
     is = elim (counted.each held.view (held.seat, held.below, held.at)) [
       | inl seat ↦ inl seat
-      | inr other ↦ elim other as (λ _. (held.view.carries ≡ 0) ⊎ IsCarrier held.view) [ inl carrier ↦ inr carrier | inr emptied ↦ absurd (holds_none held.view b emptied held.holds) ]
+      | inr other ↦ elim other as (λ _. (held.view.carries ≡ 0) ⊎ IsCarrier held.view)
+          [ inl carrier ↦ inr carrier | inr emptied ↦ absurd (holds_none held.view b emptied held.holds) ]
     ];
     alone = λ j u below at holds. elim (cases_eq j held.seat) as (λ _. j ≡ held.seat) [
       | inl same ↦ same
-      | inr other ↦ elim ((held_once k words views sound).by_two held.seat j held.view u other held.below held.at below at b b held.holds holds) as (λ _. j ≡ held.seat) [
-        | inl before ↦ absurd (let some = has_words in omega arith)
-        | inr behind ↦ absurd (let some = has_words in omega arith)
-      ]
+      | inr other ↦ elim ((held_once k words views sound).by_two held.seat j held.view u other held.below held.at below at b b held.holds holds)
+          as (λ _. j ≡ held.seat) [
+            | inl before ↦ absurd (let some = has_words in omega arith)
+            | inr behind ↦ absurd (let some = has_words in omega arith)
+          ]
     ];
   }
 

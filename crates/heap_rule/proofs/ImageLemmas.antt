@@ -11,7 +11,8 @@ module _ (c : ℕ) (now kept : List ℕ) (drawn : ℕ) (long_now : length now �
   volatile_is = λ j word. at word j where
     at : (word : ℕ) → volatile_image c (now ++ (kept ++ (drawn ∷ []))) word ≡ slice_index now word
     at word = elim (cases_lt word (image_words c)) [
-      | inl inside ↦ pick (nat_lt word (image_words c)) _ _ (lt-ltb word (image_words c) inside) ∙ get_or_append_left now (kept ++ (drawn ∷ [])) 0 word (omega arith)
+      | inl inside ↦ pick (nat_lt word (image_words c)) _ _ (lt-ltb word (image_words c) inside)
+          ∙ get_or_append_left now (kept ++ (drawn ∷ [])) 0 word (omega arith)
       | inr past ↦ skip (nat_lt word (image_words c)) _ _ (not-lt word (image_words c) past) ∙ sym (get_or_past now word 0 (omega arith))
     ]
 
@@ -20,6 +21,7 @@ module _ (c : ℕ) (now kept : List ℕ) (drawn : ℕ) (long_now : length now �
     at : (word : ℕ) → durable_image c (now ++ (kept ++ (drawn ∷ []))) word ≡ slice_index kept word
     at word = elim (cases_lt word (image_words c)) [
       | inl inside ↦ pick (nat_lt word (image_words c)) _ _ (lt-ltb word (image_words c) inside)
-          ∙ ap (λ n. get_or (now ++ (kept ++ (drawn ∷ []))) (n + word) 0) (sym long_now) ∙ get_or-append-add now (kept ++ (drawn ∷ [])) word 0 ∙ get_or_append_left kept (drawn ∷ []) 0 word (omega arith)
+          ∙ ap (λ n. get_or (now ++ (kept ++ (drawn ∷ []))) (n + word) 0) (sym long_now) ∙ get_or-append-add now (kept ++ (drawn ∷ [])) word 0
+          ∙ get_or_append_left kept (drawn ∷ []) 0 word (omega arith)
       | inr past ↦ skip (nat_lt word (image_words c)) _ _ (not-lt word (image_words c) past) ∙ sym (get_or_past kept word 0 (omega arith))
     ]

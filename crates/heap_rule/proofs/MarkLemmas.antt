@@ -14,13 +14,15 @@ times_next n i [] x less at = absurd (omega arith)
 times_next n zero (y ∷ ys) x less at = let e = ap (λ z. times n (z ∷ [])) at in omega arith
 times_next n (suc i) (y ∷ ys) x less at = let rest = times_next n i ys x (omega arith) at in omega arith
 
-pub marking_step : (old new : List Bool) (xs : List ℕ) (mark : Bool) (i x : ℕ) → IsMarking old new (take i xs) mark → i < length xs → get_or xs i x ≡ x → x < length new
+pub marking_step : (old new : List Bool) (xs : List ℕ) (mark : Bool) (i x : ℕ) → IsMarking old new (take i xs) mark → i < length xs
+    → get_or xs i x ≡ x → x < length new
     → IsMarking old (set new x mark) (take (i + 1) xs) mark
 marking_step old new xs mark i x m less at inside = subst (λ k. IsMarking old (set new x mark) (take k xs) mark) (sym (add-one i)) (record {
   long = length-set new x mark ∙ m.long;
   inside = λ n some. elim (cases_eq n x) as (λ _. get_or (set new x mark) n false ≡ mark) [
     | inl here ↦ ap (λ k. get_or (set new x mark) k false) here ∙ get_or-set_same new x mark false inside
-    | inr other ↦ get_or-set_other new x n mark false other ∙ m.inside n (let t = times_next n i xs x less at in let z = ne-eqb-none x n (λ h. other (sym h)) in omega arith)
+    | inr other ↦ get_or-set_other new x n mark false other ∙ m.inside n (let t = times_next n i xs x less at in
+        let z = ne-eqb-none x n (λ h. other (sym h)) in omega arith)
   ];
   outside = λ n none. let t = times_next n i xs x less at in
       get_or-set_other new x n mark false (λ here. let one = eq-eqb-one x n (sym here) in absurd (omega arith)) ∙ m.outside n (omega arith);
@@ -35,14 +37,16 @@ entry_times (y ∷ ys) (suc i) x less at = let rest = entry_times ys i x (omega 
 pub staking_start : (ownerships : List Ownership) (from : ℕ) (x : Ownership) → HaveOwnership ownerships ownerships from 0 x
 staking_start ownerships from x = record { long = refl; inside = λ d low high. absurd (omega arith); outside = λ d out. refl }
 
-pub staking_step : (old new : List Ownership) (from n d : ℕ) (x : Ownership) → HaveOwnership old new from n x → d ≡ from + n → d < length new → HaveOwnership old (set new d x) from (n + 1) x
+pub staking_step : (old new : List Ownership) (from n d : ℕ) (x : Ownership) → HaveOwnership old new from n x → d ≡ from + n → d < length new
+    → HaveOwnership old (set new d x) from (n + 1) x
 staking_step old new from n d x s at inside = record {
   long = length-set new d x ∙ s.long;
   inside = λ e low high. elim (cases_eq e d) as (λ _. get_or (set new d x) e ownership.Nothing ≡ x) [
     | inl here ↦ ap (λ k. get_or (set new d x) k ownership.Nothing) here ∙ get_or-set_same new d x ownership.Nothing inside
     | inr other ↦ get_or-set_other new d e x ownership.Nothing other ∙ s.inside e low (let h : e ≢ d = other in omega arith)
   ];
-  outside = λ e out. get_or-set_other new d e x ownership.Nothing (λ here. out (omega (arith, here)) (omega (arith, here))) ∙ s.outside e (λ low high. out low (omega arith));
+  outside = λ e out. get_or-set_other new d e x ownership.Nothing (λ here. out (omega (arith, here)) (omega (arith, here)))
+      ∙ s.outside e (λ low high. out low (omega arith));
 }
 
 -- only words that have a mark are marked

@@ -25,13 +25,16 @@ others_stay views i n m some = ap (λ k. other_views (tabulate views i k)) some
 
 tabulate_last : {A : Type 0} (f : ℕ → A) (from n : ℕ) → tabulate f from (suc n) ≡ tabulate f from n ++ f (from + n) ∷ []
 tabulate_last f from zero = ap (λ i. f i ∷ []) (let e : from ≡ from + 0 = omega arith in e)
-tabulate_last f from (suc n) = ap (λ l. f from ∷ l) (tabulate_last f (from + 1) n ∙ ap (λ i. tabulate f (from + 1) n ++ f i ∷ []) (let e : from + 1 + n ≡ from + suc n = omega arith in e))
+tabulate_last f from (suc n) = ap (λ l. f from ∷ l) (tabulate_last f (from + 1) n
+    ∙ ap (λ i. tabulate f (from + 1) n ++ f i ∷ []) (let e : from + 1 + n ≡ from + suc n = omega arith in e))
 
 -- one more seat
-pub one_more : (table : TableId) (views : ℕ → View) (words n : ℕ) (seat : SeatView) → seat.table ≡ table → seat.view ≡ views n → seat.stores ≡ [] → seat.marks ≡ replicate words false
+pub one_more : (table : TableId) (views : ℕ → View) (words n : ℕ) (seat : SeatView) → seat.table ≡ table → seat.view ≡ views n
+    → seat.stores ≡ [] → seat.marks ≡ replicate words false
     → dealt_seats table views words n ++ seat ∷ [] ≡ dealt_seats table views words (n + 1)
 one_more table views words n seat same view_is stores marks =
-    ap (λ (s : SeatView). dealt_seats table views words n ++ s ∷ []) is ∙ sym (tabulate_last S 0 n) ∙ ap (dealt_seats table views words) (let e : suc n ≡ n + 1 = omega arith in e) where
+    ap (λ (s : SeatView). dealt_seats table views words n ++ s ∷ []) is ∙ sym (tabulate_last S 0 n)
+    ∙ ap (dealt_seats table views words) (let e : suc n ≡ n + 1 = omega arith in e) where
       S : ℕ → SeatView
       S i = record { table = table; view = views i; stores = []; marks = replicate words false }
 
@@ -42,7 +45,8 @@ one_more table views words n seat same view_is stores marks =
       is = λ j. record { table = same j; view = view_at j; stores = stores j; marks = marks j }
 
 -- a seat as it is opened
-pub is_seat : (o : Opening) (i capacity budget : ℕ) (me : Me ℕ SeatViews) → IsOpened o → i < o.seats → me ≡ (opened_view_of o i ∷ [], []) → capacity ≡ (setup_for o).capacity → budget ≡ (setup_for o).budget → IsSingleSeat me new_seat capacity budget
+pub is_seat : (o : Opening) (i capacity budget : ℕ) (me : Me ℕ SeatViews) → IsOpened o → i < o.seats → me ≡ (opened_view_of o i ∷ [], [])
+    → capacity ≡ (setup_for o).capacity → budget ≡ (setup_for o).budget → IsSingleSeat me new_seat capacity budget
 is_seat o i capacity budget me is less me_is capacity_is budget_is = subst (λ m. IsSingleSeat m new_seat capacity budget) (sym me_is) (record {
   single = refl;
   no_slots = refl;
@@ -67,13 +71,16 @@ is_seat o i capacity budget me is less me_is capacity_is budget_is = subst (λ m
 })
 
 -- the seats that were dealt out are those of the heap
-pub are_opened : (shared : SharedView) (views : ℕ → View) (words : ℕ) (seats : List SeatView) → ((i : ℕ) → i < shared.opening.seats → (views i).setup ≡ setup_for shared.opening) → seats ≡ dealt_seats shared.table views words shared.opening.seats
+pub are_opened : (shared : SharedView) (views : ℕ → View) (words : ℕ) (seats : List SeatView)
+    → ((i : ℕ) → i < shared.opening.seats → (views i).setup ≡ setup_for shared.opening)
+    → seats ≡ dealt_seats shared.table views words shared.opening.seats
     → AreOpenedSeats shared views seats
 are_opened shared views words seats setups are = record {
   count = ap length are ∙ length_tabulate S 0 shared.opening.seats;
   each = λ i seat below at.
       let less : i < shared.opening.seats = (let l = ap length are ∙ length_tabulate S 0 shared.opening.seats in omega arith) in
-      let is : S i ≡ seat = ap S (let e : i ≡ 0 + i = omega arith in e) ∙ sym (tabulate_at S 0 shared.opening.seats i seat less) ∙ ap (λ l. get_or l i seat) (sym are) ∙ at in (
+      let is : S i ≡ seat = ap S (let e : i ≡ 0 + i = omega arith in e) ∙ sym (tabulate_at S 0 shared.opening.seats i seat less)
+      ∙ ap (λ l. get_or l i seat) (sym are) ∙ at in (
         record {
           table = ap (λ (s : SeatView). s.table) (sym is);
           setup = ap (λ (s : SeatView). s.view.setup) (sym is) ∙ setups i less;
@@ -88,7 +95,8 @@ are_opened shared views words seats setups are = record {
   S : ℕ → SeatView
   S i = record { table = shared.table; view = views i; stores = []; marks = replicate words false }
 
-pub opened_seats : (shared : SharedView) (o : Opening) (words : ℕ) (seats : List SeatView) → shared.opening ≡ o → seats ≡ dealt_seats shared.table (opened_view_of shared.opening) words shared.opening.seats
+pub opened_seats : (shared : SharedView) (o : Opening) (words : ℕ) (seats : List SeatView) → shared.opening ≡ o
+    → seats ≡ dealt_seats shared.table (opened_view_of shared.opening) words shared.opening.seats
     → AreOpenedSeats shared (opened_view_of o) seats
 opened_seats shared o words seats same are = are_opened shared (opened_view_of o) words seats (λ i less. ap setup_for (sym same))
     (are ∙ ap (λ k. dealt_seats shared.table (opened_view_of k) words shared.opening.seats) same)

@@ -18,50 +18,66 @@ use Rattle.heap_rule.specs.declared.owned.Ownership.TheVariants as ownership
 use Rattle.heap_rule.specs.Owned.{listed, OwnedParts, IsOwnership, HaveOwnership}
 
 -- what is owned of all superblocks, after that of superblock d has become another
-pub ownership_at : (ownerships : List Ownership) (p q : OwnedParts) (d : ℕ) (x : Ownership) → d < length ownerships → ((e : ℕ) → IsOwnership e (get_or ownerships e ownership.Nothing) p) → IsOwnership d x q
-    → ((e : ℕ) (y : Ownership) → e ≢ d → IsOwnership e y p → IsOwnership e y q) → (e : ℕ) → IsOwnership e (get_or (set ownerships d x) e ownership.Nothing) q
-ownership_at ownerships p q d x less old here others e = elim (cases_eq e d) as (λ _. IsOwnership e (get_or (set ownerships d x) e ownership.Nothing) q) [
-  | inl same ↦ subst (λ n. IsOwnership n (get_or (set ownerships d x) n ownership.Nothing) q) (sym same) (subst (λ y. IsOwnership d y q) (sym (get_or-set_same ownerships d x ownership.Nothing less)) here)
-  | inr other ↦ subst (λ y. IsOwnership e y q) (sym (get_or-set_other ownerships d e x ownership.Nothing other)) (others e (get_or ownerships e ownership.Nothing) other (old e))
-]
+pub ownership_at : (ownerships : List Ownership) (p q : OwnedParts) (d : ℕ) (x : Ownership) → d < length ownerships
+    → ((e : ℕ) → IsOwnership e (get_or ownerships e ownership.Nothing) p) → IsOwnership d x q
+    → ((e : ℕ) (y : Ownership) → e ≢ d → IsOwnership e y p → IsOwnership e y q) → (e : ℕ)
+    → IsOwnership e (get_or (set ownerships d x) e ownership.Nothing) q
+ownership_at ownerships p q d x less old here others e = elim (cases_eq e d) as
+    (λ _. IsOwnership e (get_or (set ownerships d x) e ownership.Nothing) q) [
+      | inl same ↦ subst (λ n. IsOwnership n (get_or (set ownerships d x) n ownership.Nothing) q) (sym same)
+          (subst (λ y. IsOwnership d y q) (sym (get_or-set_same ownerships d x ownership.Nothing less)) here)
+      | inr other ↦ subst (λ y. IsOwnership e y q) (sym (get_or-set_other ownerships d e x ownership.Nothing other))
+          (others e (get_or ownerships e ownership.Nothing) other (old e))
+    ]
 
 -- the same of a range
-pub ownerships_in : (old new : List Ownership) (p q : OwnedParts) (from n : ℕ) (x : Ownership) → HaveOwnership old new from n x → ((e : ℕ) → IsOwnership e (get_or old e ownership.Nothing) p)
-    → ((e : ℕ) → from ≤ e → e < from + n → IsOwnership e x q) → ((e : ℕ) (y : Ownership) → (from ≤ e → e < from + n → ⊥) → IsOwnership e y p → IsOwnership e y q)
+pub ownerships_in : (old new : List Ownership) (p q : OwnedParts) (from n : ℕ) (x : Ownership) → HaveOwnership old new from n x
+    → ((e : ℕ) → IsOwnership e (get_or old e ownership.Nothing) p)
+    → ((e : ℕ) → from ≤ e → e < from + n → IsOwnership e x q) → ((e : ℕ) (y : Ownership) → (from ≤ e → e < from + n → ⊥) → IsOwnership e y p
+    → IsOwnership e y q)
     → (e : ℕ) → IsOwnership e (get_or new e ownership.Nothing) q
-ownerships_in old new p q from n x owning before inside outside e = elim (cases_range from n e) as (λ _. IsOwnership e (get_or new e ownership.Nothing) q) [
-  | inl here ↦ subst (λ y. IsOwnership e y q) (sym (owning.inside e here.0 here.1)) (inside e here.0 here.1)
-  | inr out ↦ subst (λ y. IsOwnership e y q) (sym (owning.outside e out)) (outside e (get_or old e ownership.Nothing) out (before e))
-]
+ownerships_in old new p q from n x owning before inside outside e =
+    elim (cases_range from n e) as (λ _. IsOwnership e (get_or new e ownership.Nothing) q) [
+      | inl here ↦ subst (λ y. IsOwnership e y q) (sym (owning.inside e here.0 here.1)) (inside e here.0 here.1)
+      | inr out ↦ subst (λ y. IsOwnership e y q) (sym (owning.outside e out)) (outside e (get_or old e ownership.Nothing) out (before e))
+    ]
 
 -- nothing is there
-no_ownership : (d : ℕ) (x : Ownership) (p : OwnedParts) → IsOwnership d x p → times d p.raw + times d p.split + times d p.cutting ≡ 0 → times_classed d p.classed ≡ 0 → times_large d p.large ≡ 0 → x ≡ ownership.Nothing
+no_ownership : (d : ℕ) (x : Ownership) (p : OwnedParts) → IsOwnership d x p → times d p.raw + times d p.split + times d p.cutting ≡ 0
+    → times_classed d p.classed ≡ 0 → times_large d p.large ≡ 0 → x ≡ ownership.Nothing
 no_ownership d ownership.Nothing p is a b e = refl
 no_ownership d ownership.Unclassed p is a b e = absurd (let n = is.unclassed in omega arith)
 no_ownership d (ownership.Classed class) p is a b e = absurd (let n = is.is_classed in omega arith)
 no_ownership d (ownership.Large count) p is a b e = absurd (let n = is.is_large in omega arith)
 
 -- a claim without a class has no other part of the superblock
-unclassed_only : (d : ℕ) (x : Ownership) (p : OwnedParts) → IsOwnership d x p → 0 < times d p.raw + times d p.split + times d p.cutting → x ≡ ownership.Unclassed
+unclassed_only : (d : ℕ) (x : Ownership) (p : OwnedParts) → IsOwnership d x p → 0 < times d p.raw + times d p.split + times d p.cutting
+    → x ≡ ownership.Unclassed
 unclassed_only d ownership.Nothing p is some = absurd (let n = is.unclassed in omega arith)
 unclassed_only d ownership.Unclassed p is some = refl
 unclassed_only d (ownership.Classed class) p is some = absurd (let n = is.unclassed in omega arith)
 unclassed_only d (ownership.Large count) p is some = absurd (let n = is.unclassed in omega arith)
 
 -- superblocks that were never taken, and are claimed
-pub fresh_ownerships : (old new : List Ownership) (p : OwnedParts) (u n : ℕ) → HaveOwnership old new u n ownership.Unclassed → ((e : ℕ) → IsOwnership e (get_or old e ownership.Nothing) p)
-    → ((e : ℕ) → u ≤ e → e < u + n → (times e p.raw + times e p.split + times e p.cutting ≡ 0) × (times_classed e p.classed ≡ 0) × (times_large e p.large ≡ 0))
+pub fresh_ownerships : (old new : List Ownership) (p : OwnedParts) (u n : ℕ) → HaveOwnership old new u n ownership.Unclassed
+    → ((e : ℕ) → IsOwnership e (get_or old e ownership.Nothing) p)
+    → ((e : ℕ) → u ≤ e → e < u + n → (times e p.raw + times e p.split + times e p.cutting ≡ 0) × (times_classed e p.classed ≡ 0)
+    × (times_large e p.large ≡ 0))
     → (e : ℕ) → IsOwnership e (get_or new e ownership.Nothing) (record p { raw = p.raw ++ steps u 1 n })
-fresh_ownerships old new p u n owning before none = ownerships_in old new p (record p { raw = p.raw ++ steps u 1 n }) u n ownership.Unclassed owning before
-    (λ e low high. let z = none e low high in let o = subst (λ y. IsOwnership e y p) (no_ownership e (get_or old e ownership.Nothing) p (before e) z.0 z.1 z.2) (before e) in record {
-      unclassed = (let a = times_append e p.raw (steps u 1 n) in let b = times_range e u n in let r = range_is u n e low high in let s = o.unclassed in omega arith);
+fresh_ownerships old new p u n owning before none = ownerships_in old new p
+    (record p { raw = p.raw ++ steps u 1 n }) u n ownership.Unclassed owning before
+    (λ e low high. let z = none e low high in let o = subst (λ y. IsOwnership e y p)
+    (no_ownership e (get_or old e ownership.Nothing) p (before e) z.0 z.1 z.2) (before e) in record {
+      unclassed = (let a = times_append e p.raw (steps u 1 n) in let b = times_range e u n in let r = range_is u n e low high in
+          let s = o.unclassed in omega arith);
       is_classed = o.is_classed;
       class = o.class;
       is_large = o.is_large;
       count = o.count;
     })
     (λ e y out o. record {
-      unclassed = (let a = times_append e p.raw (steps u 1 n) in let b = times_range e u n in let r = range_not u n e out in let s = o.unclassed in omega arith);
+      unclassed = (let a = times_append e p.raw (steps u 1 n) in let b = times_range e u n in let r = range_not u n e out in
+          let s = o.unclassed in omega arith);
       is_classed = o.is_classed;
       class = o.class;
       is_large = o.is_large;
@@ -73,7 +89,8 @@ abbrev pub with_claim : OwnedParts → ℕ → ℕ → OwnedParts
 with_claim p d zero = record p { raw = d ∷ p.raw }
 with_claim p d (suc class) = record p { classed = record { descriptor = d; class = suc class } ∷ p.classed }
 
-pub claim_ownerships : (ownerships : List Ownership) (p : OwnedParts) (d list : ℕ) (x : Ownership) → x ≡ listed list → d < length ownerships → ((e : ℕ) → IsOwnership e (get_or ownerships e ownership.Nothing) p)
+pub claim_ownerships : (ownerships : List Ownership) (p : OwnedParts) (d list : ℕ) (x : Ownership) → x ≡ listed list → d < length ownerships
+    → ((e : ℕ) → IsOwnership e (get_or ownerships e ownership.Nothing) p)
     → (times d p.raw + times d p.split + times d p.cutting ≡ 0) × (times_classed d p.classed ≡ 0) × (times_large d p.large ≡ 0)
     → (e : ℕ) → IsOwnership e (get_or (set ownerships d x) e ownership.Nothing) (with_claim p d list)
 claim_ownerships ownerships p d list x is less before none = by list x is where
@@ -113,8 +130,10 @@ claim_ownerships ownerships p d list x is less before none = by list x is where
       })
 
 -- a claim without a class that is given up
-pub raw_ownerships : (ownerships : List Ownership) (p : OwnedParts) (d : ℕ) → d < length ownerships → 0 < times d p.raw + times d p.split → ((e : ℕ) → IsOwnership e (get_or ownerships e ownership.Nothing) p)
-    → (e : ℕ) → IsOwnership e (get_or (set ownerships d ownership.Nothing) e ownership.Nothing) (record p { raw = without d p.raw; split = without d p.split })
+pub raw_ownerships : (ownerships : List Ownership) (p : OwnedParts) (d : ℕ) → d < length ownerships → 0 < times d p.raw + times d p.split
+    → ((e : ℕ) → IsOwnership e (get_or ownerships e ownership.Nothing) p)
+    → (e : ℕ) → IsOwnership e (get_or (set ownerships d ownership.Nothing) e ownership.Nothing)
+    (record p { raw = without d p.raw; split = without d p.split })
 raw_ownerships ownerships p d less some before =
     let o = subst (λ y. IsOwnership d y p) (unclassed_only d (get_or ownerships d ownership.Nothing) p (before d) (omega arith)) (before d) in
     ownership_at ownerships p (record p { raw = without d p.raw; split = without d p.split }) d ownership.Nothing less before
@@ -134,7 +153,8 @@ raw_ownerships ownerships p d less some before =
     })
 
 -- a claim whose blocks were made, that is given up
-pub cut_ownerships : (ownerships : List Ownership) (p : OwnedParts) (d : ℕ) → d < length ownerships → 0 < times d p.cutting → ((e : ℕ) → IsOwnership e (get_or ownerships e ownership.Nothing) p)
+pub cut_ownerships : (ownerships : List Ownership) (p : OwnedParts) (d : ℕ) → d < length ownerships → 0 < times d p.cutting
+    → ((e : ℕ) → IsOwnership e (get_or ownerships e ownership.Nothing) p)
     → (e : ℕ) → IsOwnership e (get_or (set ownerships d ownership.Nothing) e ownership.Nothing) (record p { cutting = without d p.cutting })
 cut_ownerships ownerships p d less some before =
     let o = subst (λ y. IsOwnership d y p) (unclassed_only d (get_or ownerships d ownership.Nothing) p (before d) (omega arith)) (before d) in
@@ -155,13 +175,15 @@ cut_ownerships ownerships p d less some before =
     })
 
 -- a claim with a class that is given up
-pub classed_ownerships : (ownerships : List Ownership) (p : OwnedParts) (d : ℕ) → d < length ownerships → 0 < times_classed d p.classed → ((e : ℕ) → IsOwnership e (get_or ownerships e ownership.Nothing) p)
+pub classed_ownerships : (ownerships : List Ownership) (p : OwnedParts) (d : ℕ) → d < length ownerships → 0 < times_classed d p.classed
+    → ((e : ℕ) → IsOwnership e (get_or ownerships e ownership.Nothing) p)
     → (e : ℕ) → IsOwnership e (get_or (set ownerships d ownership.Nothing) e ownership.Nothing) (record p { classed = without_claim d p.classed })
 classed_ownerships ownerships p d less some before =
     ownership_at ownerships p q d ownership.Nothing less before (gone (get_or ownerships d ownership.Nothing) (before d))
     (λ e y other b. record {
       unclassed = b.unclassed;
-      is_classed = (let n = times_without_claim e d p.classed some in let z = ne-eqb-none d e (λ h. other (sym h)) in let a = b.is_classed in omega arith);
+      is_classed = (let n = times_without_claim e d p.classed some in let z = ne-eqb-none d e (λ h. other (sym h)) in let a = b.is_classed in
+          omega arith);
       class = class_without e d p.classed (λ h. other (sym h)) ∙ b.class;
       is_large = b.is_large;
       count = b.count;
@@ -173,63 +195,79 @@ classed_ownerships ownerships p d less some before =
       gone ownership.Nothing o = absurd (let a = o.is_classed in omega arith)
       gone ownership.Unclassed o = absurd (let a = o.is_classed in omega arith)
       gone (ownership.Large count) o = absurd (let a = o.is_classed in omega arith)
-      gone (ownership.Classed class) o = record { unclassed = o.unclassed; is_classed = none; class = class_absent d (without_claim d p.classed) none; is_large = o.is_large; count = o.count } where
+      gone (ownership.Classed class) o = record {
+        unclassed = o.unclassed;
+        is_classed = none;
+        class = class_absent d (without_claim d p.classed) none;
+        is_large = o.is_large;
+        count = o.count;
+      } where
         none : times_classed d (without_claim d p.classed) ≡ 0
         none = let n = times_without_claim d d p.classed some in let one = eq-eqb-one d d refl in let a = o.is_classed in omega arith
 
 -- claims that become a large block
-pub large_ownerships : (old new : List Ownership) (p : OwnedParts) (d n : ℕ) → 1 ≤ n → d < length new → HaveOwnership old new d n (ownership.Large 0) → ((e : ℕ) → IsOwnership e (get_or old e ownership.Nothing) p)
+pub large_ownerships : (old new : List Ownership) (p : OwnedParts) (d n : ℕ) → 1 ≤ n → d < length new
+    → HaveOwnership old new d n (ownership.Large 0) → ((e : ℕ) → IsOwnership e (get_or old e ownership.Nothing) p)
     → ((e : ℕ) → d ≤ e → e < d + n → 0 < times e p.raw + times e p.split)
     → (e : ℕ) → IsOwnership e (get_or (set new d (ownership.Large n)) e ownership.Nothing)
     (record p { large = record { first = d; count = n } ∷ p.large; raw = without_range d n p.raw; split = without_range d n p.split })
-large_ownerships old new p d n some less owning before claimed e = elim (cases_eq e d) as (λ _. IsOwnership e (get_or (set new d (ownership.Large n)) e ownership.Nothing) q) [
-  | inl same ↦ subst (λ m. IsOwnership m (get_or (set new d (ownership.Large n)) m ownership.Nothing) q) (sym same)
-      (subst (λ y. IsOwnership d y q) (sym (get_or-set_same new d (ownership.Large n) ownership.Nothing less)) (inside d n (omega arith) (omega arith) (pick (nat_eq d d) n (span_count d p.large) (eq-eqb d d refl))))
-  | inr other ↦ subst (λ y. IsOwnership e y q) (sym (get_or-set_other new d e (ownership.Large n) ownership.Nothing other)) (rest e other)
-] where
-  span : Span
-  span = record { first = d; count = n }
+large_ownerships old new p d n some less owning before claimed e =
+    elim (cases_eq e d) as (λ _. IsOwnership e (get_or (set new d (ownership.Large n)) e ownership.Nothing) q) [
+      | inl same ↦ subst (λ m. IsOwnership m (get_or (set new d (ownership.Large n)) m ownership.Nothing) q) (sym same)
+          (subst (λ y. IsOwnership d y q) (sym (get_or-set_same new d (ownership.Large n) ownership.Nothing less))
+          (inside d n (omega arith) (omega arith) (pick (nat_eq d d) n (span_count d p.large) (eq-eqb d d refl))))
+      | inr other ↦ subst (λ y. IsOwnership e y q) (sym (get_or-set_other new d e (ownership.Large n) ownership.Nothing other)) (rest e other)
+    ] where
+      span : Span
+      span = record { first = d; count = n }
 
-  q : OwnedParts
-  q = record p { large = span ∷ p.large; raw = without_range d n p.raw; split = without_range d n p.split }
+      q : OwnedParts
+      q = record p { large = span ∷ p.large; raw = without_range d n p.raw; split = without_range d n p.split }
 
-  mine : (e : ℕ) → d ≤ e → e < d + n → IsOwnership e ownership.Unclassed p
-  mine e low high = subst (λ y. IsOwnership e y p) (unclassed_only e (get_or old e ownership.Nothing) p (before e) (let c = claimed e low high in omega arith)) (before e)
+      mine : (e : ℕ) → d ≤ e → e < d + n → IsOwnership e ownership.Unclassed p
+      mine e low high = subst (λ y. IsOwnership e y p) (unclassed_only e (get_or old e ownership.Nothing) p (before e)
+          (let c = claimed e low high in omega arith)) (before e)
 
-  inside : (e count : ℕ) → d ≤ e → e < d + n → span_count e (span ∷ p.large) ≡ count → IsOwnership e (ownership.Large count) q
-  inside e count low high is = let o = mine e low high in record {
-    unclassed = (let a = without_range_in e d n p.raw low high in let b = without_range_in e d n p.split low high in let c = claimed e low high in let u = o.unclassed in omega arith);
-    is_classed = o.is_classed;
-    class = o.class;
-    is_large = (let r = range_is d n e low high in let l = o.is_large in omega arith);
-    count = is;
-  }
+      inside : (e count : ℕ) → d ≤ e → e < d + n → span_count e (span ∷ p.large) ≡ count → IsOwnership e (ownership.Large count) q
+      inside e count low high is = let o = mine e low high in record {
+        unclassed = (let a = without_range_in e d n p.raw low high in let b = without_range_in e d n p.split low high in
+            let c = claimed e low high in let u = o.unclassed in omega arith);
+        is_classed = o.is_classed;
+        class = o.class;
+        is_large = (let r = range_is d n e low high in let l = o.is_large in omega arith);
+        count = is;
+      }
 
-  apart : (e : ℕ) → e ≢ d → span_count e (span ∷ p.large) ≡ span_count e p.large
-  apart e other = skip (nat_eq d e) n (span_count e p.large) (not-eq d e (λ h. other (sym h)))
+      apart : (e : ℕ) → e ≢ d → span_count e (span ∷ p.large) ≡ span_count e p.large
+      apart e other = skip (nat_eq d e) n (span_count e p.large) (not-eq d e (λ h. other (sym h)))
 
-  rest : (e : ℕ) → e ≢ d → IsOwnership e (get_or new e ownership.Nothing) q
-  rest e other = elim (cases_range d n e) [
-    | inl here ↦ subst (λ y. IsOwnership e y q) (sym (owning.inside e here.0 here.1)) (inside e 0 here.0 here.1 (apart e other ∙ (mine e here.0 here.1).count))
-    | inr out ↦ subst (λ y. IsOwnership e y q) (sym (owning.outside e out)) (let o = before e in record {
-      unclassed = (let a = without_range_out e d n p.raw out in let b = without_range_out e d n p.split out in let u = o.unclassed in omega arith);
-      is_classed = o.is_classed;
-      class = o.class;
-      is_large = (let r = range_not d n e out in let l = o.is_large in omega arith);
-      count = apart e other ∙ o.count;
-    })
-  ]
+      rest : (e : ℕ) → e ≢ d → IsOwnership e (get_or new e ownership.Nothing) q
+      rest e other = elim (cases_range d n e) [
+        | inl here ↦ subst (λ y. IsOwnership e y q) (sym (owning.inside e here.0 here.1))
+            (inside e 0 here.0 here.1 (apart e other ∙ (mine e here.0 here.1).count))
+        | inr out ↦ subst (λ y. IsOwnership e y q) (sym (owning.outside e out)) (let o = before e in record {
+          unclassed = (let a = without_range_out e d n p.raw out in let b = without_range_out e d n p.split out in let u = o.unclassed in omega arith);
+          is_classed = o.is_classed;
+          class = o.class;
+          is_large = (let r = range_not d n e out in let l = o.is_large in omega arith);
+          count = apart e other ∙ o.count;
+        })
+      ]
 
-large_only : (d : ℕ) (x : Ownership) (p : OwnedParts) → IsOwnership d x p → 0 < times_large d p.large → (times d p.raw + times d p.split + times d p.cutting ≡ 0) × (times_classed d p.classed ≡ 0) × (claim_class d p.classed ≡ 0) × (times_large d p.large ≡ 1)
+large_only : (d : ℕ) (x : Ownership) (p : OwnedParts) → IsOwnership d x p → 0 < times_large d p.large
+    → (times d p.raw + times d p.split + times d p.cutting ≡ 0) × (times_classed d p.classed ≡ 0) × (claim_class d p.classed ≡ 0)
+    × (times_large d p.large ≡ 1)
 large_only d ownership.Nothing p is some = absurd (let n = is.is_large in omega arith)
 large_only d ownership.Unclassed p is some = absurd (let n = is.is_large in omega arith)
 large_only d (ownership.Classed class) p is some = absurd (let n = is.is_large in omega arith)
 large_only d (ownership.Large count) p is some = (is.unclassed, is.is_classed, is.class, is.is_large)
 
 -- a large block that is split
-pub split_ownerships : (old new : List Ownership) (p : OwnedParts) (d n : ℕ) → n ≡ span_count d p.large → 1 ≤ n → HaveOwnership old new d n ownership.Unclassed → ((e : ℕ) → IsOwnership e (get_or old e ownership.Nothing) p)
+pub split_ownerships : (old new : List Ownership) (p : OwnedParts) (d n : ℕ) → n ≡ span_count d p.large → 1 ≤ n
+    → HaveOwnership old new d n ownership.Unclassed → ((e : ℕ) → IsOwnership e (get_or old e ownership.Nothing) p)
     → (e : ℕ) → IsOwnership e (get_or new e ownership.Nothing) (record p { large = without_span d p.large; split = p.split ++ steps d 1 n })
-split_ownerships old new p d n n_is some owning before = ownerships_in old new p (record p { large = without_span d p.large; split = p.split ++ steps d 1 n }) d n ownership.Unclassed owning before
+split_ownerships old new p d n n_is some owning before = ownerships_in old new p
+    (record p { large = without_span d p.large; split = p.split ++ steps d 1 n }) d n ownership.Unclassed owning before
     (λ e low high.
     let z = large_only e (get_or old e ownership.Nothing) p (before e) (span_covers d e p.large (omega arith) low (omega arith)) in
     let z0 = z.0 in let z3 = z.3 in
@@ -258,9 +296,11 @@ split_ownerships old new p d n n_is some owning before = ownerships_in old new p
       in_n m e = in_range d m e
 
 -- a large block that is given off
-pub lost_ownerships : (old new : List Ownership) (p : OwnedParts) (d n : ℕ) → n ≡ span_count d p.large → 1 ≤ n → HaveOwnership old new d n ownership.Nothing → ((e : ℕ) → IsOwnership e (get_or old e ownership.Nothing) p)
+pub lost_ownerships : (old new : List Ownership) (p : OwnedParts) (d n : ℕ) → n ≡ span_count d p.large → 1 ≤ n
+    → HaveOwnership old new d n ownership.Nothing → ((e : ℕ) → IsOwnership e (get_or old e ownership.Nothing) p)
     → (e : ℕ) → IsOwnership e (get_or new e ownership.Nothing) (record p { large = without_span d p.large })
-lost_ownerships old new p d n n_is some owning before = ownerships_in old new p (record p { large = without_span d p.large }) d n ownership.Nothing owning before
+lost_ownerships old new p d n n_is some owning before = ownerships_in old new p
+    (record p { large = without_span d p.large }) d n ownership.Nothing owning before
     (λ e low high.
     let z = large_only e (get_or old e ownership.Nothing) p (before e) (span_covers d e p.large (omega arith) low (omega arith)) in
     let z3 = z.3 in
@@ -287,43 +327,50 @@ lost_ownerships old new p d n n_is some owning before = ownerships_in old new p 
     })
 
 -- a large block that comes where nothing is owned
-pub gained_ownerships : (old new : List Ownership) (p : OwnedParts) (d n : ℕ) → 1 ≤ n → d < length new → HaveOwnership old new d n (ownership.Large 0) → ((e : ℕ) → IsOwnership e (get_or old e ownership.Nothing) p)
-    → ((e : ℕ) → d ≤ e → e < d + n → (times e p.raw + times e p.split + times e p.cutting ≡ 0) × (times_classed e p.classed ≡ 0) × (times_large e p.large ≡ 0))
-    → (e : ℕ) → IsOwnership e (get_or (set new d (ownership.Large n)) e ownership.Nothing) (record p { large = record { first = d; count = n } ∷ p.large })
-gained_ownerships old new p d n some less owning before none e = elim (cases_eq e d) as (λ _. IsOwnership e (get_or (set new d (ownership.Large n)) e ownership.Nothing) q) [
-  | inl same ↦ subst (λ m. IsOwnership m (get_or (set new d (ownership.Large n)) m ownership.Nothing) q) (sym same)
-      (subst (λ y. IsOwnership d y q) (sym (get_or-set_same new d (ownership.Large n) ownership.Nothing less)) (inside d n (omega arith) (omega arith) (pick (nat_eq d d) n (span_count d p.large) (eq-eqb d d refl))))
-  | inr other ↦ subst (λ y. IsOwnership e y q) (sym (get_or-set_other new d e (ownership.Large n) ownership.Nothing other)) (rest e other)
-] where
-  span : Span
-  span = record { first = d; count = n }
+pub gained_ownerships : (old new : List Ownership) (p : OwnedParts) (d n : ℕ) → 1 ≤ n → d < length new
+    → HaveOwnership old new d n (ownership.Large 0) → ((e : ℕ) → IsOwnership e (get_or old e ownership.Nothing) p)
+    → ((e : ℕ) → d ≤ e → e < d + n → (times e p.raw + times e p.split + times e p.cutting ≡ 0) × (times_classed e p.classed ≡ 0)
+    × (times_large e p.large ≡ 0))
+    → (e : ℕ) → IsOwnership e (get_or (set new d (ownership.Large n)) e ownership.Nothing)
+    (record p { large = record { first = d; count = n } ∷ p.large })
+gained_ownerships old new p d n some less owning before none e =
+    elim (cases_eq e d) as (λ _. IsOwnership e (get_or (set new d (ownership.Large n)) e ownership.Nothing) q) [
+      | inl same ↦ subst (λ m. IsOwnership m (get_or (set new d (ownership.Large n)) m ownership.Nothing) q) (sym same)
+          (subst (λ y. IsOwnership d y q) (sym (get_or-set_same new d (ownership.Large n) ownership.Nothing less))
+          (inside d n (omega arith) (omega arith) (pick (nat_eq d d) n (span_count d p.large) (eq-eqb d d refl))))
+      | inr other ↦ subst (λ y. IsOwnership e y q) (sym (get_or-set_other new d e (ownership.Large n) ownership.Nothing other)) (rest e other)
+    ] where
+      span : Span
+      span = record { first = d; count = n }
 
-  q : OwnedParts
-  q = record p { large = span ∷ p.large }
+      q : OwnedParts
+      q = record p { large = span ∷ p.large }
 
-  mine : (e : ℕ) → d ≤ e → e < d + n → IsOwnership e ownership.Nothing p
-  mine e low high = let z = none e low high in subst (λ y. IsOwnership e y p) (no_ownership e (get_or old e ownership.Nothing) p (before e) z.0 z.1 z.2) (before e)
+      mine : (e : ℕ) → d ≤ e → e < d + n → IsOwnership e ownership.Nothing p
+      mine e low high = let z = none e low high in subst (λ y. IsOwnership e y p)
+          (no_ownership e (get_or old e ownership.Nothing) p (before e) z.0 z.1 z.2) (before e)
 
-  inside : (e count : ℕ) → d ≤ e → e < d + n → span_count e (span ∷ p.large) ≡ count → IsOwnership e (ownership.Large count) q
-  inside e count low high is = let o = mine e low high in record {
-    unclassed = o.unclassed;
-    is_classed = o.is_classed;
-    class = o.class;
-    is_large = (let r = range_is d n e low high in let l = o.is_large in omega arith);
-    count = is;
-  }
+      inside : (e count : ℕ) → d ≤ e → e < d + n → span_count e (span ∷ p.large) ≡ count → IsOwnership e (ownership.Large count) q
+      inside e count low high is = let o = mine e low high in record {
+        unclassed = o.unclassed;
+        is_classed = o.is_classed;
+        class = o.class;
+        is_large = (let r = range_is d n e low high in let l = o.is_large in omega arith);
+        count = is;
+      }
 
-  apart : (e : ℕ) → e ≢ d → span_count e (span ∷ p.large) ≡ span_count e p.large
-  apart e other = skip (nat_eq d e) n (span_count e p.large) (not-eq d e (λ h. other (sym h)))
+      apart : (e : ℕ) → e ≢ d → span_count e (span ∷ p.large) ≡ span_count e p.large
+      apart e other = skip (nat_eq d e) n (span_count e p.large) (not-eq d e (λ h. other (sym h)))
 
-  rest : (e : ℕ) → e ≢ d → IsOwnership e (get_or new e ownership.Nothing) q
-  rest e other = elim (cases_range d n e) [
-    | inl here ↦ subst (λ y. IsOwnership e y q) (sym (owning.inside e here.0 here.1)) (inside e 0 here.0 here.1 (apart e other ∙ (mine e here.0 here.1).count))
-    | inr out ↦ subst (λ y. IsOwnership e y q) (sym (owning.outside e out)) (let o = before e in record {
-      unclassed = o.unclassed;
-      is_classed = o.is_classed;
-      class = o.class;
-      is_large = (let r = range_not d n e out in let l = o.is_large in omega arith);
-      count = apart e other ∙ o.count;
-    })
-  ]
+      rest : (e : ℕ) → e ≢ d → IsOwnership e (get_or new e ownership.Nothing) q
+      rest e other = elim (cases_range d n e) [
+        | inl here ↦ subst (λ y. IsOwnership e y q) (sym (owning.inside e here.0 here.1))
+            (inside e 0 here.0 here.1 (apart e other ∙ (mine e here.0 here.1).count))
+        | inr out ↦ subst (λ y. IsOwnership e y q) (sym (owning.outside e out)) (let o = before e in record {
+          unclassed = o.unclassed;
+          is_classed = o.is_classed;
+          class = o.class;
+          is_large = (let r = range_not d n e out in let l = o.is_large in omega arith);
+          count = apart e other ∙ o.count;
+        })
+      ]

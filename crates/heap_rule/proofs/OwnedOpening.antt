@@ -33,7 +33,8 @@ use Rattle.heap_rule.specs.Stacks.{AreStacks}
 use Rattle.heap_rule.proofs.ViewLemmas.{block_below}
 
 -- the view of a seat of the opened heap is one of a sound state
-opened_has : (heap : Contents) (owners : OwnerLists) (seats seat : ℕ) → IsReady heap.words heap.held → AreOwners heap.held seats owners.held owners.roots → seat < seats
+opened_has : (heap : Contents) (owners : OwnerLists) (seats seat : ℕ) → IsReady heap.words heap.held
+    → AreOwners heap.held seats owners.held owners.roots → seat < seats
     → HasSoundState (opened_view (setup_of heap.words 0 seats) heap.held owners.held owners.roots seat)
 opened_has heap owners seats seat ready are less = record {
   words = (opened_state (setup_of heap.words 0 seats) heap.held owners.held owners.roots seats).words;
@@ -49,17 +50,59 @@ opened_has heap owners seats seat ready are less = record {
   V = opened_view (setup_of heap.words 0 seats) heap.held owners.held owners.roots
 
 -- the parts that a seat is opened with, by the key of the table
-pub opened_parts_are : (heap : Contents) (owners : OwnerLists) (seats budget i : ℕ) → parts_of (opened_view_of (opening_of heap owners seats budget) i) ≡ opened_parts heap owners i
+pub opened_parts_are : (heap : Contents) (owners : OwnerLists) (seats budget i : ℕ)
+    → parts_of (opened_view_of (opening_of heap owners seats budget) i) ≡ opened_parts heap owners i
 opened_parts_are heap owners seats budget i = refl
 
 -- what a seat has of a superblock of a heap at rest, as what it owns
-ownership_of_usage : (d : ℕ) (x : SuperblockUsage) (p : OwnedParts) → IsUsage d x p.raw p.split p.cutting p.classed p.large → IsOwnership d (ownership_for x) p
-ownership_of_usage d usage.Nothing p is = record { unclassed = (let a = is.is_raw in let b = is.is_split in let c = is.is_cutting in omega arith); is_classed = is.is_classed; class = is.class; is_large = is.is_large; count = is.count }
-ownership_of_usage d usage.Raw p is = record { unclassed = (let a = is.is_raw in let b = is.is_split in let c = is.is_cutting in omega arith); is_classed = is.is_classed; class = is.class; is_large = is.is_large; count = is.count }
-ownership_of_usage d usage.Split p is = record { unclassed = (let a = is.is_raw in let b = is.is_split in let c = is.is_cutting in omega arith); is_classed = is.is_classed; class = is.class; is_large = is.is_large; count = is.count }
-ownership_of_usage d usage.Cutting p is = record { unclassed = (let a = is.is_raw in let b = is.is_split in let c = is.is_cutting in omega arith); is_classed = is.is_classed; class = is.class; is_large = is.is_large; count = is.count }
-ownership_of_usage d (usage.Classed class) p is = record { unclassed = (let a = is.is_raw in let b = is.is_split in let c = is.is_cutting in omega arith); is_classed = is.is_classed; class = is.class; is_large = is.is_large; count = is.count }
-ownership_of_usage d (usage.Large count) p is = record { unclassed = (let a = is.is_raw in let b = is.is_split in let c = is.is_cutting in omega arith); is_classed = is.is_classed; class = is.class; is_large = is.is_large; count = is.count }
+ownership_of_usage : (d : ℕ) (x : SuperblockUsage) (p : OwnedParts) → IsUsage d x p.raw p.split p.cutting p.classed p.large
+    → IsOwnership d (ownership_for x) p
+ownership_of_usage d usage.Nothing p is = record {
+  unclassed = (let a = is.is_raw in let b = is.is_split in let c = is.is_cutting in
+      omega arith);
+  is_classed = is.is_classed;
+  class = is.class;
+  is_large = is.is_large;
+  count = is.count;
+}
+ownership_of_usage d usage.Raw p is = record {
+  unclassed = (let a = is.is_raw in let b = is.is_split in let c = is.is_cutting in omega arith);
+  is_classed = is.is_classed;
+  class = is.class;
+  is_large = is.is_large;
+  count = is.count;
+}
+ownership_of_usage d usage.Split p is = record {
+  unclassed = (let a = is.is_raw in let b = is.is_split in let c = is.is_cutting in omega arith);
+  is_classed = is.is_classed;
+  class = is.class;
+  is_large = is.is_large;
+  count = is.count;
+}
+ownership_of_usage d usage.Cutting p is = record {
+  unclassed = (let a = is.is_raw in let b = is.is_split in let c = is.is_cutting in
+      omega arith);
+  is_classed = is.is_classed;
+  class = is.class;
+  is_large = is.is_large;
+  count = is.count;
+}
+ownership_of_usage d (usage.Classed class) p is = record {
+  unclassed = (let a = is.is_raw in let b = is.is_split in let c = is.is_cutting in
+      omega arith);
+  is_classed = is.is_classed;
+  class = is.class;
+  is_large = is.is_large;
+  count = is.count;
+}
+ownership_of_usage d (usage.Large count) p is = record {
+  unclassed = (let a = is.is_raw in let b = is.is_split in let c = is.is_cutting in
+      omega arith);
+  is_classed = is.is_classed;
+  class = is.class;
+  is_large = is.is_large;
+  count = is.count;
+}
 
 -- what was gathered of a seat
 pub record IsGathered (heap : Contents) (owners : OwnerLists) (seat : ℕ) (superblocks : List SuperblockOwner) (o : Owned) : Type 0 where
@@ -75,8 +118,10 @@ pub record IsGathered (heap : Contents) (owners : OwnerLists) (seat : ℕ) (supe
   pub room : most_blocks ≤ vec_capacity o.batch
   pub stacks : (caches : List (List ℕ)) → AreStacks o.stacks.items caches
 
-pub gathered : (heap : Contents) (owners : OwnerLists) (seats seat : ℕ) (superblocks : List SuperblockOwner) (o : Owned) → IsReady heap.words heap.held → AreOwners heap.held seats owners.held owners.roots → seat < seats
-    → AreSuperblockOwners heap.words heap.held owners.held superblocks → IsGathered heap owners seat superblocks o → HasOwned o (opened_parts heap owners seat)
+pub gathered : (heap : Contents) (owners : OwnerLists) (seats seat : ℕ) (superblocks : List SuperblockOwner) (o : Owned)
+    → IsReady heap.words heap.held → AreOwners heap.held seats owners.held owners.roots → seat < seats
+    → AreSuperblockOwners heap.words heap.held owners.held superblocks → IsGathered heap owners seat superblocks o
+    → HasOwned o (opened_parts heap owners seat)
 gathered heap owners seats seat superblocks o ready are less are_superblocks g = record {
   words_long = g.words_long;
   classes_long = g.classes_long;
@@ -91,7 +136,8 @@ gathered heap owners seats seat superblocks o ready are less are_superblocks g =
     cached = λ class b there. absurd (let z = empty_at lists class b in omega arith);
     batched = λ b there. absurd (omega arith);
   };
-  ownerships = λ d. subst (λ x. IsOwnership d x p) (sym (g.ownerships_are d)) (ownership_of_usage d (usage_for seat (get_or superblocks d no_superblock)) p (are_superblocks.each seat d));
+  ownerships = λ d. subst (λ x. IsOwnership d x p) (sym (g.ownerships_are d))
+      (ownership_of_usage d (usage_for seat (get_or superblocks d no_superblock)) p (are_superblocks.each seat d));
   roots_are = λ n. one_true (get_or o.roots.items n false) (times n p.roots) (g.roots_are n ∙ sym (roots_of seat roots owners.roots are.roots_all n));
   batch = g.batch;
   room = g.room;
@@ -107,7 +153,8 @@ gathered heap owners seats seat superblocks o ready are less are_superblocks g =
   info_of d = slice_index heap.words (info_word d)
 
   small_at : ℕ → List ℕ
-  small_at class = small_blocks (slice_index heap.words capacity_word) (λ d. slice_index heap.words (info_word d)) class (picked seat heap.held owners.held)
+  small_at class = small_blocks (slice_index heap.words capacity_word) (λ d. slice_index heap.words (info_word d)) class
+      (picked seat heap.held owners.held)
 
   class_at : (class b : ℕ) → class < lists → 0 < times b (of_class p.small class) → get_or o.classes.items (superblock_at p.capacity b) 0 ≡ class
   class_at class b some there =
@@ -117,7 +164,8 @@ gathered heap owners seats seat superblocks o ready are less are_superblocks g =
       (subst (λ xs. 0 < times b xs) (tabulate_at small_at 0 lists class [] some ∙ ap small_at (let e : 0 + class ≡ class = omega arith in e)) there)
 
 -- an entry more
-pub entry_more : {A : Type 0} (P : ℕ → A → Type 0) (xs : List A) (i : ℕ) (x d : A) → i < length xs → ((n : ℕ) → n < i → P n (get_or xs n d)) → P i x → (n : ℕ) → n < i + 1 → P n (get_or (set xs i x) n d)
+pub entry_more : {A : Type 0} (P : ℕ → A → Type 0) (xs : List A) (i : ℕ) (x d : A) → i < length xs → ((n : ℕ) → n < i → P n (get_or xs n d))
+    → P i x → (n : ℕ) → n < i + 1 → P n (get_or (set xs i x) n d)
 entry_more P xs i x d inside before here n less = elim (cases_eq n i) as (λ _. P n (get_or (set xs i x) n d)) [
   | inl same ↦ subst (λ k. P k (get_or (set xs i x) k d)) (sym same) (subst (P i) (sym (get_or-set_same xs i x d inside)) here)
   | inr other ↦ subst (P n) (sym (get_or-set_other xs i n x d other)) (before n (omega arith))
@@ -129,7 +177,8 @@ past_end (y ∷ ys) zero d past = absurd (omega arith)
 past_end (y ∷ ys) (suc k) d past = past_end ys k d (omega arith)
 
 -- and past the end there is nothing
-pub entry_past : {A : Type 0} (P : ℕ → A → Type 0) (xs : List A) (i : ℕ) (d : A) → length xs ≤ i → ((n : ℕ) → n < i → P n (get_or xs n d)) → ((n : ℕ) → length xs ≤ n → P n d) → (n : ℕ) → P n (get_or xs n d)
+pub entry_past : {A : Type 0} (P : ℕ → A → Type 0) (xs : List A) (i : ℕ) (d : A) → length xs ≤ i → ((n : ℕ) → n < i → P n (get_or xs n d))
+    → ((n : ℕ) → length xs ≤ n → P n d) → (n : ℕ) → P n (get_or xs n d)
 entry_past P xs i d long before past n = elim (cases_lt n i) [
   | inl less ↦ before n less
   | inr more ↦ subst (P n) (sym (past_end xs n d (omega arith))) (past n (omega arith))
@@ -142,7 +191,8 @@ snoc_at [] x o (suc i) is = absurd (omega arith)
 snoc_at (y ∷ ys) x o zero is = absurd (omega arith)
 snoc_at (y ∷ ys) x o (suc i) is = snoc_at ys x o i (omega arith)
 
-pub each_snoc : {A : Type 0} (P : ℕ → A → Type 0) (xs : List A) (x : A) (n : ℕ) → length xs ≡ n → ((i : ℕ) (o : A) → i < n → get_or xs i o ≡ o → P i o) → P n x
+pub each_snoc : {A : Type 0} (P : ℕ → A → Type 0) (xs : List A) (x : A) (n : ℕ) → length xs ≡ n
+    → ((i : ℕ) (o : A) → i < n → get_or xs i o ≡ o → P i o) → P n x
     → (i : ℕ) (o : A) → i < n + 1 → get_or (xs ++ x ∷ []) i o ≡ o → P i o
 each_snoc P xs x n long before here i o less at = elim (cases_lt i n) [
   | inl early ↦ before i o early (sym (get_or_append_left xs (x ∷ []) o i (omega arith)) ∙ at)
@@ -150,9 +200,11 @@ each_snoc P xs x n long before here i o less at = elim (cases_lt i n) [
 ]
 
 -- a list without its first entry
-pub each_rest : {A : Type 0} (P : ℕ → A → Type 0) (old rest : List A) (x : A) (n : ℕ) → old ≡ x ∷ rest → ((k : ℕ) (o : A) → k < length old → get_or old k o ≡ o → P (n + k) o)
+pub each_rest : {A : Type 0} (P : ℕ → A → Type 0) (old rest : List A) (x : A) (n : ℕ) → old ≡ x ∷ rest
+    → ((k : ℕ) (o : A) → k < length old → get_or old k o ≡ o → P (n + k) o)
     → (P n x) × ((k : ℕ) (o : A) → k < length rest → get_or rest k o ≡ o → P (n + 1 + k) o)
 each_rest P old rest x n is each = (
   subst (λ k. P k x) (let e : n + 0 ≡ n = omega arith in e) (each 0 x (let l = ap length is in omega arith) (ap (λ l. get_or l 0 x) is)),
-  λ k o less at. subst (λ j. P j o) (let e : n + suc k ≡ n + 1 + k = omega arith in e) (each (suc k) o (let l = ap length is in omega arith) (ap (λ l. get_or l (suc k) o) is ∙ at)),
+  λ k o less at. subst (λ j. P j o) (let e : n + suc k ≡ n + 1 + k = omega arith in
+      e) (each (suc k) o (let l = ap length is in omega arith) (ap (λ l. get_or l (suc k) o) is ∙ at)),
 )

@@ -61,7 +61,8 @@ stored_recorded v (data_cell word) value = (refl, refl)
 stored_recorded v no_cell value = (refl, refl)
 
 -- what is learned of an own word is shown
-learned_shown : (word value : ℕ) (v w : View) → HasSoundState v → IsOwn v (cell_at v.setup.capacity word) → w.volatile ≡ learn v.volatile word value → Shows w (cell_at v.setup.capacity word) value
+learned_shown : (word value : ℕ) (v w : View) → HasSoundState v → IsOwn v (cell_at v.setup.capacity word)
+    → w.volatile ≡ learn v.volatile word value → Shows w (cell_at v.setup.capacity word) value
 learned_shown word value v w has own learned = ap (λ n. get_or w.volatile n None) (own_index v word own)
     ∙ ap (λ l. get_or l word None) learned
     ∙ get_or-set_same v.volatile word (Some value) None (let long = volatile_long v has in let below = own_below v word own in omega arith)

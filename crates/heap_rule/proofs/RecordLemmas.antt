@@ -21,11 +21,14 @@ use Rattle.heap_rule.proofs.RawLemmas.{store_durable, store_volatile}
 use Rattle.heap_rule.proofs.SettleLemmas.{own_index}
 
 -- an own word of a trimmed view
-pub only_at : (v : View) (index n : ℕ) (values : List (Option ℕ)) → 0 < times_own v (cell_at v.setup.capacity (index + n)) → get_or (only_own v index values) n None ≡ get_or values n None
+pub only_at : (v : View) (index n : ℕ) (values : List (Option ℕ)) → 0 < times_own v (cell_at v.setup.capacity (index + n))
+    → get_or (only_own v index values) n None ≡ get_or values n None
 only_at v index n [] own = refl
 only_at v index zero (value ∷ values) own =
-    ap (λ test. cond test value None) (lt-ltb 0 (times_own v (cell_at v.setup.capacity index)) (subst (λ j. 0 < times_own v (cell_at v.setup.capacity j)) (let e : index + 0 ≡ index = omega arith in e) own))
-only_at v index (suc n) (value ∷ values) own = only_at v (index + 1) n values (subst (λ j. 0 < times_own v (cell_at v.setup.capacity j)) (let e : index + suc n ≡ index + 1 + n = omega arith in e) own)
+    ap (λ test. cond test value None) (lt-ltb 0 (times_own v (cell_at v.setup.capacity index))
+    (subst (λ j. 0 < times_own v (cell_at v.setup.capacity j)) (let e : index + 0 ≡ index = omega arith in e) own))
+only_at v index (suc n) (value ∷ values) own = only_at v (index + 1) n values
+    (subst (λ j. 0 < times_own v (cell_at v.setup.capacity j)) (let e : index + suc n ≡ index + 1 + n = omega arith in e) own)
 
 -- the word is none of superblock d's descriptor
 record IsElsewhere (word d : ℕ) : Type 0 where
@@ -34,11 +37,14 @@ record IsElsewhere (word d : ℕ) : Type 0 where
   link : word ≢ index_of (link_cell d)
 
 -- what is learned of fresh superblocks is of their descriptors
-learn_elsewhere : (values : List (Option ℕ)) (u n word : ℕ) → ((d : ℕ) → u ≤ d → d < u + n → IsElsewhere word d) → get_or (learn_fresh values u n) word None ≡ get_or values word None
+learn_elsewhere : (values : List (Option ℕ)) (u n word : ℕ) → ((d : ℕ) → u ≤ d → d < u + n → IsElsewhere word d)
+    → get_or (learn_fresh values u n) word None ≡ get_or values word None
 learn_elsewhere values u zero word apart = refl
 learn_elsewhere values u (suc n) word apart = let here = apart u (omega arith) (omega arith) in
-    learn_elsewhere (learn (learn (learn values (index_of (info_cell u)) 0) (index_of (anchor_cell u)) 0) (index_of (link_cell u)) 0) (u + 1) n word (λ d from until. apart d (omega arith) (omega arith))
-    ∙ get_or-set_other (learn (learn values (index_of (info_cell u)) 0) (index_of (anchor_cell u)) 0) (index_of (link_cell u)) word (Some 0) None here.link
+    learn_elsewhere (learn (learn (learn values (index_of (info_cell u)) 0) (index_of (anchor_cell u)) 0) (index_of (link_cell u)) 0)
+    (u + 1) n word (λ d from until. apart d (omega arith) (omega arith))
+    ∙ get_or-set_other (learn (learn values (index_of (info_cell u)) 0) (index_of (anchor_cell u)) 0) (index_of (link_cell u)) word
+    (Some 0) None here.link
     ∙ get_or-set_other (learn values (index_of (info_cell u)) 0) (index_of (anchor_cell u)) word (Some 0) None here.anchor
     ∙ get_or-set_other values (index_of (info_cell u)) word (Some 0) None here.info
 
@@ -64,13 +70,15 @@ module _ (v w : View) (word : ℕ) (own : IsOwn v (cell_at v.setup.capacity word
 
     here : 0 < times_own x (cell_at x.setup.capacity (0 + index_of cell))
     here = subst (λ (k : Setup). 0 < times_own x (cell_at k.capacity (0 + index_of cell))) (sym setup)
-        (subst (λ n. 0 < times_own x (cell_at v.setup.capacity n)) (let e : word ≡ 0 + index_of cell = (let at = own_index v word own in omega arith) in e) in_x)
+        (subst (λ n. 0 < times_own x (cell_at v.setup.capacity n)) (let e : word ≡ 0 + index_of cell = (let at = own_index v word own in
+        omega arith) in e) in_x)
 
   -- a word that is learned is another
   learned : (at value : ℕ) (values : List (Option ℕ)) → (at ≡ word → ⊥) → known (learn values at value) cell ≡ known values cell
   learned at value values other = get_or-set_other values at (index_of cell) (Some value) None (λ same. other (sym same ∙ own_index v word own))
 
-  shifts : (m : Memory) (u : View) (shift : Option Shift) → w ≡ shifted m u shift → u.setup ≡ v.setup → u.volatile ≡ v.volatile → u.durable ≡ v.durable → KeepsRecord word v w
+  shifts : (m : Memory) (u : View) (shift : Option Shift) → w ≡ shifted m u shift → u.setup ≡ v.setup → u.volatile ≡ v.volatile
+      → u.durable ≡ v.durable → KeepsRecord word v w
   shifts m u None after setup volatile durable = plain _ after volatile durable
   shifts m u (Some (Cut d)) after setup volatile durable = cut _ after setup volatile durable
   shifts m u (Some (Alloc class)) after setup volatile durable = plain _ after volatile durable
@@ -81,7 +89,8 @@ module _ (v w : View) (word : ℕ) (own : IsOwn v (cell_at v.setup.capacity word
 
   draw_keeps : (shift : Option Shift) (ticket : ℕ) → IsEvent (Tick shift) v ticket w → KeepsRecord word v w
   draw_keeps shift ticket e = by_budget (nat_lt ticket v.setup.budget) e.after where
-    by_budget : (below : Bool) → w ≡ cond below (shifted (memory_of v.setup.capacity e.before.words) (drew v ticket) shift) (stopped v ticket) → KeepsRecord word v w
+    by_budget : (below : Bool) → w ≡ cond below (shifted (memory_of v.setup.capacity e.before.words) (drew v ticket) shift) (stopped v ticket)
+        → KeepsRecord word v w
     by_budget true after = shifts (memory_of v.setup.capacity e.before.words) (drew v ticket) shift after refl refl refl
     by_budget false after = plain _ after refl refl
 
@@ -104,8 +113,13 @@ module _ (v w : View) (word : ℕ) (own : IsOwn v (cell_at v.setup.capacity word
   }
 
   -- superblocks that were never taken are no seat's
-  fresh_elsewhere : (n found : ℕ) (e : IsEvent (TakeFresh n) v found w) → found ≡ seen v.seen_used → (d : ℕ) → seen v.seen_used ≤ d → d < seen v.seen_used + n → IsElsewhere word d
-  fresh_elsewhere n found e same d from until = record { info = apart (info_cell d) (lt-ltb d v.setup.capacity inside) none_raw; anchor = apart (anchor_cell d) (lt-ltb d v.setup.capacity inside) none_raw; link = apart (link_cell d) (lt-ltb d v.setup.capacity inside) none } where
+  fresh_elsewhere : (n found : ℕ) (e : IsEvent (TakeFresh n) v found w) → found ≡ seen v.seen_used → (d : ℕ) → seen v.seen_used ≤ d
+      → d < seen v.seen_used + n → IsElsewhere word d
+  fresh_elsewhere n found e same d from until = record {
+    info = apart (info_cell d) (lt-ltb d v.setup.capacity inside) none_raw;
+    anchor = apart (anchor_cell d) (lt-ltb d v.setup.capacity inside) none_raw;
+    link = apart (link_cell d) (lt-ltb d v.setup.capacity inside) none;
+  } where
     m : Memory
     m = memory_of v.setup.capacity e.before.words
 
@@ -122,17 +136,20 @@ module _ (v w : View) (word : ℕ) (own : IsOwn v (cell_at v.setup.capacity word
     none_raw = let all = none in omega arith
 
     apart : (c : Cell) → is_cell v.setup.capacity c ≡ true → times_own v c ≡ 0 → word ≢ index_of c
-    apart c is none_own at = let here = subst (λ (x : Cell). 0 < times_own v x) (ap (cell_at v.setup.capacity) at ∙ cell_at_index v.setup.capacity c is) own in omega arith
+    apart c is none_own at = let here = subst (λ (x : Cell). 0 < times_own v x) (ap (cell_at v.setup.capacity) at
+        ∙ cell_at_index v.setup.capacity c is) own in omega arith
 
   fresh_keeps : (n found : ℕ) → IsEvent (TakeFresh n) v found w → KeepsRecord word v w
   fresh_keeps n found e = by_test (nat_eq found (seen v.seen_used)) refl e.after where
-    by_test : (test : Bool) → nat_eq found (seen v.seen_used) ≡ test → w ≡ cond test (taken_fresh v n) (record (lost v found) { seen_used = None }) → KeepsRecord word v w
+    by_test : (test : Bool) → nat_eq found (seen v.seen_used) ≡ test
+        → w ≡ cond test (taken_fresh v n) (record (lost v found) { seen_used = None }) → KeepsRecord word v w
     by_test true is after = record {
       volatile = ap (λ (u : View). known u.volatile cell) after ∙ learn_elsewhere v.volatile (seen v.seen_used) n (index_of cell) apart;
       durable = ap (λ (u : View). known u.durable cell) after ∙ learn_elsewhere v.durable (seen v.seen_used) n (index_of cell) apart;
     } where
       apart : (d : ℕ) → seen v.seen_used ≤ d → d < seen v.seen_used + n → IsElsewhere (index_of cell) d
-      apart d from until = subst (λ k. IsElsewhere k d) (sym (own_index v word own)) (fresh_elsewhere n found e (eqb-true found (seen v.seen_used) is) d from until)
+      apart d from until = subst (λ k. IsElsewhere k d) (sym (own_index v word own))
+          (fresh_elsewhere n found e (eqb-true found (seen v.seen_used) is) d from until)
     by_test false is after = plain _ after refl refl
 
   claim_keeps : (u : View) (d list : ℕ) → w ≡ claimed u d list → u.volatile ≡ v.volatile → u.durable ≡ v.durable → KeepsRecord word v w
@@ -141,7 +158,8 @@ module _ (v w : View) (word : ℕ) (own : IsOwn v (cell_at v.setup.capacity word
 
   pop_keeps : (found : ℕ) → IsEvent Pop v found w → KeepsRecord word v w
   pop_keeps found e = by_test (nat_eq found (seen_word v.seen_head)) e.after where
-    by_test : (test : Bool) → w ≡ cond test (popped v (before (head_first (seen_word v.seen_head)))) (record (lost v found) { seen_head = None }) → KeepsRecord word v w
+    by_test : (test : Bool) → w ≡ cond test (popped v (before (head_first (seen_word v.seen_head))))
+        (record (lost v found) { seen_head = None }) → KeepsRecord word v w
     by_test true after = claim_keeps _ (before (head_first (seen_word v.seen_head))) (seen_of v.seen_head) after refl refl
     by_test false after = plain _ after refl refl
 
@@ -157,7 +175,8 @@ module _ (v w : View) (word : ℕ) (own : IsOwn v (cell_at v.setup.capacity word
 
   take_all_keeps : (d found : ℕ) → IsEvent (TakeAll d) v found w → KeepsRecord word v w
   take_all_keeps d found e = by_test (nat_eq found (seen_word v.seen_anchor)) e.after where
-    by_test : (test : Bool) → w ≡ cond test (taken_all (memory_of v.setup.capacity e.before.words) v d) (record (lost v found) { seen_anchor = None }) → KeepsRecord word v w
+    by_test : (test : Bool) → w ≡ cond test (taken_all (memory_of v.setup.capacity e.before.words) v d)
+        (record (lost v found) { seen_anchor = None }) → KeepsRecord word v w
     by_test true after = cut _ after refl refl refl
     by_test false after = plain _ after refl refl
 
@@ -194,5 +213,6 @@ module _ (v w : View) (word : ℕ) (own : IsOwn v (cell_at v.setup.capacity word
   keeps_record (TakeAll d) found e other = take_all_keeps d found e
   keeps_record (Give d) found e other = give_keeps d found e
 
-pub records_stay : (event : Event) (v w : View) (found word : ℕ) → IsEvent event v found w → IsOwn v (cell_at v.setup.capacity word) → IsOwn w (cell_at v.setup.capacity word) → (IsOn event word → ⊥) → KeepsRecord word v w
+pub records_stay : (event : Event) (v w : View) (found word : ℕ) → IsEvent event v found w → IsOwn v (cell_at v.setup.capacity word)
+    → IsOwn w (cell_at v.setup.capacity word) → (IsOn event word → ⊥) → KeepsRecord word v w
 records_stay event v w found word e own still other = keeps_record v w word own still event found e other

@@ -29,19 +29,25 @@ use Rattle.heap_rule.proofs.ShownLemmas.{may_of}
 
 -- an own word is one of the image
 pub own_there : (v : View) (word : ℕ) → IsOwn v (cell_at v.setup.capacity word) → is_cell v.setup.capacity (cell_at v.setup.capacity word) ≡ true
-own_there v word own = elim (cell_there v.setup.capacity word) [ inl there ↦ there | inr nowhere ↦ absurd (let e = ap (times_own v) nowhere in omega arith) ]
+own_there v word own = elim (cell_there v.setup.capacity word) [
+  | inl there ↦ there
+  | inr nowhere ↦ absurd (let e = ap (times_own v) nowhere in
+      omega arith)
+]
 
 pub own_index : (v : View) (word : ℕ) → IsOwn v (cell_at v.setup.capacity word) → index_of (cell_at v.setup.capacity word) ≡ word
 own_index v word own = index_at v.setup.capacity word (own_there v word own)
 
 pub own_below : (v : View) (word : ℕ) → IsOwn v (cell_at v.setup.capacity word) → word < image_words v.setup.capacity
-own_below v word own = subst (λ n. n < image_words v.setup.capacity) (own_index v word own) (index_within v.setup.capacity (cell_at v.setup.capacity word) (own_there v word own))
+own_below v word own = subst (λ n. n < image_words v.setup.capacity) (own_index v word own)
+    (index_within v.setup.capacity (cell_at v.setup.capacity word) (own_there v word own))
 
 -- what is recorded changes nothing of what is the seat's
 pub own_still : (v : View) (word value : ℕ) → IsOwn v (cell_at v.setup.capacity word) → IsOwn (learned v word value) (cell_at v.setup.capacity word)
 own_still v word value own = subst (λ n. 0 < n) (sym (own_same v (learned v word value) refl (cell_at v.setup.capacity word))) own
 
-pub settle_place : (v : View) (word value : ℕ) → IsOwn v (cell_at v.setup.capacity word) → image_words v.setup.capacity + word ≡ table_index v.setup.capacity (place_of (learned v word value) (Settle word))
+pub settle_place : (v : View) (word value : ℕ) → IsOwn v (cell_at v.setup.capacity word)
+    → image_words v.setup.capacity + word ≡ table_index v.setup.capacity (place_of (learned v word value) (Settle word))
 settle_place v word value own = ap (λ n. image_words v.setup.capacity + n) (sym (own_index v word own))
 
 pub settle_can : (v : View) (word value : ℕ) → Can v (Settle word) → Can (learned v word value) (Settle word)
@@ -53,19 +59,30 @@ settle_store v word value own s found =
     shown (learned v word value) s (cell_at v.setup.capacity word) value (own_there v word own)
     (ap (λ n. get_or (set v.volatile word (Some value)) n None) (own_index v word own) ∙ get_or-set_same v.volatile word (Some value) None less) where
       less : word < length v.volatile
-      less = let l = (s.sound.good.set_up s.seat (learned v word value) s.below s.at).volatile in let n = length-set v.volatile word (Some value) in let b = own_below v word own in omega arith
+      less = let l = (s.sound.good.set_up s.seat (learned v word value) s.below s.at).volatile in
+          let n = length-set v.volatile word (Some value) in let b = own_below v word own in omega arith
 
-pub settled_kept : (notes : SeatNotes) (v w : View) (word value found : ℕ) → IsKeptOf notes v → IsEvent (Settle word) (learned v word value) found w → HasSoundState w → IsKeptOf notes w
+pub settled_kept : (notes : SeatNotes) (v w : View) (word value found : ℕ) → IsKeptOf notes v
+    → IsEvent (Settle word) (learned v word value) found w → HasSoundState w → IsKeptOf notes w
 settled_kept notes v w word value found kept event has = keep_fits _ _ w event.after has (record {
-  notes_are = let n = kept.notes_are in record { ticket = n.ticket; stopped = n.stopped; seen_used = n.seen_used; seen_head = n.seen_head; seen_link = n.seen_link; seen_anchor = n.seen_anchor };
+  notes_are = let n = kept.notes_are in record {
+    ticket = n.ticket;
+    stopped = n.stopped;
+    seen_used = n.seen_used;
+    seen_head = n.seen_head;
+    seen_link = n.seen_link;
+    seen_anchor = n.seen_anchor;
+  };
   caches = kept.caches;
   batch = kept.batch;
 })
 
-pub settled_seat : (me me' : Me ℕ SeatViews) (notes : SeatNotes) (capacity : ℕ) {budget : ℕ} (word value found : ℕ) (shared : SharedView) (table : TableId) → IsSingleSeat me notes capacity budget → IsAt shared table me' (view_in me'.0)
+pub settled_seat : (me me' : Me ℕ SeatViews) (notes : SeatNotes) (capacity : ℕ) {budget : ℕ} (word value found : ℕ) (shared : SharedView)
+    (table : TableId) → IsSingleSeat me notes capacity budget → IsAt shared table me' (view_in me'.0)
     → IsEvent (Settle word) (learned (view_in me.0) word value) found (view_in me'.0) → IsSingleSeat me' notes capacity budget
 settled_seat me me' notes capacity word value found shared table old at event =
-    let same : (view_in me'.0).setup ≡ (view_in me.0).setup = (has_after (Settle word) (learned (view_in me.0) word value) found (view_in me'.0) event).1 in record {
+    let same : (view_in me'.0).setup ≡ (view_in me.0).setup = (has_after (Settle word) (learned (view_in me.0) word value) found
+    (view_in me'.0) event).1 in record {
       single = at.single;
       no_slots = at.no_slots;
       kept = settled_kept notes (view_in me.0) (view_in me'.0) word value found old.kept event at.has;
@@ -80,7 +97,8 @@ set_again (x ∷ values) zero a = refl
 set_again (x ∷ values) (suc i) a = ap (λ l. x ∷ l) (set_again values i a)
 
 -- the word that is read, recorded and then stored as the durable one: this is the event of the view before, in the state in which it was read
-pub settled_event : (v w : View) (word value found : ℕ) (s : HasSoundState v) → value ≡ get_or s.words word 0 → Can v (Settle word) → IsEvent (Settle word) (learned v word value) found w → (n : ℕ) × IsEvent (Settle word) v n w
+pub settled_event : (v w : View) (word value found : ℕ) (s : HasSoundState v) → value ≡ get_or s.words word 0 → Can v (Settle word)
+    → IsEvent (Settle word) (learned v word value) found w → (n : ℕ) × IsEvent (Settle word) v n w
 settled_event v w word value found s value_is can event = (
   found_by m v (Settle word),
   record {
@@ -88,7 +106,8 @@ settled_event v w word value found s value_is can event = (
     may = may;
     found_is = refl;
     after = w_is;
-    kept = subst (λ u. Sound v.setup (words_after v.setup s.words v (Settle word)) (set s.views s.seat u)) (sym w_is) (sound_step v.setup s.words s.views s.seat v (Settle word) s.below s.at s.sound may);
+    kept = subst (λ u. Sound v.setup (words_after v.setup s.words v (Settle word)) (set s.views s.seat u)) (sym w_is)
+        (sound_step v.setup s.words s.views s.seat v (Settle word) s.below s.at s.sound may);
   },
 ) where
   m : Memory
@@ -101,7 +120,8 @@ settled_event v w word value found s value_is can event = (
   settled x = record v { volatile = learn v.volatile word x; durable = learn v.durable word x }
 
   read : m.volatile (cell_at v.setup.capacity word) ≡ value
-  read = pick (is_cell v.setup.capacity (cell_at v.setup.capacity word)) _ _ (own_there v word can.shown) ∙ ap (λ n. get_or s.words n 0) (own_index v word can.shown) ∙ sym value_is
+  read = pick (is_cell v.setup.capacity (cell_at v.setup.capacity word)) _ _ (own_there v word can.shown)
+      ∙ ap (λ n. get_or s.words n 0) (own_index v word can.shown) ∙ sym value_is
 
   later : (memory_of v.setup.capacity event.before.words).volatile (cell_at v.setup.capacity word) ≡ value
   later = settle_store v word value can.shown event.before found

@@ -64,7 +64,8 @@ module _ (notes : SeatNotes) (v : View) (kept : IsKeptOf notes v) (class : ℕ) 
     cached_own = let t = in_lists_total (first_of cs) class v.caches (first_there cs may.cached) in omega arith
 
     pub cached_inside : cache.first < table_length v.setup.capacity
-    cached_inside = let w = index_within v.setup.capacity (data_cell (first_of cs)) (block_cell v kept.has (first_of cs) cached_own) in let e = first_is in omega arith
+    cached_inside = let w = index_within v.setup.capacity (data_cell (first_of cs)) (block_cell v kept.has (first_of cs) cached_own) in
+        let e = first_is in omega arith
 
     pub next_read : (s : HasSoundState v) (found : ℕ) → found ≡ get_or s.words cache.first 0 → 1 ≤ length (rest_of cs) → first_of (rest_of cs) ≡ found
     next_read s found found_is some =
@@ -81,20 +82,48 @@ module _ (notes : SeatNotes) (v : View) (kept : IsKeptOf notes v) (class : ℕ) 
 
       pub alloc_fits : FitsShift (record notes { caches = set notes.caches class rest }) v (Some (Alloc class))
       alloc_fits = λ s found. record {
-        notes_are = record { ticket = refl; stopped = kept.notes_are.stopped; seen_used = kept.notes_are.seen_used; seen_head = kept.notes_are.seen_head; seen_link = kept.notes_are.seen_link; seen_anchor = kept.notes_are.seen_anchor };
-        caches = cache_set notes.caches v.caches class (rest_of cs) rest kept.caches less (long_caches v kept.has class less) next_is (let l = rest_length cs in let n = cache_count less in omega arith);
+        notes_are = record {
+          ticket = refl;
+          stopped = kept.notes_are.stopped;
+          seen_used = kept.notes_are.seen_used;
+          seen_head = kept.notes_are.seen_head;
+          seen_link = kept.notes_are.seen_link;
+          seen_anchor = kept.notes_are.seen_anchor;
+        };
+        caches = cache_set notes.caches v.caches class (rest_of cs) rest kept.caches less (long_caches v kept.has class less) next_is
+            (let l = rest_length cs in let n = cache_count less in omega arith);
         batch = kept.batch;
       }
 
-      pub lift_fits : (d head : ℕ) → d ≡ superblock_at v.setup.capacity cache.first → head ≡ cond (nat_eq notes.batch.count 0) cache.first notes.batch.first
-          → FitsShift (record notes { caches = set notes.caches class rest; batch = record { descriptor = d; class = class; first = head; last = cache.first; count = notes.batch.count + 1; linked = true } }) v (Some (Lift class))
+      pub lift_fits : (d head : ℕ) → d ≡ superblock_at v.setup.capacity cache.first
+          → head ≡ cond (nat_eq notes.batch.count 0) cache.first notes.batch.first
+          → FitsShift (record notes {
+            caches = set notes.caches class rest;
+            batch = record {
+              descriptor = d;
+              class = class;
+              first = head;
+              last = cache.first;
+              count = notes.batch.count + 1;
+              linked = true;
+            };
+          }) v (Some (Lift class))
       lift_fits d head d_is head_is = λ s found. record {
-        notes_are = record { ticket = refl; stopped = kept.notes_are.stopped; seen_used = kept.notes_are.seen_used; seen_head = kept.notes_are.seen_head; seen_link = kept.notes_are.seen_link; seen_anchor = kept.notes_are.seen_anchor };
-        caches = cache_set notes.caches v.caches class (rest_of cs) rest kept.caches less (long_caches v kept.has class less) next_is (let l = rest_length cs in let n = cache_count less in omega arith);
+        notes_are = record {
+          ticket = refl;
+          stopped = kept.notes_are.stopped;
+          seen_used = kept.notes_are.seen_used;
+          seen_head = kept.notes_are.seen_head;
+          seen_link = kept.notes_are.seen_link;
+          seen_anchor = kept.notes_are.seen_anchor;
+        };
+        caches = cache_set notes.caches v.caches class (rest_of cs) rest kept.caches less (long_caches v kept.has class less) next_is
+            (let l = rest_length cs in let n = cache_count less in omega arith);
         batch = record {
           descriptor = ap (superblock_at v.setup.capacity) first_is ∙ sym d_is;
           class = refl;
-          first = first_append v.batch.blocks (first_of cs) ∙ ap₂ (λ n x. cond (nat_eq n 0) x (first_of v.batch.blocks)) kept.batch.count first_is ∙ ap (λ x. cond (nat_eq notes.batch.count 0) cache.first x) kept.batch.first ∙ sym head_is;
+          first = first_append v.batch.blocks (first_of cs) ∙ ap₂ (λ n x. cond (nat_eq n 0) x (first_of v.batch.blocks))
+              kept.batch.count first_is ∙ ap (λ x. cond (nat_eq notes.batch.count 0) cache.first x) kept.batch.first ∙ sym head_is;
           last = last_append v.batch.blocks (first_of cs) ∙ first_is;
           count = (let l = length_append v.batch.blocks (first_of cs) in let n = kept.batch.count in omega arith);
           linked = refl;
@@ -103,10 +132,13 @@ module _ (notes : SeatNotes) (v : View) (kept : IsKeptOf notes v) (class : ℕ) 
 
 -- one more block counts
 pub batch_fits : (notes : SeatNotes) (v : View) → IsKeptOf notes v → notes.batch.count + 1 < 18446744073709551616
-batch_fits notes v kept = let b = batch_short v kept.has in let n = kept.batch.count in let small = kept.has.sound.good.small in let fits = largest_capacity_fits in omega arith
+batch_fits notes v kept = let b = batch_short v kept.has in let n = kept.batch.count in let small = kept.has.sound.good.small in
+    let fits = largest_capacity_fits in omega arith
 
-pub count_fits : (notes : SeatNotes) (v : View) (kept : IsKeptOf notes v) (class : ℕ) → class < lists → (get_or notes.caches class no_cache).count + 1 < 18446744073709551616
-count_fits notes v kept class less = let b = cache_short v kept.has class in let n = cache_count notes v kept class less in let small = kept.has.sound.good.small in let fits = largest_capacity_fits in omega arith
+pub count_fits : (notes : SeatNotes) (v : View) (kept : IsKeptOf notes v) (class : ℕ) → class < lists
+    → (get_or notes.caches class no_cache).count + 1 < 18446744073709551616
+count_fits notes v kept class less = let b = cache_short v kept.has class in let n = cache_count notes v kept class less in
+    let small = kept.has.sound.good.small in let fits = largest_capacity_fits in omega arith
 
 -- a held block that may be freed is of the class of its list
 module _ (v : View) (s : HasSoundState v) (block : ℕ) (can : CanFree v block) where
@@ -120,12 +152,25 @@ module _ (v : View) (s : HasSoundState v) (block : ℕ) (can : CanFree v block) 
   free_class = subst IsClass free_info (block_class v s block free_own)
 
 pub free_fits : (notes : SeatNotes) (v : View) (kept : IsKeptOf notes v) (block : ℕ) (can : CanFree v block) (class : ℕ) → class ≡ can.class
-    → FitsShift (record notes { caches = set notes.caches class (record { first = block; count = (get_or notes.caches class no_cache).count + 1 }) }) v (Some (Free block))
+    → FitsShift (record notes {
+      caches = set notes.caches class (record {
+        first = block;
+        count = (get_or notes.caches class no_cache).count + 1;
+      });
+    }) v (Some (Free block))
 free_fits notes v kept block can class class_is = λ s found. record {
-  notes_are = record { ticket = refl; stopped = kept.notes_are.stopped; seen_used = kept.notes_are.seen_used; seen_head = kept.notes_are.seen_head; seen_link = kept.notes_are.seen_link; seen_anchor = kept.notes_are.seen_anchor };
+  notes_are = record {
+    ticket = refl;
+    stopped = kept.notes_are.stopped;
+    seen_used = kept.notes_are.seen_used;
+    seen_head = kept.notes_are.seen_head;
+    seen_link = kept.notes_are.seen_link;
+    seen_anchor = kept.notes_are.seen_anchor;
+  };
   caches = subst (λ n. HasCaches (set notes.caches class new) (set v.caches n (block ∷ of_class v.caches n))) (class_is ∙ sym (free_info v s block can))
       (cache_set notes.caches v.caches class (block ∷ of_class v.caches class) new kept.caches less (long_caches v kept.has class less) (λ some. refl)
-      (let n = cache_count notes v kept class less in let z : suc (length (of_class v.caches class)) ≡ (get_or notes.caches class no_cache).count + 1 = omega arith in z));
+      (let n = cache_count notes v kept class less in let z : suc (length (of_class v.caches class)) ≡
+      (get_or notes.caches class no_cache).count + 1 = omega arith in z));
   batch = kept.batch;
 } where
   new : Cache
@@ -142,22 +187,33 @@ info_inside capacity d place less place_is = let w = index_within capacity (info
 module _ (v : View) (s : HasSoundState v) (d : ℕ) (some : 1 ≤ span_count d v.large) where
   pub span_below : d < v.setup.capacity
   span_below = elim (cases_lt 0 (times_large d v.large)) [
-    | inl takes ↦ let t = total_at (λ (u : View). times_large d u.large) s.views s.seat v s.below s.at in let low = s.sound.good.shaped.durable.below d (omega arith) in
+    | inl takes ↦ let t = total_at (λ (u : View). times_large d u.large) s.views s.seat v s.below s.at in
+        let low = s.sound.good.shaped.durable.below d (omega arith) in
         let q = s.sound.good.shaped.durable.behind in let r = s.sound.good.shaped.durable.room in omega arith
     | inr none ↦ absurd (let z = no_span d v.large (omega arith) in omega arith)
   ]
 
   pub span_read : (place found : ℕ) → place ≡ info_word d → found ≡ get_or s.words place 0 → found ≡ 255 + 256 * span_count d v.large
-  span_read place found place_is found_is = info_read v s d place found span_below place_is found_is ∙ ((s.sound.good.claims s.seat v s.below s.at).is_large d some).0
+  span_read place found place_is found_is = info_read v s d place found span_below place_is found_is
+      ∙ ((s.sound.good.claims s.seat v s.below s.at).is_large d some).0
 
-pub large_fits : (notes : SeatNotes) (v : View) (d count : ℕ) (anchor : Option Seen) → IsKeptOf notes v → snapshot anchor ≡ cleared d count (snapshot notes.seen_anchor) → FitsShift (record notes { seen_anchor = anchor }) v (Some (Large d count))
+pub large_fits : (notes : SeatNotes) (v : View) (d count : ℕ) (anchor : Option Seen) → IsKeptOf notes v
+    → snapshot anchor ≡ cleared d count (snapshot notes.seen_anchor) → FitsShift (record notes { seen_anchor = anchor }) v (Some (Large d count))
 large_fits notes v d count anchor kept cleared_is = λ s found. record {
-  notes_are = record { ticket = refl; stopped = kept.notes_are.stopped; seen_used = kept.notes_are.seen_used; seen_head = kept.notes_are.seen_head; seen_link = kept.notes_are.seen_link; seen_anchor = ap (cleared d count) kept.notes_are.seen_anchor ∙ sym cleared_is };
+  notes_are = record {
+    ticket = refl;
+    stopped = kept.notes_are.stopped;
+    seen_used = kept.notes_are.seen_used;
+    seen_head = kept.notes_are.seen_head;
+    seen_link = kept.notes_are.seen_link;
+    seen_anchor = ap (cleared d count) kept.notes_are.seen_anchor ∙ sym cleared_is;
+  };
   caches = kept.caches;
   batch = kept.batch;
 }
 
-pub split_fits : (notes : SeatNotes) (v : View) (block d count : ℕ) (anchor : Option Seen) → IsKeptOf notes v → d ≡ superblock_at v.setup.capacity block → count ≡ span_count d v.large
+pub split_fits : (notes : SeatNotes) (v : View) (block d count : ℕ) (anchor : Option Seen) → IsKeptOf notes v
+    → d ≡ superblock_at v.setup.capacity block → count ≡ span_count d v.large
     → snapshot anchor ≡ cleared d count (snapshot notes.seen_anchor) → FitsShift (record notes { seen_anchor = anchor }) v (Some (Split block))
 split_fits notes v block d count anchor kept d_is count_is cleared_is = λ s found. record {
   notes_are = record {
@@ -166,8 +222,10 @@ split_fits notes v block d count anchor kept d_is count_is cleared_is = λ s fou
     seen_used = kept.notes_are.seen_used;
     seen_head = kept.notes_are.seen_head;
     seen_link = kept.notes_are.seen_link;
-    seen_anchor = ap (λ x. cleared (superblock_at v.setup.capacity block) (span_count (superblock_at v.setup.capacity block) v.large) x) kept.notes_are.seen_anchor
-        ∙ ap (λ e. cleared e (span_count e v.large) (snapshot notes.seen_anchor)) (sym d_is) ∙ ap (λ n. cleared d n (snapshot notes.seen_anchor)) (sym count_is) ∙ sym cleared_is;
+    seen_anchor = ap (λ x. cleared (superblock_at v.setup.capacity block) (span_count (superblock_at v.setup.capacity block) v.large) x)
+        kept.notes_are.seen_anchor
+        ∙ ap (λ e. cleared e (span_count e v.large) (snapshot notes.seen_anchor)) (sym d_is)
+        ∙ ap (λ n. cleared d n (snapshot notes.seen_anchor)) (sym count_is) ∙ sym cleared_is;
   };
   caches = kept.caches;
   batch = kept.batch;
@@ -181,13 +239,24 @@ module _ (v : View) (s : HasSoundState v) (d : ℕ) (can : CanCut v d) where
   pub cut_info : info (memory_of v.setup.capacity s.words) d ≡ can.class
   cut_info = shown v s (info_cell d) can.class (lt-ltb d v.setup.capacity cut_below) can.info_is
 
-pub cut_fits : (notes : SeatNotes) (v : View) (d : ℕ) (can : CanCut v d) (class first count : ℕ) (anchor : Option Seen) → IsKeptOf notes v → class ≡ can.class → IsClass class → first ≡ start_word v.setup.capacity d → count ≡ blocks_of class
-    → snapshot anchor ≡ cleared d 1 (snapshot notes.seen_anchor) → FitsShift (record notes { seen_anchor = anchor; caches = set notes.caches class (record { first = first; count = count }) }) v (Some (Cut d))
+pub cut_fits : (notes : SeatNotes) (v : View) (d : ℕ) (can : CanCut v d) (class first count : ℕ) (anchor : Option Seen) → IsKeptOf notes v
+    → class ≡ can.class → IsClass class → first ≡ start_word v.setup.capacity d → count ≡ blocks_of class
+    → snapshot anchor ≡ cleared d 1 (snapshot notes.seen_anchor) → FitsShift
+    (record notes { seen_anchor = anchor; caches = set notes.caches class (record { first = first; count = count }) }) v (Some (Cut d))
 cut_fits notes v d can class first count anchor kept class_is is_class first_is count_is cleared_is = λ s found. record {
-  notes_are = record { ticket = refl; stopped = kept.notes_are.stopped; seen_used = kept.notes_are.seen_used; seen_head = kept.notes_are.seen_head; seen_link = kept.notes_are.seen_link; seen_anchor = ap (cleared d 1) kept.notes_are.seen_anchor ∙ sym cleared_is };
-  caches = subst (λ n. HasCaches (set notes.caches class new) (set v.caches n (class_blocks v.setup.capacity n d))) (class_is ∙ sym (cut_info v s d can))
+  notes_are = record {
+    ticket = refl;
+    stopped = kept.notes_are.stopped;
+    seen_used = kept.notes_are.seen_used;
+    seen_head = kept.notes_are.seen_head;
+    seen_link = kept.notes_are.seen_link;
+    seen_anchor = ap (cleared d 1) kept.notes_are.seen_anchor ∙ sym cleared_is;
+  };
+  caches = subst (λ n. HasCaches (set notes.caches class new) (set v.caches n (class_blocks v.setup.capacity n d))) (class_is
+      ∙ sym (cut_info v s d can))
       (cache_set notes.caches v.caches class (class_blocks v.setup.capacity class d) new kept.caches less (long_caches v kept.has class less)
-      (λ some. first_step (start_word v.setup.capacity d) (words_of_class class) (blocks_of class) (let four = four_blocks class is_class in omega arith) ∙ sym first_is)
+      (λ some. first_step (start_word v.setup.capacity d) (words_of_class class) (blocks_of class) (let four = four_blocks class is_class in
+      omega arith) ∙ sym first_is)
       (length_steps (start_word v.setup.capacity d) (words_of_class class) (blocks_of class) ∙ sym count_is));
   batch = kept.batch;
 } where

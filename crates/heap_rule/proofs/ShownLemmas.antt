@@ -38,6 +38,7 @@ may_of v event can s = record {
 }
 
 -- its word is one of the table
-pub can_place : (v : View) (event : Event) → HasSoundState v → Can v event → table_index v.setup.capacity (place_of v event) < table_length v.setup.capacity
+pub can_place : (v : View) (event : Event) → HasSoundState v → Can v event
+    → table_index v.setup.capacity (place_of v event) < table_length v.setup.capacity
 can_place v event s can = subst (λ n. table_index v.setup.capacity (place_of v event) < n) s.sound.long
     (in_length v.setup (record { words = s.words; views = s.views }) s.seat v event s.below s.at s.sound (may_of v event can s))

@@ -22,19 +22,23 @@ of_none [] e = refl
 of_none (b ∷ bs) e = absurd (omega arith)
 
 -- an own word that is no block's first word is not that of the batch's last block
-not_last : (v : View) → HasSoundState v → (word : ℕ) (cell : Cell) → cell_at v.setup.capacity word ≡ cell → IsOwn v cell → ((at : ℕ) → cell ≢ data_cell at) → last_of v.batch.blocks ≢ word
+not_last : (v : View) → HasSoundState v → (word : ℕ) (cell : Cell) → cell_at v.setup.capacity word ≡ cell → IsOwn v cell
+    → ((at : ℕ) → cell ≢ data_cell at) → last_of v.batch.blocks ≢ word
 not_last v s word cell is own other last = elim (cases_lt 0 (length v.batch.blocks)) [
   | inl some ↦
       let there = last_there v.batch.blocks some in
-      let at : cell_at v.setup.capacity (last_of v.batch.blocks) ≡ data_cell (last_of v.batch.blocks) = cell_at_index v.setup.capacity (data_cell (last_of v.batch.blocks)) (block_cell v s (last_of v.batch.blocks) (omega arith)) in
+      let at : cell_at v.setup.capacity (last_of v.batch.blocks) ≡ data_cell (last_of v.batch.blocks) =
+      cell_at_index v.setup.capacity (data_cell (last_of v.batch.blocks)) (block_cell v s (last_of v.batch.blocks) (omega arith)) in
       other (last_of v.batch.blocks) (sym is ∙ ap (cell_at v.setup.capacity) (sym last) ∙ at)
   | inr none ↦ let zero_word : word ≡ 0 = sym last ∙ of_none v.batch.blocks (omega arith) in
       absurd (let o : 0 < times_own v (cell_at v.setup.capacity word) = subst (λ x. 0 < times_own v x) (sym is) own in
       let z : 0 < times_own v (cell_at v.setup.capacity 0) = subst (λ n. 0 < times_own v (cell_at v.setup.capacity n)) zero_word o in omega arith)
 ]
 
-pub word_stored : (notes : SeatNotes) (v w : View) (word value found : ℕ) (batch : BatchEnds) → IsKeptOf notes v → IsEvent (Store word value) v found w → HasSoundState w → IsOwn v (cell_at v.setup.capacity word)
-    → batch ≡ record notes.batch { linked = cond (nat_eq word notes.batch.last) false notes.batch.linked } → IsKeptOf (record notes { ticket = None; batch = batch }) w
+pub word_stored : (notes : SeatNotes) (v w : View) (word value found : ℕ) (batch : BatchEnds) → IsKeptOf notes v
+    → IsEvent (Store word value) v found w → HasSoundState w → IsOwn v (cell_at v.setup.capacity word)
+    → batch ≡ record notes.batch { linked = cond (nat_eq word notes.batch.last) false notes.batch.linked }
+    → IsKeptOf (record notes { ticket = None; batch = batch }) w
 word_stored notes v w word value found batch kept event has own batch_is =
     keep_fits _ _ w event.after has (by_cell (cell_at v.setup.capacity word) refl own) where
       u : View
@@ -48,10 +52,12 @@ word_stored notes v w word value found batch kept event has own batch_is =
         first = kept.batch.first;
         last = kept.batch.last;
         count = kept.batch.count;
-        linked = kept.batch.linked ∙ sym (ap (λ b. cond b false notes.batch.linked) (ne_eqb word notes.batch.last (λ e. not_last v kept.has word cell is own other (kept.batch.last ∙ sym e))));
+        linked = kept.batch.linked ∙ sym (ap (λ b. cond b false notes.batch.linked)
+            (ne_eqb word notes.batch.last (λ e. not_last v kept.has word cell is own other (kept.batch.last ∙ sym e))));
       })
 
-      with_notes : (x : View) → x.ticket ≡ None → x.stopped ≡ v.stopped → x.seen_used ≡ v.seen_used → x.seen_head ≡ v.seen_head → x.seen_link ≡ v.seen_link → x.seen_anchor ≡ v.seen_anchor → x.caches ≡ v.caches
+      with_notes : (x : View) → x.ticket ≡ None → x.stopped ≡ v.stopped → x.seen_used ≡ v.seen_used → x.seen_head ≡ v.seen_head
+          → x.seen_link ≡ v.seen_link → x.seen_anchor ≡ v.seen_anchor → x.caches ≡ v.caches
           → HasBatch batch x.batch → Fits (record notes { ticket = None; batch = batch }) x
       with_notes x ticket stopped seen_used seen_head seen_link seen_anchor caches has_batch = record {
         notes_are = record {
@@ -70,7 +76,8 @@ word_stored notes v w word value found batch kept event has own batch_is =
       by_anchor d zero b = with_notes _ refl refl refl refl refl refl refl b
       by_anchor d (suc n) b = with_notes _ refl refl refl refl refl refl refl b
 
-      by_cell : (cell : Cell) → cell_at v.setup.capacity word ≡ cell → IsOwn v cell → Fits (record notes { ticket = None; batch = batch }) (stored u cell value)
+      by_cell : (cell : Cell) → cell_at v.setup.capacity word ≡ cell → IsOwn v cell
+          → Fits (record notes { ticket = None; batch = batch }) (stored u cell value)
       by_cell used_cell is own = absurd (omega arith)
       by_cell (head_cell list) is own = absurd (omega arith)
       by_cell (info_cell d) is own = with_notes _ refl refl refl refl refl refl refl (stays (info_cell d) is own (λ at e. absurd (cc)))
@@ -78,7 +85,12 @@ word_stored notes v w word value found batch kept event has own batch_is =
       by_cell (link_cell d) is own = with_notes _ refl refl refl refl refl refl refl (stays (link_cell d) is own (λ at e. absurd (cc)))
       by_cell (root_cell i) is own = with_notes _ refl refl refl refl refl refl refl (stays (root_cell i) is own (λ at e. absurd (cc)))
       by_cell (data_cell at) is own =
-          let there : is_cell v.setup.capacity (cell_at v.setup.capacity word) ≡ true = elim (cell_there v.setup.capacity word) [ inl yes_there ↦ yes_there | inr none ↦ absurd (let never : data_cell at ≡ no_cell = sym is ∙ none in cc) ] in
+          let there : is_cell v.setup.capacity (cell_at v.setup.capacity word) ≡ true =
+          elim (cell_there v.setup.capacity word) [
+            | inl yes_there ↦ yes_there
+            | inr none ↦ absurd
+                (let never : data_cell at ≡ no_cell = sym is ∙ none in cc)
+          ] in
           let same : at ≡ word = sym (ap index_of is) ∙ index_at v.setup.capacity word there in
           with_notes _ refl refl refl refl refl refl refl (subst (λ b. HasBatch b (stored u (data_cell at) value).batch) (sym batch_is) (record {
             descriptor = kept.batch.descriptor;
@@ -86,6 +98,8 @@ word_stored notes v w word value found batch kept event has own batch_is =
             first = kept.batch.first;
             last = kept.batch.last;
             count = kept.batch.count;
-            linked = ap (λ n. cond (nat_eq n (last_of v.batch.blocks)) false v.batch.linked) same ∙ ap (λ n. cond (nat_eq word n) false v.batch.linked) kept.batch.last ∙ ap (λ b. cond (nat_eq word notes.batch.last) false b) kept.batch.linked;
+            linked = ap (λ n. cond (nat_eq n (last_of v.batch.blocks)) false v.batch.linked) same
+                ∙ ap (λ n. cond (nat_eq word n) false v.batch.linked) kept.batch.last
+                ∙ ap (λ b. cond (nat_eq word notes.batch.last) false b) kept.batch.linked;
           }))
       by_cell no_cell is own = absurd (omega arith)

@@ -27,7 +27,8 @@ use Rattle.heap_rule.specs.Shown.{Shows, ShowsDurable, ShowsEmpty, by_claim, by_
 pub cut_cell : (c class d b : ℕ) → IsClass class → IsCutBlock c class d b → d < c → is_cell c (data_cell b) ≡ true
 cut_cell c class d b is at less =
     let place = inside_of c class d b is at in let low = place.0 in let high = place.1 in let two = two_words class is in
-    and_is (nat_le (start_word c 0) b) (nat_lt b (superblocks_end c)) (le-leb (start_word c 0) b (omega arith)) (lt-ltb b (superblocks_end c) (omega arith))
+    and_is (nat_le (start_word c 0) b) (nat_lt b (superblocks_end c)) (le-leb (start_word c 0) b (omega arith))
+    (lt-ltb b (superblocks_end c) (omega arith))
 
 -- numbers a step apart begin with the first
 pub first_step : (from apart n : ℕ) → 1 ≤ n → first_of (steps from apart n) ≡ from
@@ -49,7 +50,8 @@ module _ (v : View) (s : HasSoundState v) where
 
   -- what lies below the floor lies in the image
   pub below_capacity : (d : ℕ) → d < v.floor → d < v.setup.capacity
-  below_capacity d low = let f = (good.knows s.seat v s.below s.at).floor in let q = good.shaped.durable.behind in let r = good.shaped.durable.room in omega arith
+  below_capacity d low = let f = (good.knows s.seat v s.below s.at).floor in let q = good.shaped.durable.behind in
+      let r = good.shaped.durable.room in omega arith
 
   pub info_there : (d : ℕ) → d < v.floor → is_cell v.setup.capacity (info_cell d) ≡ true
   info_there d low = lt-ltb d v.setup.capacity (below_capacity d low)
@@ -65,16 +67,19 @@ module _ (v : View) (s : HasSoundState v) where
   pub block_cell : (b : ℕ) → 0 < times_block b v → is_cell v.setup.capacity (data_cell b) ≡ true
   block_cell b own =
       let cut = block_cut b own in let some = cut.0 in
-      let low = good.shaped.durable.below (superblock_at v.setup.capacity b) (omega arith) in let q = good.shaped.durable.behind in let r = good.shaped.durable.room in
+      let low = good.shaped.durable.below (superblock_at v.setup.capacity b) (omega arith) in let q = good.shaped.durable.behind in
+      let r = good.shaped.durable.room in
       cut_cell v.setup.capacity (info m (superblock_at v.setup.capacity b)) (superblock_at v.setup.capacity b) b (block_class b own) cut.1 (omega arith)
 
   pub block_below : (b : ℕ) → 0 < times_block b v → superblock_at v.setup.capacity b < v.setup.capacity
   block_below b own = let some = (block_cut b own).0 in
-      let low = good.shaped.durable.below (superblock_at v.setup.capacity b) (omega arith) in let q = good.shaped.durable.behind in let r = good.shaped.durable.room in omega arith
+      let low = good.shaped.durable.below (superblock_at v.setup.capacity b) (omega arith) in let q = good.shaped.durable.behind in
+      let r = good.shaped.durable.room in omega arith
 
   -- it begins among the words of superblocks
   pub block_range : (b : ℕ) → 0 < times_block b v → (start_word v.setup.capacity 0 ≤ b) × (b < superblocks_end v.setup.capacity)
-  block_range b own = cut_range v.setup.capacity (info m (superblock_at v.setup.capacity b)) (superblock_at v.setup.capacity b) b (block_class b own) (block_below b own) (block_cut b own).1
+  block_range b own = cut_range v.setup.capacity (info m (superblock_at v.setup.capacity b)) (superblock_at v.setup.capacity b) b
+      (block_class b own) (block_below b own) (block_cut b own).1
 
   -- the seat has it once
   pub block_once : (b : ℕ) → times_block b v ≤ 1
@@ -91,18 +96,21 @@ module _ (v : View) (s : HasSoundState v) where
       (λ b. let o = block_once b in let l = list_at_most b class v.caches in omega arith)
 
   pub batch_short : length v.batch.blocks ≤ superblocks_end v.setup.capacity
-  batch_short = short (superblocks_end v.setup.capacity) v.batch.blocks (λ b some. (block_range b (omega arith)).1) (λ b. let o = block_once b in omega arith)
+  batch_short = short (superblocks_end v.setup.capacity) v.batch.blocks (λ b some. (block_range b (omega arith)).1)
+      (λ b. let o = block_once b in omega arith)
 
   -- a claimed superblock that is shown to be empty is empty
   pub empty_shown : (d : ℕ) → 0 < times_raw d v + times_classed d v.classed → ShowsEmpty v d → anchor_state (anchor m d) ≡ empty_state
   empty_shown d claimed (by_claim raw) = (good.claims s.seat v s.below s.at).is_raw d raw
   empty_shown d claimed (by_anchor word shows empty) =
-      ap anchor_state (shown (anchor_cell d) word (lt-ltb d v.setup.capacity (taken v.setup m s.views s.seat v s.below s.at good d claimed)) shows) ∙ empty
+      ap anchor_state (shown (anchor_cell d) word (lt-ltb d v.setup.capacity (taken v.setup m s.views s.seat v s.below s.at good d claimed))
+      shows) ∙ empty
   empty_shown d claimed (by_look classed is_seen of empty) = ap (λ e. anchor_state (anchor m e)) (sym of)
       ∙ (good.knows s.seat v s.below s.at).seen_empty is_seen (subst (λ e. 0 < times_classed e v.classed) (sym of) classed) empty
 
   -- the blocks are linked as it is shown
-  walks_shown : (bs : List ℕ) → ((b : ℕ) → 0 < times b bs → is_cell v.setup.capacity (data_cell b) ≡ true) → ShowsLinks v bs → Walks (next m) (first_of bs) bs
+  walks_shown : (bs : List ℕ) → ((b : ℕ) → 0 < times b bs → is_cell v.setup.capacity (data_cell b) ≡ true) → ShowsLinks v bs
+      → Walks (next m) (first_of bs) bs
   walks_shown [] cells links = tt
   walks_shown (b ∷ []) cells links = (refl, tt)
   walks_shown (b ∷ c ∷ bs) cells links = (
@@ -114,5 +122,7 @@ module _ (v : View) (s : HasSoundState v) where
   pub blocks_walk : (class d : ℕ) → IsClass class → d < v.setup.capacity → ShowsLinks v (class_blocks v.setup.capacity class d)
       → Walks (next m) (start_word v.setup.capacity d) (class_blocks v.setup.capacity class d)
   blocks_walk class d is less links = let four = four_blocks class is in
-      subst (λ x. Walks (next m) x (class_blocks v.setup.capacity class d)) (first_step (start_word v.setup.capacity d) (words_of_class class) (blocks_of class) (omega arith))
-      (walks_shown (class_blocks v.setup.capacity class d) (λ b some. cut_cell v.setup.capacity class d b is (block_of v.setup.capacity class d b some) less) links)
+      subst (λ x. Walks (next m) x (class_blocks v.setup.capacity class d))
+      (first_step (start_word v.setup.capacity d) (words_of_class class) (blocks_of class) (omega arith))
+      (walks_shown (class_blocks v.setup.capacity class d) (λ b some. cut_cell v.setup.capacity class d b is
+      (block_of v.setup.capacity class d b some) less) links)

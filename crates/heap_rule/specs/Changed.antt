@@ -145,15 +145,27 @@ pub record IsCleared (n n' : SeatNotes) (caches : List Cache) (d count : ℕ) : 
 
 abbrev pub IsNoted : Change → ℕ → SeatNotes → SeatNotes → Type 0
 IsNoted (change.Allocated class first) capacity n n' = IsUncached n n' class first
-IsNoted (change.Freed class block) capacity n n' = n' ≡ record n { caches = set n.caches class (record { first = block; count = (cache_of n.caches class).count + 1 }) }
+IsNoted (change.Freed class block) capacity n n' = n' ≡ record n {
+  caches =
+      set n.caches class (record { first = block; count = (cache_of n.caches class).count + 1 });
+}
 IsNoted (change.Lifted class block first) capacity n n' = n' ≡ record n {
   caches = uncached n.caches class first;
-  batch = record { descriptor = superblock_at capacity block; class = class; first = cond (nat_eq n.batch.count 0) block n.batch.first; last = block; count = n.batch.count + 1; linked = true };
+  batch = record {
+    descriptor = superblock_at capacity block;
+    class = class;
+    first = cond (nat_eq n.batch.count 0) block n.batch.first;
+    last = block;
+    count = n.batch.count + 1;
+    linked = true;
+  };
 }
-IsNoted (change.Cut d class) capacity n n' = IsCleared n n' (set n.caches class.number (record { first = start_word capacity d; count = blocks_of class.number })) d 1
+IsNoted (change.Cut d class) capacity n n' = IsCleared n n' (set n.caches class.number
+    (record { first = start_word capacity d; count = blocks_of class.number })) d 1
 IsNoted (change.Large d count) capacity n n' = IsCleared n n' n.caches d count
 IsNoted (change.Split d count) capacity n n' = IsCleared n n' n.caches d count
 
 -- the change may be noted, and then the notes are those of the view after a draw with the shift
 abbrev pub FitsNotes : Change → View → Option Shift → Type 0
-FitsNotes c v shift = (n : SeatNotes) → IsKeptOf n v → CanNote c v.setup.capacity n × ((n' : SeatNotes) → IsNoted c v.setup.capacity n n' → FitsShift n' v shift)
+FitsNotes c v shift = (n : SeatNotes) → IsKeptOf n v → CanNote c v.setup.capacity n
+    × ((n' : SeatNotes) → IsNoted c v.setup.capacity n n' → FitsShift n' v shift)

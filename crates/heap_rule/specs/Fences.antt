@@ -40,7 +40,8 @@ pub record KeepsRecords (v w : View) (word : ℕ) : Type 0 where
   pub volatile : known w.volatile (cell_at v.setup.capacity word) ≡ known v.volatile (cell_at v.setup.capacity word)
   pub durable : known w.durable (cell_at v.setup.capacity word) ≡ known v.durable (cell_at v.setup.capacity word)
 
--- the words that are marked and own are settled, and none is marked any more: each of them is durable, with the value that was recorded; of other own words, and of all else, the seat's view stays
+-- the words that are marked and own are settled, and none is marked any more: each of them is durable, with the value
+-- that was recorded; of other own words, and of all else, the seat's view stays
 pub record IsSeatFence (v w : SeatView) : Type 0 where
   pub words : List ℕ
   pub settles : Settles v.view words w.view

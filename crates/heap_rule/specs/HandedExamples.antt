@@ -37,5 +37,6 @@ pub alone : HoldsAlone with_large large_block (holding.Large 1 1)
 alone = record { is = record { some = omega arith; first = refl; words = refl }; once = refl; none_small = λ x. omega arith }
 
 -- not beside another
-pub not_beside : HoldsAlone (record seat { large = record { first = 0; count = 1 } ∷ record { first = 1; count = 1 } ∷ [] }) large_block (holding.Large 1 1) → ⊥
+pub not_beside : HoldsAlone (record seat { large = record { first = 0; count = 1 } ∷ record { first = 1; count = 1 } ∷ [] }) large_block
+    (holding.Large 1 1) → ⊥
 not_beside h = let two = ap length h.once in omega arith

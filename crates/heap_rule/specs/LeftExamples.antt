@@ -38,10 +38,12 @@ recorded_needs_the_durable has = differ 0 6 (has.durable 43 (omega arith) 6 refl
 
 -- a third value is none of the two
 pub mixture_has_one_of_both : MixesRecorded has_root (all_are 0) → ⊥
-mixture_has_one_of_both mixes = elim (mixes.each 43 (omega arith)) as (λ _. ⊥) [ inl now ↦ differ 0 7 (now 7 refl) (omega arith) | inr kept ↦ differ 0 6 (kept 6 refl) (omega arith) ]
+mixture_has_one_of_both mixes = elim (mixes.each 43 (omega arith)) as
+    (λ _. ⊥) [ inl now ↦ differ 0 7 (now 7 refl) (omega arith) | inr kept ↦ differ 0 6 (kept 6 refl) (omega arith) ]
 
 pub left_has_one_of_both : MixesLasting has_root (all_are 0) → ⊥
-left_has_one_of_both mixes = elim (mixes.each 43 (omega arith) (a_root 3)) as (λ _. ⊥) [ inl now ↦ differ 0 7 (now 7 refl) (omega arith) | inr kept ↦ differ 0 6 (kept 6 refl) (omega arith) ]
+left_has_one_of_both mixes = elim (mixes.each 43 (omega arith) (a_root 3)) as
+    (λ _. ⊥) [ inl now ↦ differ 0 7 (now 7 refl) (omega arith) | inr kept ↦ differ 0 6 (kept 6 refl) (omega arith) ]
 
 pub picked_is_picked : HasPickedRecords has_root (λ word. true) (all_are 6) → ⊥
 picked_is_picked has = differ 6 7 (has.each 43 (omega arith) 7 refl) (omega arith)

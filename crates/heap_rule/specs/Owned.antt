@@ -16,7 +16,8 @@ use Rattle.heap_rule.specs.declared.owned.Ownership.TheVariants as ownership
 use Rattle.heap_rule.specs.declared.owned.Owned.{Owned}
 use Rattle.heap_rule.specs.Stacks.{AreStacks}
 
--- how often a superblock of which this is owned is claimed without a class, and with one, and which; how often a large block takes it, and how many superblocks the one that begins there takes
+-- how often a superblock of which this is owned is claimed without a class, and with one, and which; how often a large
+-- block takes it, and how many superblocks the one that begins there takes
 abbrev pub unclassed_in : Ownership → ℕ
 unclassed_in ownership.Unclassed = 1
 unclassed_in x = 0

@@ -78,7 +78,8 @@ pub record IsWholeSeat (me : Me ℕ SeatViews) (notes : SeatNotes) (owned : Owne
 abbrev pub Tells : ℕ → ℕ → Result ⊤ ℕ → Type 0
 Tells seen found result = MatchResult result (λ _. found ≡ seen) (λ word. (word ≡ found) × (found ≢ seen))
 
--- one more exchange was lost, to the word that the event finds in a sound state that has the view v: the new view keeps that word, and it is not the one that was seen
+-- one more exchange was lost, to the word that the event finds in a sound state that has the view v: the new view keeps
+-- that word, and it is not the one that was seen
 pub record HasLostTo (event : Event) (seen word : ℕ) (v w : View) : Type 0 where
   pub other : word ≢ seen
   pub found_is : (s : HasSoundState v) × (word ≡ found_by (memory_of v.setup.capacity s.words) v event)

@@ -20,7 +20,8 @@ Shows v cell value = known v.volatile cell ≡ Some value
 abbrev pub ShowsDurable : View → Cell → ℕ → Type 0
 ShowsDurable v cell value = known v.durable cell ≡ Some value
 
--- all blocks of the claimed superblock are free: since it is claimed without a class, by its anchor, which is the seat's own, or by what was seen of it since it was claimed
+-- all blocks of the claimed superblock are free: since it is claimed without a class, by its anchor, which is the
+-- seat's own, or by what was seen of it since it was claimed
 pub data ShowsEmpty (v : View) (d : ℕ) : Type 0 where
   by_claim : 0 < times d v.raw → ShowsEmpty v d
   by_anchor : (anchor : ℕ) → Shows v (anchor_cell d) anchor → anchor_state anchor ≡ empty_state → ShowsEmpty v d

@@ -50,7 +50,8 @@ keeps_own_then v u w a b =
     }
 
 -- a store, and then a call that stores nothing
-pub store_then : (word value : ℕ) (v u w : View) → IsOwn v.held v.roots word → MayHaveStored word value v u → KeepsOwn u w → MayHaveStored word value v w
+pub store_then : (word value : ℕ) (v u w : View) → IsOwn v.held v.roots word → MayHaveStored word value v u → KeepsOwn u w
+    → MayHaveStored word value v w
 store_then word value v u w owns a b =
     record {
       held = b.held ∙ a.held;
@@ -60,7 +61,8 @@ store_then word value v u w owns a b =
     }
 
 -- a call that stores nothing, and then a store
-pub then_store : (word value : ℕ) (v u w : View) → IsOwn v.held v.roots word → KeepsOwn v u → MayHaveStored word value u w → MayHaveStored word value v w
+pub then_store : (word value : ℕ) (v u w : View) → IsOwn v.held v.roots word → KeepsOwn v u → MayHaveStored word value u w
+    → MayHaveStored word value v w
 then_store word value v u w owns a b =
     record {
       held = b.held ∙ a.held;
@@ -150,7 +152,8 @@ pub not_new : (v : View) (a b : Block) → Contains v.held a → (Contains v.hel
 not_new v a b has new e = new (subst (λ (x : Block). Contains v.held x) e has)
 
 -- a store that is written back and fenced settles its own word, and what was pending before it
-pub publish_settles : (s : Spot) (value : ℕ) (v u t w : View) → IsOwnSpot v s → MayHaveStored (word_of s) value v u → Stores (word_of s) value v u → KeepsOwn u t → WritesBack s u t
+pub publish_settles : (s : Spot) (value : ℕ) (v u t w : View) → IsOwnSpot v s → MayHaveStored (word_of s) value v u
+    → Stores (word_of s) value v u → KeepsOwn u t → WritesBack s u t
     → Fences t w → Settles v w
 publish_settles s value v u t w at may stored keeps written fenced = record {
   each = λ word own pending. fenced.durable word
@@ -183,7 +186,8 @@ mixes_before v w image keeps mixes = record {
 }
 
 -- what is durable as loads see it has that value in every image
-pub durable_in : (v : View) (word value : ℕ) (image : Image) → IsOwn v.held v.roots word → v.volatile word ≡ Some value → v.durable word ≡ Some value → MixesOwn v image → image word ≡ value
+pub durable_in : (v : View) (word value : ℕ) (image : Image) → IsOwn v.held v.roots word → v.volatile word ≡ Some value
+    → v.durable word ≡ Some value → MixesOwn v image → image word ≡ value
 durable_in v word value image own seen left mixes =
     elim (mixes.each word own) as (λ _. image word ≡ value) [
       | inl may ↦ may_be_known (v.volatile word) value (image word) seen may

@@ -57,13 +57,16 @@ look_then from mid until before between after x y z f u b a one (inr made) = inr
   most = made.most;
 })
 
-pub looks_then : (v u w : View) → v.next ≤ u.next → u.next ≤ w.next → v.taken ≤ u.taken → u.taken ≤ w.taken → KeepsLooks v u → KeepsLooks u w → KeepsLooks v w
+pub looks_then : (v u w : View) → v.next ≤ u.next → u.next ≤ w.next → v.taken ≤ u.taken → u.taken ≤ w.taken → KeepsLooks v u → KeepsLooks u w
+    → KeepsLooks v w
 looks_then v u w f t b a one two = record {
   used = look_then v.next u.next w.next v.taken u.taken w.taken v.used_look u.used_look w.used_look f t b a one.used two.used;
-  heads = λ list. look_then v.next u.next w.next v.taken u.taken w.taken (v.head_look list) (u.head_look list) (w.head_look list) f t b a (one.heads list) (two.heads list);
+  heads = λ list. look_then v.next u.next w.next v.taken u.taken w.taken (v.head_look list) (u.head_look list) (w.head_look list) f t b a
+      (one.heads list) (two.heads list);
 }
 
-pub row_then : (small large most smalls larges mosts : ℕ) (v u w : View) → IsRow small large most v u → IsRow smalls larges mosts u w → IsRow (small + smalls) (large + larges) (most + mosts) v w
+pub row_then : (small large most smalls larges mosts : ℕ) (v u w : View) → IsRow small large most v u → IsRow smalls larges mosts u w
+    → IsRow (small + smalls) (large + larges) (most + mosts) v w
 row_then small large most smalls larges mosts v u w a b = record {
   goes_on = goes_then v u w a.goes_on b.goes_on;
   small_from = let p = a.small_from in let q = b.small_from in omega arith;
@@ -76,7 +79,8 @@ row_then small large most smalls larges mosts v u w a b = record {
 }
 
 -- wider bounds
-pub row_more : (small large most smalls larges mosts : ℕ) (v w : View) → small ≤ smalls → large ≤ larges → most ≤ mosts → IsRow small large most v w → IsRow smalls larges mosts v w
+pub row_more : (small large most smalls larges mosts : ℕ) (v w : View) → small ≤ smalls → large ≤ larges → most ≤ mosts
+    → IsRow small large most v w → IsRow smalls larges mosts v w
 row_more small large most smalls larges mosts v w s l m row = record {
   goes_on = row.goes_on;
   small_from = row.small_from;

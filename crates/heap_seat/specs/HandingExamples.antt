@@ -21,7 +21,13 @@ third = record { first_word = 1004; words = 2 }
 
 -- a seat with root 2, which holds these blocks; of each word loads see 9 and a crash leaves 5, and the neighbour's first word is pending
 abbrev holding : List Block → ℕ → View
-holding held next = record (seat_with (look_with 0 0) next) { held = held; roots = 2 ∷ []; volatile = λ word. Some 9; durable = λ word. Some 5; pending = 1002 ∷ [] }
+holding held next = record (seat_with (look_with 0 0) next) {
+  held = held;
+  roots = 2 ∷ [];
+  volatile = λ word. Some 9;
+  durable = λ word. Some 5;
+  pending = 1002 ∷ [];
+}
 
 abbrev with_it : ℕ → View
 with_it next = holding (sent ∷ other ∷ []) next
@@ -93,10 +99,12 @@ stores_other = record (without_it 8) { volatile = λ word. cond (nat_eq word 100
 abbrev keeps_neither : View
 keeps_neither = record (without_it 8) { durable = λ word. cond (nat_eq word 1002) (Some 8) (Some 5) }
 
-stores_not : (Offers sent (with_it 7) stores_other → ⊥) × (Offers sent (with_it 7) keeps_neither → ⊥) × (Offers sent (with_it 7) (record (without_it 8) { pending = [] }) → ⊥)
+stores_not : (Offers sent (with_it 7) stores_other → ⊥) × (Offers sent (with_it 7) keeps_neither → ⊥)
+    × (Offers sent (with_it 7) (record (without_it 8) { pending = [] }) → ⊥)
 stores_not = (
   λ offers. let e : Some 8 ≡ Some 9 = (offers.words 1002 (own_word (in_head other []))).volatile 9 refl in absurd (cc),
-  λ offers. elim ((offers.words 1002 (own_word (in_head other []))).durable 8 refl) as (λ _. ⊥) [ inl seen ↦ omega (arith, seen) | inr left ↦ omega (arith, left) ],
+  λ offers. elim ((offers.words 1002 (own_word (in_head other []))).durable 8 refl) as
+      (λ _. ⊥) [ inl seen ↦ omega (arith, seen) | inr left ↦ omega (arith, left) ],
   λ offers. elim (offers.pending 1002 (own_word (in_head other [])) (in_head 1002 [])) as (λ _. ⊥) [
     | inl none ↦ in_none 1002 none
     | inr durable ↦ nine_or_five refl refl durable
@@ -123,8 +131,10 @@ comes = record {
   pending = λ word own was. inl was;
 }
 
--- no accept: of a seat that stops; where the block was held before, or is not held now; where another is lost, or comes too; where the roots are others
-comes_not : (Accepts sent (without_it 7) (record (with_it 8) { stopped = Some 7 }) → ⊥) × (Accepts sent (with_it 7) (with_it 8) → ⊥) × (Accepts sent (without_it 7) (without_it 8) → ⊥)
+-- no accept: of a seat that stops; where the block was held before, or is not held now; where another is lost, or comes
+-- too; where the roots are others
+comes_not : (Accepts sent (without_it 7) (record (with_it 8) { stopped = Some 7 }) → ⊥) × (Accepts sent (with_it 7) (with_it 8) → ⊥)
+    × (Accepts sent (without_it 7) (without_it 8) → ⊥)
     × (Accepts sent (without_it 7) (holding (sent ∷ []) 8) → ⊥) × (Accepts sent (without_it 7) (holding (sent ∷ third ∷ other ∷ []) 8) → ⊥)
     × (Accepts sent (without_it 7) (record (with_it 8) { roots = [] }) → ⊥)
 comes_not = (
@@ -143,7 +153,8 @@ comes_not = (
 )
 
 -- nor where a word of the seat's is stored to, or a pending write-back of it is lost
-accepts_not : (Accepts sent (without_it 7) (record (with_it 8) { volatile = λ word. cond (nat_eq word 1002) (Some 8) (Some 9) }) → ⊥) × (Accepts sent (without_it 7) (record (with_it 8) { pending = [] }) → ⊥)
+accepts_not : (Accepts sent (without_it 7) (record (with_it 8) { volatile = λ word. cond (nat_eq word 1002) (Some 8) (Some 9) }) → ⊥)
+    × (Accepts sent (without_it 7) (record (with_it 8) { pending = [] }) → ⊥)
 accepts_not = (
   λ accepts. let e : Some 8 ≡ Some 9 = (accepts.words 1002 (own_word (in_head other []))).volatile 9 refl in absurd (cc),
   λ accepts. elim (accepts.pending 1002 (own_word (in_head other [])) (in_head 1002 [])) as (λ _. ⊥) [
@@ -152,7 +163,8 @@ accepts_not = (
   ],
 )
 
--- the block goes with both values, or with that which loads saw where chance has settled it; neither with another value, nor with none of what loads saw
+-- the block goes with both values, or with that which loads saw where chance has settled it; neither with another
+-- value, nor with none of what loads saw
 abbrev known_as : ℕ → ℕ → Contents
 known_as seen left = record { volatile = λ word. Some seen; durable = λ word. Some left }
 
@@ -162,7 +174,8 @@ goes_with = (
   record { words = λ word within. record { volatile = λ value is. is; durable = λ value may. inl may } },
 )
 
-goes_not_with : (GoesWith sent (known_as 8 5) (with_it 7) → ⊥) × (GoesWith sent (known_as 9 8) (with_it 7) → ⊥) × (GoesWith sent (record (known_as 9 5) { volatile = λ word. None }) (with_it 7) → ⊥)
+goes_not_with : (GoesWith sent (known_as 8 5) (with_it 7) → ⊥) × (GoesWith sent (known_as 9 8) (with_it 7) → ⊥)
+    × (GoesWith sent (record (known_as 9 5) { volatile = λ word. None }) (with_it 7) → ⊥)
 goes_not_with = (
   λ goes. let e : Some 8 ≡ Some 9 = (goes.words 1000 first_in).volatile 9 refl in absurd (cc),
   λ goes. elim ((goes.words 1000 first_in).durable 8 refl) as (λ _. ⊥) [ inl seen ↦ omega (arith, seen) | inr left ↦ omega (arith, left) ],
@@ -170,7 +183,8 @@ goes_not_with = (
 )
 
 -- what comes is what went, both values
-comes_with : ComesWith sent (known_as 9 5) (with_it 8) × (ComesWith sent (known_as 8 5) (with_it 8) → ⊥) × (ComesWith sent (known_as 9 9) (with_it 8) → ⊥)
+comes_with : ComesWith sent (known_as 9 5) (with_it 8) × (ComesWith sent (known_as 8 5) (with_it 8) → ⊥)
+    × (ComesWith sent (known_as 9 9) (with_it 8) → ⊥)
 comes_with = (
   record { volatile = λ word within. refl; durable = λ word within. refl },
   λ comes. let e : Some 9 ≡ Some 8 = comes.volatile 1000 first_in in absurd (cc),

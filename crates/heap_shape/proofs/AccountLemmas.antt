@@ -20,7 +20,8 @@ use Rattle.heap_shape.proofs.BasicLemmas.{member_place}
 use Rattle.heap_at_rest.proofs.ListLemmas.{one_following}
 
 -- what is in the list that the head of list 0 leads along is in the free list
-pub free_follows : (capacity e : ℕ) (image : Image) (free : List ℕ) → Follows (λ k. image (link_word k)) capacity (head_first (image (head_word 0))) free
+pub free_follows : (capacity e : ℕ) (image : Image) (free : List ℕ)
+    → Follows (λ k. image (link_word k)) capacity (head_first (image (head_word 0))) free
     → Contains free e → IsInFreeList capacity image e
 free_follows capacity e image free follows p = record { free = free; leads = follows; has = p }
 
@@ -28,11 +29,13 @@ free_follows capacity e image free follows p = record { free = free; leads = fol
 pub in_listed : (capacity e : ℕ) (image : Image) (held : List Block) (s : Shape) → IsShape capacity image held s → IsInFreeList capacity image e
     → Contains (s.listed 0) e
 in_listed capacity e image held s shape in_free = subst (λ xs. Contains xs e)
-    (one_following (λ k. image (link_word k)) capacity (head_first (image (head_word 0))) in_free.free (s.listed 0) in_free.leads (shape.follows 0 (omega arith)))
+    (one_following (λ k. image (link_word k)) capacity (head_first (image (head_word 0))) in_free.free (s.listed 0) in_free.leads
+    (shape.follows 0 (omega arith)))
     in_free.has
 
 -- a superblock keeps its use where its info stays and the free list loses none
-pub use_kept : (capacity e : ℕ) (image new : Image) (held : List Block) (s t : Shape) (now : List Block) → IsShape capacity image held s → IsShape capacity new now t
+pub use_kept : (capacity e : ℕ) (image new : Image) (held : List Block) (s t : Shape) (now : List Block) → IsShape capacity image held s
+    → IsShape capacity new now t
     → new (info_word e) ≡ image (info_word e) → (Contains (s.listed 0) e → Contains (t.listed 0) e)
     → HasUse capacity image held e → HasUse capacity new held e
 use_kept capacity e image new held s t now shape after info listed (for_class is) = for_class (subst IsClass (sym info) is)
@@ -41,7 +44,8 @@ use_kept capacity e image new held s t now shape after info listed (for_later in
     for_later (free_follows capacity e new (t.listed 0) (after.follows 0 (omega arith)) (listed (in_listed capacity e image held s shape in_free)))
 
 -- so do all where `used` stays too
-pub accounted_kept : (capacity : ℕ) (image new : Image) (held : List Block) (s t : Shape) (now : List Block) → IsShape capacity image held s → IsShape capacity new now t
+pub accounted_kept : (capacity : ℕ) (image new : Image) (held : List Block) (s t : Shape) (now : List Block) → IsShape capacity image held s
+    → IsShape capacity new now t
     → new used_word ≡ image used_word → ((e : ℕ) → e < capacity → new (info_word e) ≡ image (info_word e))
     → ((e : ℕ) → Contains (s.listed 0) e → Contains (t.listed 0) e)
     → IsAccounted capacity image held → IsAccounted capacity new held
@@ -64,10 +68,11 @@ pub use_without : (capacity e : ℕ) (image : Image) (held now : List Block) (b 
     → HasUse capacity image now e ⊎ HasPartIn capacity b e
 use_without capacity e image held now b takes (for_class is) = inl (for_class is)
 use_without capacity e image held now b takes (for_later in_free) = inl (for_later in_free)
-use_without capacity e image held now b takes (for_held a holds part) = elim (cases_same a b) as (λ _. HasUse capacity image now e ⊎ HasPartIn capacity b e) [
-  | inl same ↦ inr (subst (λ (x : Block). HasPartIn capacity x e) same part)
-  | inr other ↦ inl (for_held a (takes.keeps a holds other) part)
-]
+use_without capacity e image held now b takes (for_held a holds part) =
+    elim (cases_same a b) as (λ _. HasUse capacity image now e ⊎ HasPartIn capacity b e) [
+      | inl same ↦ inr (subst (λ (x : Block). HasPartIn capacity x e) same part)
+      | inr other ↦ inl (for_held a (takes.keeps a holds other) part)
+    ]
 
 -- none is lost where that block was one of a class
 pub accounted_without : (capacity : ℕ) (image : Image) (held now : List Block) (b : Block) → TakesFrom b held now
@@ -100,12 +105,14 @@ accounted_joined capacity n d image middle new held now s t shape after listed p
         (info.others (info_word e) (λ q. omega arith) ∙ set.others (info_word e) (λ q. omega arith))
         (subst (λ xs. Contains xs e) (sym listed)) (before.each e (omega arith)))
     | inr fresh ↦ let below : e < d + n = omega (arith, used) in
-        for_held (record { first_word = start_word capacity d; words = superblock_words * n }) adds.has (record { begins = omega arith; ends = omega arith })
+        for_held (record { first_word = start_word capacity d; words = superblock_words * n }) adds.has
+        (record { begins = omega arith; ends = omega arith })
   ]
 
 -- a taken superblock that is in no list and full for no class has a part of a held block
 pub lies_in_held : (capacity d : ℕ) (image : Image) (held : List Block) (s : Shape) → IsShape capacity image held s → IsAccounted capacity image held
-    → d < image used_word → ((list : ℕ) → s.place d ≡ in_list list → ⊥) → (s.place d ≡ is_full → ⊥) → (b : Block) × Contains held b × HasPartIn capacity b d
+    → d < image used_word → ((list : ℕ) → s.place d ≡ in_list list → ⊥) → (s.place d ≡ is_full → ⊥) → (b : Block) × Contains held b
+    × HasPartIn capacity b d
 lies_in_held capacity d image held s shape accounted taken unlisted not_full = by_use (accounted.each d taken) where
   within : d < capacity
   within = let most = shape.used in omega arith

@@ -93,7 +93,8 @@ module _ (capacity : ℕ) (image : Image) (held : List Block) (s : Shape) (shape
   -- the first of a list stands there, once, and in no other
   pub first_place : (list d : ℕ) (ds : List ℕ) → list < lists → s.listed list ≡ d ∷ ds → (s.place d ≡ in_list list) × (d < capacity) × (times d ds ≡ 0)
   first_place list d ds below is =
-      let count : times d (d ∷ ds) ≡ stands_in (s.place d) list = subst (λ xs. times d xs ≡ stands_in (s.place d) list) is (shape.listed list d below) in
+      let count : times d (d ∷ ds) ≡ stands_in (s.place d) list = subst (λ xs. times d xs ≡ stands_in (s.place d) list) is
+      (shape.listed list d below) in
       let here = times_here d ds in
       let once = stands_once (s.place d) list in
       let follows : Follows (λ e. image (link_word e)) capacity (head_first (image (head_word list))) (d ∷ ds) =
@@ -104,8 +105,11 @@ module _ (capacity : ℕ) (image : Image) (held : List Block) (s : Shape) (shape
   pub member_place : (list d : ℕ) → list < lists → Contains (s.listed list) d → (s.place d ≡ in_list list) × (d < capacity)
   member_place list d below p =
       let count = shape.listed list d below in
-      let some = times_of d (s.listed list) p in
-      (place_is (s.place d) list (omega arith), follows_below (λ e. image (link_word e)) capacity (head_first (image (head_word list))) (s.listed list) d (shape.follows list below) p)
+      let some = times_of d (s.listed list) p in (
+        place_is (s.place d) list (omega arith),
+        follows_below (λ e. image (link_word e)) capacity (head_first (image (head_word list)))
+            (s.listed list) d (shape.follows list below) p,
+      )
 
   -- a superblock in the list of a class has free blocks of it
   pub in_class_list : (class d : ℕ) → IsClass class → d < capacity → s.place d ≡ in_list class → HasFreeBlocks capacity image s held class d
@@ -120,7 +124,8 @@ module _ (capacity : ℕ) (image : Image) (held : List Block) (s : Shape) (shape
   in_full d within place = subst (IsAs capacity image s held d) place (shape.places d within)
 
   -- the superblock of a cached block is cut for the class
-  pub cached_of_class : (class word : ℕ) (is : IsClass class) (p : Contains (s.cached class) word) → IsOfClass capacity image s held class (shape.cached class word is p).superblock
+  pub cached_of_class : (class word : ℕ) (is : IsClass class) (p : Contains (s.cached class) word)
+      → IsOfClass capacity image s held class (shape.cached class word is p).superblock
   cached_of_class class word is p = let cached = shape.cached class word is p in
       elim cached.place as (λ _. IsOfClass capacity image s held class cached.superblock) [
         | inl listed ↦ (in_class_list class cached.superblock is cached.within listed).of_class

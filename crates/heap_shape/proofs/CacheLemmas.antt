@@ -26,13 +26,15 @@ use Rattle.heap_shape.proofs.BasicLemmas.{with_at_same, with_at_other, first_ins
 use Rattle.heap_shape.proofs.FrameLemmas.{SameThere, frame, owner_same}
 
 -- what holds of a function with another value at one number, and of two such functions
-pub at_or_other : {A : Type 0} (P : ℕ → A → Type 0) (f : ℕ → A) (at : ℕ) (value : A) (n : ℕ) → P at value → (n ≢ at → P n (f n)) → P n (with_at f at value n)
+pub at_or_other : {A : Type 0} (P : ℕ → A → Type 0) (f : ℕ → A) (at : ℕ) (value : A) (n : ℕ) → P at value → (n ≢ at → P n (f n))
+    → P n (with_at f at value n)
 at_or_other P f at value n here there = elim (cases_eq n at) as (λ _. P n (with_at f at value n)) [
   | inl same ↦ subst (λ k. P k (with_at f at value k)) (sym same) (subst (λ x. P at x) (sym (with_at_same f at value)) here)
   | inr other ↦ subst (λ x. P n x) (sym (with_at_other f at value n other)) (there other)
 ]
 
-pub at_or_other_two : {A B : Type 0} (P : ℕ → A → B → Type 0) (f : ℕ → A) (g : ℕ → B) (at : ℕ) (a : A) (b : B) (n : ℕ) → P at a b → (n ≢ at → P n (f n) (g n))
+pub at_or_other_two : {A B : Type 0} (P : ℕ → A → B → Type 0) (f : ℕ → A) (g : ℕ → B) (at : ℕ) (a : A) (b : B) (n : ℕ) → P at a b
+    → (n ≢ at → P n (f n) (g n))
     → P n (with_at f at a n) (with_at g at b n)
 at_or_other_two P f g at a b n here there = at_or_other (λ k x. P k x (with_at g at b k)) f at a n
     (subst (λ y. P at a y) (sym (with_at_same g at b)) here)
@@ -61,7 +63,8 @@ part_one capacity class d e index b is of part =
     omega arith
 
 -- a superblock of the class with a held block is in the list of the class, or full
-cut_place : (capacity : ℕ) (image : Image) (s : Shape) (held : List Block) (class d : ℕ) (p : Place) → IsClass class → image (info_word d) ≡ class → d < image used_word
+cut_place : (capacity : ℕ) (image : Image) (s : Shape) (held : List Block) (class d : ℕ) (p : Place) → IsClass class
+    → image (info_word d) ≡ class → d < image used_word
     → (HasNoHeld capacity held d → ⊥) → IsAs capacity image s held d p → (p ≡ in_list class) ⊎ ((p ≡ is_full) × (image (info_word d) ≡ class))
 cut_place capacity image s held class d (in_list zero) is info taken some free = absurd (some free.none)
 cut_place capacity image s held class d (in_list (suc c)) is info taken some listed = inl (ap in_list (sym listed.of_class.info ∙ info))
@@ -72,7 +75,8 @@ cut_place capacity image s held class d is_new is info taken some new = absurd (
 -- and is cut for it
 cut_class : (capacity : ℕ) (image : Image) (s : Shape) (held : List Block) (class d : ℕ) (p : Place) → IsClass class
     → (p ≡ in_list class) ⊎ ((p ≡ is_full) × (image (info_word d) ≡ class)) → IsAs capacity image s held d p → IsOfClass capacity image s held class d
-cut_class capacity image s held class d (in_list zero) is place free = absurd (elim place as (λ _. ⊥) [ inl e ↦ let none : 0 ≡ class = cc in let some = is.some in omega arith | inr both ↦ cc ])
+cut_class capacity image s held class d (in_list zero) is place free =
+    absurd (elim place as (λ _. ⊥) [ inl e ↦ let none : 0 ≡ class = cc in let some = is.some in omega arith | inr both ↦ cc ])
 cut_class capacity image s held class d (in_list (suc c)) is place listed = elim place [
   | inl e ↦ let same : suc c ≡ class = cc in subst (λ k. IsOfClass capacity image s held k d) same listed.of_class
   | inr both ↦ absurd (cc)
@@ -85,9 +89,11 @@ cut_class capacity image s held class d in_large is place large = absurd (elim p
 cut_class capacity image s held class d is_new is place new = absurd (elim place as (λ _. ⊥) [ inl e ↦ cc | inr both ↦ cc ])
 
 -- a superblock of a class of which only the owners change is still of its class, and keeps its place
-reowned : (capacity : ℕ) (image new : Image) (s t : Shape) (held now : List Block) (class d : ℕ) → image used_word ≤ new used_word → new (info_word d) ≡ image (info_word d)
+reowned : (capacity : ℕ) (image new : Image) (s t : Shape) (held now : List Block) (class d : ℕ) → image used_word ≤ new used_word
+    → new (info_word d) ≡ image (info_word d)
     → new (anchor_word d) ≡ image (anchor_word d) → t.chain d ≡ s.chain d → ((w : ℕ) → Contains (s.chain d) w → new w ≡ image w)
-    → ((index : ℕ) → index < blocks_of class → HasOneOwner t now class d (first_of capacity class d index)) → IsOfClass capacity image s held class d → IsOfClass capacity new t now class d
+    → ((index : ℕ) → index < blocks_of class → HasOneOwner t now class d (first_of capacity class d index))
+    → IsOfClass capacity image s held class d → IsOfClass capacity new t now class d
 reowned capacity image new s t held now class d raised info anchor chain same owned of = record {
   is_class = of.is_class;
   taken = let taken = of.taken in omega arith;
@@ -100,46 +106,55 @@ reowned capacity image new s t held now class d raised info anchor chain same ow
   count = ap anchor_count anchor ∙ of.count ∙ ap length (sym chain);
 }
 
-replaced : (capacity : ℕ) (image new : Image) (s t : Shape) (held now : List Block) (class d : ℕ) (p : Place) → (p ≡ in_list class) ⊎ ((p ≡ is_full) × (image (info_word d) ≡ class)) → IsClass class
-    → new (info_word d) ≡ image (info_word d) → new (anchor_word d) ≡ image (anchor_word d) → t.chain d ≡ s.chain d → IsOfClass capacity new t now class d
+replaced : (capacity : ℕ) (image new : Image) (s t : Shape) (held now : List Block) (class d : ℕ) (p : Place)
+    → (p ≡ in_list class) ⊎ ((p ≡ is_full) × (image (info_word d) ≡ class)) → IsClass class
+    → new (info_word d) ≡ image (info_word d) → new (anchor_word d) ≡ image (anchor_word d) → t.chain d ≡ s.chain d
+    → IsOfClass capacity new t now class d
     → IsAs capacity image s held d p → IsAs capacity new t now d p
 replaced capacity image new s t held now class d (in_list zero) place is info anchor chain of free =
     absurd (elim place as (λ _. ⊥) [ inl e ↦ let none : 0 ≡ class = cc in let some = is.some in omega arith | inr both ↦ cc ])
-replaced capacity image new s t held now class d (in_list (suc c)) place is info anchor chain of listed = elim place as (λ _. HasFreeBlocks capacity new t now (suc c) d) [
-  | inl e ↦ let same : suc c ≡ class = cc in record {
-    of_class = subst (λ k. IsOfClass capacity new t now k d) (sym same) of;
-    some = subst (λ xs. 1 ≤ length xs) (sym chain) listed.some;
-    state = rw (chain, anchor) listed.state;
-  }
-  | inr both ↦ absurd (cc)
-]
-replaced capacity image new s t held now class d is_full place is info anchor chain of full = elim place as (λ _. IsFullSuperblock capacity new t now d) [
-  | inl e ↦ absurd (cc)
-  | inr both ↦ record {
-    of_class = subst (λ k. IsOfClass capacity new t now k d) (sym (info ∙ both.1)) of;
-    none = chain ∙ full.none;
-    anchor = anchor ∙ full.anchor;
-  }
-]
-replaced capacity image new s t held now class d in_large place is info anchor chain of large = absurd (elim place as (λ _. ⊥) [ inl e ↦ cc | inr both ↦ cc ])
-replaced capacity image new s t held now class d is_new place is info anchor chain of fresh = absurd (elim place as (λ _. ⊥) [ inl e ↦ cc | inr both ↦ cc ])
+replaced capacity image new s t held now class d (in_list (suc c)) place is info anchor chain of listed =
+    elim place as (λ _. HasFreeBlocks capacity new t now (suc c) d) [
+      | inl e ↦ let same : suc c ≡ class = cc in record {
+        of_class = subst (λ k. IsOfClass capacity new t now k d) (sym same) of;
+        some = subst (λ xs. 1 ≤ length xs) (sym chain) listed.some;
+        state = rw (chain, anchor) listed.state;
+      }
+      | inr both ↦ absurd (cc)
+    ]
+replaced capacity image new s t held now class d is_full place is info anchor chain of full =
+    elim place as (λ _. IsFullSuperblock capacity new t now d) [
+      | inl e ↦ absurd (cc)
+      | inr both ↦ record {
+        of_class = subst (λ k. IsOfClass capacity new t now k d) (sym (info ∙ both.1)) of;
+        none = chain ∙ full.none;
+        anchor = anchor ∙ full.anchor;
+      }
+    ]
+replaced capacity image new s t held now class d in_large place is info anchor chain of large =
+    absurd (elim place as (λ _. ⊥) [ inl e ↦ cc | inr both ↦ cc ])
+replaced capacity image new s t held now class d is_new place is info anchor chain of fresh =
+    absurd (elim place as (λ _. ⊥) [ inl e ↦ cc | inr both ↦ cc ])
 
 -- no word of a held block is the first one of a block that is cached or in a chain
-pub cached_apart : (capacity : ℕ) (image : Image) (held : List Block) (s : Shape) (class w : ℕ) (b : Block) → IsShape capacity image held s → IsClass class → Contains (s.cached class) w → Contains held b → IsIn b w → ⊥
+pub cached_apart : (capacity : ℕ) (image : Image) (held : List Block) (s : Shape) (class w : ℕ) (b : Block) → IsShape capacity image held s
+    → IsClass class → Contains (s.cached class) w → Contains held b → IsIn b w → ⊥
 cached_apart capacity image held s class w b shape is cached holds is_in =
     let in_cache = shape.cached class w is cached in
     let first = in_cache.is_first in
     let of = cached_of_class capacity image held s shape class w is cached in
     let here : Block = record { first_word = w; words = words_of_class class } in
     let here_of : IsBlockOfClass capacity class in_cache.superblock first.index here = record { below = first.below; at = first.at; size = refl } in
-    let is_here : IsBlock (layout_at capacity image) here = class_block (layout_at capacity image) class in_cache.superblock first.index here of.taken of.info is here_of in
+    let is_here : IsBlock (layout_at capacity image) here = class_block
+    (layout_at capacity image) class in_cache.superblock first.index here of.taken of.info is here_of in
     let from = is_in.from in
     let until = is_in.until in
     let two = two_words class is in
     elim (never_overlap (layout_at capacity image) here b is_here (shape.named b holds)) as (λ _. ⊥) [
       | inl same ↦
           let holds_here : HoldsAt held w = record { block = b; holds = holds; at = sym (ap (λ (x : Block). x.first_word) same) } in
-          let owner : HasOneOwner s held class in_cache.superblock w = subst (λ x. HasOneOwner s held class in_cache.superblock x) (sym first.at) (of.owned first.index first.below) in
+          let owner : HasOneOwner s held class in_cache.superblock w =
+          subst (λ x. HasOneOwner s held class in_cache.superblock x) (sym first.at) (of.owned first.index first.below) in
           let none = held_not_free s held class in_cache.superblock w holds_here owner in
           let some = times_of w (s.cached class) cached in
           omega arith
@@ -147,7 +162,8 @@ cached_apart capacity image held s class w b shape is cached holds is_in =
     ]
 
 -- a block is popped off the cache
-module _ (capacity class w : ℕ) (image : Image) (held now : List Block) (s : Shape) (ws : List ℕ) (is : IsClass class) (shape : IsShape capacity image held s) (cached : s.cached class ≡ w ∷ ws)
+module _ (capacity class w : ℕ) (image : Image) (held now : List Block) (s : Shape) (ws : List ℕ) (is : IsClass class)
+    (shape : IsShape capacity image held s) (cached : s.cached class ≡ w ∷ ws)
     (adds : AddsTo (record { first_word = w; words = words_of_class class }) held now) where
   abbrev popped : Block
   popped = record { first_word = w; words = words_of_class class }
@@ -165,7 +181,8 @@ module _ (capacity class w : ℕ) (image : Image) (held now : List Block) (s : S
   of_class = cached_of_class capacity image held s shape class w is in_cache
 
   not_held : Contains held popped → ⊥
-  not_held holds = let two = two_words class is in cached_apart capacity image held s class w popped shape is in_cache holds (record { from = omega arith; until = omega arith })
+  not_held holds = let two = two_words class is in cached_apart capacity image held s class w popped shape is in_cache holds
+      (record { from = omega arith; until = omega arith })
 
   is_of : IsBlockOfClass capacity class standing.superblock standing.is_first.index popped
   is_of = record { below = standing.is_first.below; at = standing.is_first.at; size = refl }
@@ -191,20 +208,24 @@ module _ (capacity class w : ℕ) (image : Image) (held now : List Block) (s : S
     anchor = refl;
     inside = λ word in_d. refl;
     chain = refl;
-    cached = λ c word _ in_d. at_or_other (λ k xs. times word xs ≡ times word (s.cached k)) s.cached class ws c (cached_before word (not_here word in_d)) (λ _. refl);
+    cached = λ c word _ in_d. at_or_other (λ k xs. times word xs ≡ times word (s.cached k)) s.cached class ws c
+        (cached_before word (not_here word in_d)) (λ _. refl);
     holds = λ word in_d. held_after word;
     held_before = λ word in_d. held_before word (not_here word in_d);
     none = λ none b p part. elim (adds.only b p) as (λ _. ⊥) [
-      | inl same ↦ apart (part_one capacity class d standing.superblock standing.is_first.index b is (subst (λ x. IsBlockOfClass capacity class standing.superblock standing.is_first.index x) (sym same) is_of) part)
+      | inl same ↦ apart (part_one capacity class d standing.superblock standing.is_first.index b is
+          (subst (λ x. IsBlockOfClass capacity class standing.superblock standing.is_first.index x) (sym same) is_of) part)
       | inr before ↦ none b before part
     ];
   } where
     not_here : (word : ℕ) → IsInSuperblock capacity d word → word ≢ w
-    not_here word in_d same = apart (inside_one capacity d standing.superblock w (subst (λ x. IsInSuperblock capacity d x) same in_d) (first_inside capacity class standing.superblock w is standing.is_first))
+    not_here word in_d same = apart (inside_one capacity d standing.superblock w (subst (λ x. IsInSuperblock capacity d x) same in_d)
+        (first_inside capacity class standing.superblock w is standing.is_first))
 
   owner_here : HasOneOwner left now class standing.superblock w
   owner_here =
-      let owner = subst (λ x. HasOneOwner s held class standing.superblock x) (sym standing.is_first.at) (of_class.owned standing.is_first.index standing.is_first.below) in
+      let owner = subst (λ x. HasOneOwner s held class standing.superblock x) (sym standing.is_first.at)
+      (of_class.owned standing.is_first.index standing.is_first.below) in
       let once = free_once s held class standing.superblock w owner in
       let all : times w (s.cached class) ≡ 1 + times w ws = ap (times w) cached ∙ times_here w ws in
       let after : times w (with_at s.cached class ws class) ≡ times w ws = ap (times w) (with_at_same s.cached class ws) in
@@ -223,9 +244,11 @@ module _ (capacity class w : ℕ) (image : Image) (held now : List Block) (s : S
   place_after d within = elim (cases_eq d standing.superblock) as (λ _. IsAs capacity image left now d (s.place d)) [
     | inl same ↦ subst (λ x. IsAs capacity image left now x (s.place x)) (sym same)
         (replaced capacity image image s left held now class standing.superblock (s.place standing.superblock) standing.place is refl refl refl
-        (reowned capacity image image s left held now class standing.superblock (omega arith) refl refl refl (λ _ _. refl) (λ index below. owner_of (first_of capacity class standing.superblock index) (of_class.owned index below)) of_class)
+        (reowned capacity image image s left held now class standing.superblock (omega arith) refl refl refl (λ _ _. refl)
+        (λ index below. owner_of (first_of capacity class standing.superblock index) (of_class.owned index below)) of_class)
         (shape.places standing.superblock standing.within))
-    | inr other ↦ frame capacity d image image s left held now (s.place d) (elsewhere d other) (omega arith) (λ fresh. (past d (s.place d) fresh (shape.places d within), refl)) (shape.places d within)
+    | inr other ↦ frame capacity d image image s left held now (s.place d) (elsewhere d other) (omega arith)
+        (λ fresh. (past d (s.place d) fresh (shape.places d within), refl)) (shape.places d within)
   ] where
     past : (d : ℕ) (p : Place) → p ≡ is_new → IsAs capacity image s held d p → image used_word ≤ d
     past d p fresh as_place = (subst (λ x. IsAs capacity image s held d x) fresh as_place).past
@@ -235,7 +258,8 @@ module _ (capacity class w : ℕ) (image : Image) (held now : List Block) (s : S
     small = shape.small;
     used = shape.used;
     named = λ b p. elim (adds.only b p) [
-      | inl same ↦ subst (λ x. IsBlock (layout_at capacity image) x) (sym same) (class_block (layout_at capacity image) class standing.superblock standing.is_first.index popped of_class.taken of_class.info is is_of)
+      | inl same ↦ subst (λ x. IsBlock (layout_at capacity image) x) (sym same)
+          (class_block (layout_at capacity image) class standing.superblock standing.is_first.index popped of_class.taken of_class.info is is_of)
       | inr before ↦ shape.named b before
     ];
     follows = shape.follows;
@@ -260,8 +284,10 @@ pop_block capacity class w image held now s ws is shape cached adds =
     (popped_shape capacity class w image held now s ws is shape cached adds, not_held capacity class w image held now s ws is shape cached adds)
 
 -- a held block of a class is freed into the cache
-module _ (capacity class d : ℕ) (image new : Image) (held now : List Block) (s : Shape) (b : Block) (is : IsClass class) (shape : IsShape capacity image held s) (holds : Contains held b) (within : d < capacity)
-    (info : image (info_word d) ≡ class) (inside : IsInSuperblock capacity d b.first_word) (takes : TakesFrom b held now) (set : IsSet image new b.first_word (s.start class)) where
+module _ (capacity class d : ℕ) (image new : Image) (held now : List Block) (s : Shape) (b : Block) (is : IsClass class)
+    (shape : IsShape capacity image held s) (holds : Contains held b) (within : d < capacity)
+    (info : image (info_word d) ≡ class) (inside : IsInSuperblock capacity d b.first_word) (takes : TakesFrom b held now)
+    (set : IsSet image new b.first_word (s.start class)) where
   abbrev freed : Shape
   freed = with_cache s class b.first_word (b.first_word ∷ s.cached class)
 
@@ -308,7 +334,8 @@ module _ (capacity class d : ℕ) (image new : Image) (held now : List Block) (s
 
   free_here : times_free s class d b.first_word ≡ 0
   free_here = held_not_free s held class d b.first_word holds_here
-      (subst (λ x. HasOneOwner s held class d x) (sym first_here.at) ((cut_class capacity image s held class d (s.place d) is place_here (shape.places d within)).owned first_here.index first_here.below))
+      (subst (λ x. HasOneOwner s held class d x) (sym first_here.at)
+      ((cut_class capacity image s held class d (s.place d) is place_here (shape.places d within)).owned first_here.index first_here.below))
 
   not_chained : (word : ℕ) → Contains (s.chain d) word → word ≢ b.first_word
   not_chained word p same =
@@ -317,7 +344,12 @@ module _ (capacity class d : ℕ) (image new : Image) (held now : List Block) (s
       omega arith
 
   held_still : (word : ℕ) → word ≢ b.first_word → HoldsAt held word → HoldsAt now word
-  held_still word other h = record { block = h.block; holds = takes.keeps h.block h.holds (λ same. other (sym h.at ∙ ap (λ (x : Block). x.first_word) same)); at = h.at }
+  held_still word other h = record {
+    block = h.block;
+    holds = takes.keeps h.block h.holds
+        (λ same. other (sym h.at ∙ ap (λ (x : Block). x.first_word) same));
+    at = h.at;
+  }
 
   held_once : (word : ℕ) → HoldsAt now word → HoldsAt held word
   held_once word h = record { block = h.block; holds = takes.only h.block h.holds; at = h.at }
@@ -344,7 +376,8 @@ module _ (capacity class d : ℕ) (image new : Image) (held now : List Block) (s
 
   owner_now : (word : ℕ) → HasOneOwner s held class d word → HasOneOwner freed now class d word
   owner_now word owner =
-      let after : times word (with_at s.cached class (b.first_word ∷ s.cached class) class) ≡ times word (b.first_word ∷ s.cached class) = ap (times word) (with_at_same s.cached class (b.first_word ∷ s.cached class)) in
+      let after : times word (with_at s.cached class (b.first_word ∷ s.cached class) class) ≡ times word (b.first_word ∷ s.cached class) =
+      ap (times word) (with_at_same s.cached class (b.first_word ∷ s.cached class)) in
       elim (cases_eq word b.first_word) [
         | inl same ↦ subst (λ x. HasOneOwner freed now class d x) (sym same) freed_owner
         | inr other ↦
@@ -364,7 +397,9 @@ module _ (capacity class d : ℕ) (image new : Image) (held now : List Block) (s
     | inl same ↦ subst (λ x. IsAs capacity new freed now x (s.place x)) (sym same)
         (replaced capacity image new s freed held now class d (s.place d) place_here is same_info same_anchor refl
         (reowned capacity image new s freed held now class d same_used same_info same_anchor refl (λ w p. other_word w (not_chained w p))
-        (λ index in_count. owner_now (first_of capacity class d index) ((cut_class capacity image s held class d (s.place d) is place_here (shape.places d within)).owned index in_count)) (cut_class capacity image s held class d (s.place d) is place_here (shape.places d within)))
+        (λ index in_count. owner_now (first_of capacity class d index)
+        ((cut_class capacity image s held class d (s.place d) is place_here (shape.places d within)).owned index in_count))
+        (cut_class capacity image s held class d (s.place d) is place_here (shape.places d within)))
         (shape.places d within))
     | inr other ↦ frame capacity e image new s freed held now (s.place e) (there e below other) same_used
         (λ fresh. (past (s.place e) fresh (shape.places e below), low_word (link_word e) (omega arith))) (shape.places e below)
@@ -388,17 +423,21 @@ module _ (capacity class d : ℕ) (image new : Image) (held now : List Block) (s
   freed_shape = record {
     small = shape.small;
     used = let same = low_word used_word (omega arith) in let used = shape.used in omega arith;
-    named = λ a now_held. let p = takes.only a now_held in same_there (layout_at capacity image) (layout_at capacity new) a refl (low_word used_word (omega arith)) (λ e part.
+    named = λ a now_held. let p = takes.only a now_held in same_there (layout_at capacity image) (layout_at capacity new) a refl
+        (low_word used_word (omega arith)) (λ e part.
         let taken = part_taken (layout_at capacity image) a e (shape.named a p) part in
         let used = shape.used in
         low_word (info_word e) (omega arith)) (shape.named a p);
-    follows = λ list below. subst (λ from. Follows (λ e. new (link_word e)) capacity from (s.listed list)) (ap head_first (sym (low_word (head_word list) (omega arith))))
+    follows = λ list below. subst (λ from. Follows (λ e. new (link_word e)) capacity from (s.listed list))
+        (ap head_first (sym (low_word (head_word list) (omega arith))))
         (follows_same (λ e. image (link_word e)) (λ e. new (link_word e)) capacity (head_first (image (head_word list))) (s.listed list)
-        (λ e p. let e_within = follows_below (λ k. image (link_word k)) capacity (head_first (image (head_word list))) (s.listed list) e (shape.follows list below) p in low_word (link_word e) (omega arith))
+        (λ e p. let e_within = follows_below (λ k. image (link_word k)) capacity (head_first (image (head_word list))) (s.listed list) e
+        (shape.follows list below) p in low_word (link_word e) (omega arith))
         (shape.follows list below));
     listed = shape.listed;
     places = place_now;
-    cached = λ c word is_c p. at_or_other (λ k xs. IsClass k → Contains xs word → IsCachedIn capacity new freed k word) s.cached class (b.first_word ∷ s.cached class) c
+    cached = λ c word is_c p. at_or_other (λ k xs. IsClass k → Contains xs word → IsCachedIn capacity new freed k word) s.cached class
+        (b.first_word ∷ s.cached class) c
         (λ _ q. elim (head_or_rest b.first_word word (s.cached class) q) [
           | inl same ↦ record {
             superblock = d;
@@ -408,7 +447,8 @@ module _ (capacity class d : ℕ) (image new : Image) (held now : List Block) (s
           }
           | inr before ↦ cached_still class word is before
         ]) (λ _ is_k q. cached_still c word is_k q) is_c p;
-    walks = λ c is_c. at_or_other_two (λ k first words. IsClass k → Walks new first words) s.start s.cached class b.first_word (b.first_word ∷ s.cached class) c
+    walks = λ c is_c. at_or_other_two (λ k first words. IsClass k → Walks new first words) s.start s.cached class b.first_word
+        (b.first_word ∷ s.cached class) c
         (λ _. (refl, subst (λ x. Walks new x (s.cached class)) (sym set.at) (walk_still class is))) (λ _. walk_still c) is_c;
   } where
     cached_still : (c word : ℕ) → IsClass c → Contains (s.cached c) word → IsCachedIn capacity new freed c word
@@ -419,7 +459,14 @@ module _ (capacity class d : ℕ) (image new : Image) (held now : List Block) (s
           superblock = found.superblock;
           within = found.within;
           is_first = found.is_first;
-          place = elim found.place [ inl in_class ↦ inl in_class | inr full ↦ inr (full.0, low_word (info_word found.superblock) (omega arith) ∙ full.1) ];
+          place = elim found.place [
+            | inl in_class ↦ inl in_class
+            | inr full ↦ inr (
+              full.0,
+              low_word (info_word found.superblock) (omega arith)
+                  ∙ full.1,
+            )
+          ];
         }
 
     walk_still : (c : ℕ) → IsClass c → Walks new (s.start c) (s.cached c)

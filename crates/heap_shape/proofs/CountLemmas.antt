@@ -20,12 +20,14 @@ use Rattle.heap_shape.proofs.BasicLemmas.{times_here, times_past, stands_once, f
 use Rattle.heap_model.proofs.ListLemmas.{times_append, length_without, without_less, without_at}
 
 -- a list of values of f below n, none of them twice
-pub few_members : (f : ℕ → ℕ) (n : ℕ) (xs : List ℕ) → ((x : ℕ) → Contains xs x → (i : ℕ) × (i < n) × (x ≡ f i)) → ((i : ℕ) → i < n → times (f i) xs ≤ 1) → length xs ≤ n
+pub few_members : (f : ℕ → ℕ) (n : ℕ) (xs : List ℕ) → ((x : ℕ) → Contains xs x → (i : ℕ) × (i < n) × (x ≡ f i))
+    → ((i : ℕ) → i < n → times (f i) xs ≤ 1) → length xs ≤ n
 few_members f zero [] are once = omega arith
 few_members f zero (x ∷ xs) are once = absurd (let first = are x (in_head x xs) in let below = first.1 in omega arith)
 few_members f (suc n) xs are once =
     let shorter = length_without (f n) xs in
-    let rest = few_members f n (without (f n) xs) still (λ i below. let at_most = once i (omega arith) in let fewer = without_less (f i) (f n) xs in omega arith) in
+    let rest = few_members f n (without (f n) xs) still (λ i below. let at_most = once i (omega arith) in
+    let fewer = without_less (f i) (f n) xs in omega arith) in
     omega arith
   where
     still : (x : ℕ) → Contains (without (f n) xs) x → (i : ℕ) × (i < n) × (x ≡ f i)
@@ -44,7 +46,8 @@ few_members f (suc n) xs are once =
         ]
 
 -- and if it is as long, each value is a member
-pub all_members : (f : ℕ → ℕ) (n : ℕ) (xs : List ℕ) → ((x : ℕ) → Contains xs x → (i : ℕ) × (i < n) × (x ≡ f i)) → ((i : ℕ) → i < n → times (f i) xs ≤ 1) → length xs ≡ n
+pub all_members : (f : ℕ → ℕ) (n : ℕ) (xs : List ℕ) → ((x : ℕ) → Contains xs x → (i : ℕ) × (i < n) × (x ≡ f i))
+    → ((i : ℕ) → i < n → times (f i) xs ≤ 1) → length xs ≡ n
     → ((i j : ℕ) → i < n → j < n → f i ≡ f j → i ≡ j) → (i : ℕ) → i < n → times (f i) xs ≡ 1
 all_members f n xs are once long injective i below =
     let at_most = once i below in
@@ -71,10 +74,16 @@ module _ (capacity : ℕ) (image : Image) (held : List Block) (s : Shape) (shape
   -- a list has no more descriptors than there are superblocks
   pub few_listed : (list : ℕ) → list < lists → length (s.listed list) ≤ capacity
   few_listed list below = few_members (λ d. d) capacity (s.listed list)
-      (λ d p. (d, follows_below (λ e. image (link_word e)) capacity (head_first (image (head_word list))) (s.listed list) d (shape.follows list below) p, refl))
+      (λ d p. (
+        d,
+        follows_below (λ e. image (link_word e)) capacity (head_first (image (head_word list))) (s.listed list) d
+            (shape.follows list below) p,
+        refl,
+      ))
       (λ d within. let count = shape.listed list d below in let once = stands_once (s.place d) list in omega arith)
 
-  module _ (class d : ℕ) (given rest : List ℕ) (of_class : IsOfClass capacity image s held class d) (cache : s.cached class ≡ given ++ rest) (firsts : (w : ℕ) → Contains given w → IsFirstOf capacity class d w) where
+  module _ (class d : ℕ) (given rest : List ℕ) (of_class : IsOfClass capacity image s held class d) (cache : s.cached class ≡ given ++ rest)
+      (firsts : (w : ℕ) → Contains given w → IsFirstOf capacity class d w) where
     -- how often a word is free: in the given blocks, in the rest of the cache and in the chain
     free_parts : (word : ℕ) → times word (given ++ s.chain d) + times word rest ≡ times_free s class d word
     free_parts word =
@@ -85,10 +94,11 @@ module _ (capacity : ℕ) (image : Image) (held : List Block) (s : Shape) (shape
 
     -- each is a first word, and stands there once
     is_first : (word : ℕ) → Contains (given ++ s.chain d) word → (i : ℕ) × (i < blocks_of class) × (word ≡ first_of capacity class d i)
-    is_first word p = elim (Contains-append_cases given (s.chain d) word p) as (λ _. (i : ℕ) × (i < blocks_of class) × (word ≡ first_of capacity class d i)) [
-      | inl in_given ↦ let first = firsts word in_given in (first.index, first.below, first.at)
-      | inr in_chain ↦ let first = of_class.blocks word in_chain in (first.index, first.below, first.at)
-    ]
+    is_first word p = elim (Contains-append_cases given (s.chain d) word p) as (λ _. (i : ℕ) × (i < blocks_of class)
+        × (word ≡ first_of capacity class d i)) [
+          | inl in_given ↦ let first = firsts word in_given in (first.index, first.below, first.at)
+          | inr in_chain ↦ let first = of_class.blocks word in_chain in (first.index, first.below, first.at)
+        ]
 
     once : (i : ℕ) → i < blocks_of class → times (first_of capacity class d i) (given ++ s.chain d) ≤ 1
     once i below = let parts = free_parts (first_of capacity class d i) in
@@ -98,20 +108,24 @@ module _ (capacity : ℕ) (image : Image) (held : List Block) (s : Shape) (shape
         ]
 
   -- blocks of one superblock in the front of the cache, together with its chain, are no more than it has
-  pub few_given : (class d : ℕ) (given rest : List ℕ) → IsOfClass capacity image s held class d → s.cached class ≡ given ++ rest → ((w : ℕ) → Contains given w → IsFirstOf capacity class d w)
+  pub few_given : (class d : ℕ) (given rest : List ℕ) → IsOfClass capacity image s held class d → s.cached class ≡ given ++ rest
+      → ((w : ℕ) → Contains given w → IsFirstOf capacity class d w)
       → length given + length (s.chain d) ≤ blocks_of class
   few_given class d given rest of_class cache firsts =
-      let few = few_members (first_of capacity class d) (blocks_of class) (given ++ s.chain d) (is_first class d given rest of_class cache firsts) (once class d given rest of_class cache firsts) in
+      let few = few_members (first_of capacity class d) (blocks_of class) (given ++ s.chain d)
+      (is_first class d given rest of_class cache firsts) (once class d given rest of_class cache firsts) in
       let both = length-append given (s.chain d) in
       omega arith
 
   -- and if they are as many, all its blocks are free, and none of them is behind in the cache
-  pub all_given : (class d : ℕ) (given rest : List ℕ) → IsOfClass capacity image s held class d → s.cached class ≡ given ++ rest → ((w : ℕ) → Contains given w → IsFirstOf capacity class d w)
+  pub all_given : (class d : ℕ) (given rest : List ℕ) → IsOfClass capacity image s held class d → s.cached class ≡ given ++ rest
+      → ((w : ℕ) → Contains given w → IsFirstOf capacity class d w)
       → length given + length (s.chain d) ≡ blocks_of class → HasNoHeld capacity held d × ((w : ℕ) → Contains rest w → IsFirstOf capacity class d w → ⊥)
   all_given class d given rest of_class cache firsts all = (none_held, none_behind) where
     each : (i : ℕ) → i < blocks_of class → times (first_of capacity class d i) (given ++ s.chain d) ≡ 1
     each = let both = length-append given (s.chain d) in
-        all_members (first_of capacity class d) (blocks_of class) (given ++ s.chain d) (is_first class d given rest of_class cache firsts) (once class d given rest of_class cache firsts) (omega arith)
+        all_members (first_of capacity class d) (blocks_of class) (given ++ s.chain d) (is_first class d given rest of_class cache firsts)
+        (once class d given rest of_class cache firsts) (omega arith)
         (λ i j below_i below_j. first_injective capacity class d i j of_class.is_class)
 
     -- so each is free, and isn't behind

@@ -31,7 +31,8 @@ block_same capacity image new b raised infos is =
     block_more (layout_at capacity image) (layout_at capacity new) b refl raised infos is
 
 -- a superblock that was never taken has that place
-pub past_is_new : (capacity : ℕ) (image : Image) (s : Shape) (held : List Block) (d : ℕ) (p : Place) → image used_word ≤ d → IsAs capacity image s held d p
+pub past_is_new : (capacity : ℕ) (image : Image) (s : Shape) (held : List Block) (d : ℕ) (p : Place) → image used_word ≤ d
+    → IsAs capacity image s held d p
     → p ≡ is_new
 past_is_new capacity image s held d (in_list zero) past is = absurd (let taken = is.taken in omega arith)
 past_is_new capacity image s held d (in_list (suc c)) past is = absurd (let taken = is.of_class.taken in omega arith)
@@ -46,13 +47,16 @@ module _ (capacity : ℕ) (image : Image) (held : List Block) (s : Shape) (shape
       → ((e : ℕ) → e < capacity → new (link_word e) ≡ image (link_word e)) → (other : ℕ) → other < lists
       → Follows (λ e. new (link_word e)) capacity (head_first (new (head_word other))) (with_at s.listed list ds other)
   follows_popped middle new list d ds below is popped heads links other less =
-      elim (cases_eq other list) as (λ _. Follows (λ e. new (link_word e)) capacity (head_first (new (head_word other))) (with_at s.listed list ds other)) [
+      elim (cases_eq other list) as (λ _. Follows (λ e. new (link_word e)) capacity (head_first (new (head_word other)))
+      (with_at s.listed list ds other)) [
         | inl one ↦ subst (λ k. Follows (λ e. new (link_word e)) capacity (head_first (new (head_word k))) (with_at s.listed list ds k)) (sym one)
             (subst (λ xs. Follows (λ e. new (link_word e)) capacity (head_first (new (head_word list))) xs) (sym (with_at_same s.listed list ds))
             (subst (λ from. Follows (λ e. new (link_word e)) capacity from ds) (sym from_is) (kept (image (link_word d)) ds rest)))
         | inr apart ↦
-            let head : new (head_word other) ≡ image (head_word other) = heads other less ∙ popped.set.others (head_word other) (λ same. apart (omega arith)) in
-            subst (λ xs. Follows (λ e. new (link_word e)) capacity (head_first (new (head_word other))) xs) (sym (with_at_other s.listed list ds other apart))
+            let head : new (head_word other) ≡ image (head_word other) = heads other less
+            ∙ popped.set.others (head_word other) (λ same. apart (omega arith)) in
+            subst (λ xs. Follows (λ e. new (link_word e)) capacity (head_first (new (head_word other))) xs)
+            (sym (with_at_other s.listed list ds other apart))
             (subst (λ h. Follows (λ e. new (link_word e)) capacity (head_first h) (s.listed other)) (sym head)
             (kept (head_first (image (head_word other))) (s.listed other) (shape.follows other less)))
       ] where
@@ -110,7 +114,8 @@ refilled s class d listed words first = record {
 }
 
 -- superblock d is full from now on, and the blocks of the empty cache of the class are its free ones; other superblocks have their words
-pub record IsRefilled (capacity class d : ℕ) (image new : Image) (held : List Block) (s : Shape) (listed : ℕ → List ℕ) (words : List ℕ) (first : ℕ) : Type 0 where
+pub record IsRefilled (capacity class d : ℕ) (image new : Image) (held : List Block) (s : Shape) (listed : ℕ → List ℕ) (words : List ℕ)
+    (first : ℕ) : Type 0 where
   pub within : d < capacity
   pub stood : (c : ℕ) → IsClass c → s.place d ≡ in_list c → c ≡ class
   pub not_full : s.place d ≡ is_full → ⊥
@@ -127,13 +132,15 @@ pub record IsRefilled (capacity class d : ℕ) (image new : Image) (held : List 
   pub others : (e word : ℕ) → e < capacity → e ≢ d → IsInSuperblock capacity e word → new word ≡ image word
   pub unheld : (b : Block) → Contains held b → HasPartIn capacity b d → new (info_word d) ≡ image (info_word d)
   pub firsts : (w : ℕ) → Contains words w → IsFirstOf capacity class d w
-  pub owned : (index : ℕ) → index < blocks_of class → ((times (first_of capacity class d index) words ≡ 1) × (HoldsAt held (first_of capacity class d index) → ⊥))
+  pub owned : (index : ℕ) → index < blocks_of class → ((times (first_of capacity class d index) words ≡ 1)
+      × (HoldsAt held (first_of capacity class d index) → ⊥))
       ⊎ ((times (first_of capacity class d index) words ≡ 0) × HoldsAt held (first_of capacity class d index))
   pub walks : Walks new first words
   pub follows : (list : ℕ) → list < lists → Follows (λ e. new (link_word e)) capacity (head_first (new (head_word list))) (listed list)
   pub in_lists : (list e : ℕ) → list < lists → times e (listed list) ≡ stands_in (with_at s.place d is_full e) list
 
-module _ (capacity class d : ℕ) (image new : Image) (held : List Block) (s : Shape) (listed : ℕ → List ℕ) (words : List ℕ) (first : ℕ) (is : IsClass class)
+module _ (capacity class d : ℕ) (image new : Image) (held : List Block) (s : Shape) (listed : ℕ → List ℕ) (words : List ℕ) (first : ℕ)
+    (is : IsClass class)
     (shape : IsShape capacity image held s) (re : IsRefilled capacity class d image new held s listed words first) where
   -- a block that was cached is of another superblock
   cached_apart : (c word : ℕ) → IsClass c → Contains (s.cached c) word → IsInSuperblock capacity d word → ⊥
@@ -155,7 +162,8 @@ module _ (capacity class d : ℕ) (image new : Image) (held : List Block) (s : S
       re.others at.superblock word at.within (λ same. cached_apart c word is_c p (subst (λ e. IsInSuperblock capacity e word) same inside)) inside
 
   -- another superblock has the same cached blocks
-  cached_there : (e c word : ℕ) → IsClass c → e ≢ d → IsInSuperblock capacity e word → times word (with_at s.cached class words c) ≡ times word (s.cached c)
+  cached_there : (e c word : ℕ) → IsClass c → e ≢ d → IsInSuperblock capacity e word
+      → times word (with_at s.cached class words c) ≡ times word (s.cached c)
   cached_there e c word is_c apart inside = elim (cases_eq c class) as (λ _. times word (with_at s.cached class words c) ≡ times word (s.cached c)) [
     | inl one ↦
         let none : times word words ≡ 0 = times_none word words
@@ -246,7 +254,8 @@ module _ (capacity class d : ℕ) (image new : Image) (held : List Block) (s : S
     used = re.used;
     named = λ b p. block_same capacity image new b re.raised (λ e part. elim (cases_eq e d) as (λ _. new (info_word e) ≡ image (info_word e)) [
       | inl same ↦ subst (λ k. new (info_word k) ≡ image (info_word k)) (sym same) (re.unheld b p (subst (λ k. HasPartIn capacity b k) same part))
-      | inr other ↦ re.other_info e (let taken = part_taken (layout_at capacity image) b e (shape.named b p) part in let used = shape.used in omega arith) other
+      | inr other ↦ re.other_info e (let taken = part_taken (layout_at capacity image) b e (shape.named b p) part in let used = shape.used in
+          omega arith) other
     ]) (shape.named b p);
     follows = re.follows;
     listed = re.in_lists;
@@ -291,7 +300,8 @@ firsts_once capacity class d i index (suc count) is from until =
           omega arith
       | inr other ↦
           let none : one_if (nat_eq (first_of capacity class d index) (first_of capacity class d i)) ≡ 0 = one_if_false _
-          (λ same. other (sym (first_injective capacity class d index i is (eqb-true (first_of capacity class d index) (first_of capacity class d i) same)))) in
+          (λ same. other (sym (first_injective capacity class d index i is
+          (eqb-true (first_of capacity class d index) (first_of capacity class d i) same)))) in
           let rest = firsts_once capacity class d i (index + 1) count is (omega arith) (omega arith) in
           omega arith
     ]

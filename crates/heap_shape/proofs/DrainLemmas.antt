@@ -40,10 +40,11 @@ module _ (capacity class : ℕ) (image new : Image) (held : List Block) (s : Sha
     (raised : image used_word ≤ new used_word) (most : new used_word ≤ capacity)
     (infos : (b : Block) (d : ℕ) → Contains held b → HasPartIn capacity b d → new (info_word d) ≡ image (info_word d)) where
   still_drained : (b : Block) → IsToDrain capacity image held class b → IsToDrain capacity new held class b
-  still_drained b (beside _ d index is taken info of unkept not_free) = elim (cases_parts capacity held d) as (λ _. IsToDrain capacity new held class b) [
-    | inl some ↦ beside b d index is (omega arith) (infos some.0 d some.1 some.2 ∙ info) of unkept (λ free. free.empty some.0 some.1 some.2)
-    | inr none ↦ absurd (not_free (record { taken = taken; empty = none }))
-  ]
+  still_drained b (beside _ d index is taken info of unkept not_free) =
+      elim (cases_parts capacity held d) as (λ _. IsToDrain capacity new held class b) [
+        | inl some ↦ beside b d index is (omega arith) (infos some.0 d some.1 some.2 ∙ info) of unkept (λ free. free.empty some.0 some.1 some.2)
+        | inr none ↦ absurd (not_free (record { taken = taken; empty = none }))
+      ]
   still_drained b (freed _ d index is free of) = let taken = free.taken in freed b d index is (record { taken = omega arith; empty = free.empty }) of
   still_drained b (fresh _ d index is past within of) = elim (cases_lt d (new used_word)) as (λ _. IsToDrain capacity new held class b) [
     | inl taken ↦ freed b d index is (record { taken = taken; empty = none_past capacity d image held s shape past }) of
@@ -51,12 +52,13 @@ module _ (capacity class : ℕ) (image new : Image) (held : List Block) (s : Sha
   ]
 
   drained_before : (b : Block) → IsToDrain capacity new held class b → IsToDrain capacity image held class b
-  drained_before b (beside _ d index is taken info of unkept not_free) = elim (cases_parts capacity held d) as (λ _. IsToDrain capacity image held class b) [
-    | inl some ↦
-        let was = part_taken (layout_at capacity image) some.0 d (shape.named some.0 some.1) some.2 in
-        beside b d index is was (sym (infos some.0 d some.1 some.2) ∙ info) of unkept (λ free. free.empty some.0 some.1 some.2)
-    | inr none ↦ absurd (not_free (record { taken = taken; empty = none }))
-  ]
+  drained_before b (beside _ d index is taken info of unkept not_free) =
+      elim (cases_parts capacity held d) as (λ _. IsToDrain capacity image held class b) [
+        | inl some ↦
+            let was = part_taken (layout_at capacity image) some.0 d (shape.named some.0 some.1) some.2 in
+            beside b d index is was (sym (infos some.0 d some.1 some.2) ∙ info) of unkept (λ free. free.empty some.0 some.1 some.2)
+        | inr none ↦ absurd (not_free (record { taken = taken; empty = none }))
+      ]
   drained_before b (freed _ d index is free of) = elim (cases_lt d (image used_word)) as (λ _. IsToDrain capacity image held class b) [
     | inl taken ↦ freed b d index is (record { taken = taken; empty = free.empty }) of
     | inr past ↦ let taken = free.taken in fresh b d index is past (omega arith) of
@@ -89,16 +91,19 @@ module _ (capacity class : ℕ) (image new : Image) (held : List Block) (s : Sha
         → Stays class image new (s.listed 0) free e
         → (new (info_word e) ≡ class) ⊎ IsInFreeList capacity new e
     still_drainable drainable e none (inl cut) = inl cut
-    still_drainable drainable e none (inr stays) = elim (drainable.each e stays.0 none) as (λ _. (new (info_word e) ≡ class) ⊎ IsInFreeList capacity new e) [
-      | inl info ↦ inl (stays.1 ∙ info)
-      | inr in_free ↦ inr (still_free e stays.2 in_free)
-    ]
+    still_drainable drainable e none (inr stays) = elim (drainable.each e stays.0 none) as
+        (λ _. (new (info_word e) ≡ class) ⊎ IsInFreeList capacity new e) [
+          | inl info ↦ inl (stays.1 ∙ info)
+          | inr in_free ↦ inr (still_free e stays.2 in_free)
+        ]
 
 -- the cache was filled from a partial superblock
-pub take_drains : (capacity class d : ℕ) (image middle new : Image) (held : List Block) (s : Shape) (ds : List ℕ) → IsClass class → IsShape capacity image held s → s.listed class ≡ d ∷ ds
+pub take_drains : (capacity class d : ℕ) (image middle new : Image) (held : List Block) (s : Shape) (ds : List ℕ) → IsClass class
+    → IsShape capacity image held s → s.listed class ≡ d ∷ ds
     → IsPoppedOf image middle class d → IsSet middle new (anchor_word d) full_anchor → DrainsSame capacity class held image new
 take_drains capacity class d image middle new held s ds is shape list popped set =
-    drains_same capacity class image new held s shape (omega (arith, used)) (omega (arith, used, shape.used)) (λ b e holds part. info e) (s.listed 0) leads
+    drains_same capacity class image new held s shape (omega (arith, used)) (omega (arith, used, shape.used)) (λ b e holds part. info e)
+    (s.listed 0) leads
     (λ e taken. inr (omega (arith, used), info e, λ p. p)) is where
       -- the words but two are as before
       same : (word : ℕ) → word ≢ anchor_word d → word ≢ head_word class → new word ≡ image word
@@ -120,10 +125,12 @@ take_drains capacity class d image middle new held s ds is shape list popped set
           (λ e p. same (link_word e) (λ q. omega arith) (λ q. omega arith)) (shape.follows 0 (omega arith)))
 
 -- a superblock with no block in use went to the free list
-pub recycle_drains : (capacity class d : ℕ) (image middle new : Image) (held : List Block) (s : Shape) (ds : List ℕ) → IsClass class → IsShape capacity image held s → s.listed class ≡ d ∷ ds
+pub recycle_drains : (capacity class d : ℕ) (image middle new : Image) (held : List Block) (s : Shape) (ds : List ℕ) → IsClass class
+    → IsShape capacity image held s → s.listed class ≡ d ∷ ds
     → IsPoppedOf image middle class d → IsPushedOn middle new 0 d → DrainsSame capacity class held image new
 recycle_drains capacity class d image middle new held s ds is shape list popped pushed =
-    drains_same capacity class image new held s shape (omega (arith, used)) (omega (arith, used, shape.used)) (λ b e holds part. info e) (d ∷ s.listed 0) leads
+    drains_same capacity class image new held s shape (omega (arith, used)) (omega (arith, used, shape.used)) (λ b e holds part. info e)
+    (d ∷ s.listed 0) leads
     (λ e taken. inr (omega (arith, used), info e, in_rest d e (s.listed 0))) is where
       -- the words but three are as before
       same : (word : ℕ) → word ≢ head_word class → word ≢ link_word d → word ≢ head_word 0 → new word ≡ image word
@@ -160,12 +167,14 @@ recycle_drains capacity class d image middle new held s ds is shape list popped 
             within,
             subst (λ x. Follows (λ e. new (link_word e)) capacity x (s.listed 0)) (sym link)
                 (follows_same (λ e. image (link_word e)) (λ e. new (link_word e)) capacity (head_first (image (head_word 0))) (s.listed 0)
-                (λ e p. let other = apart e p in same (link_word e) (λ q. omega arith) (λ q. other (omega arith)) (λ q. omega arith)) (shape.follows 0 (omega arith))),
+                (λ e p. let other = apart e p in same (link_word e) (λ q. omega arith) (λ q. other (omega arith)) (λ q. omega arith))
+                (shape.follows 0 (omega arith))),
           )
 
 -- the words outside superblocks but two are as before the cut
 -- a superblock was cut
-pub cut_free_drains : (capacity class d : ℕ) (image middle new : Image) (held : List Block) (s : Shape) (ds : List ℕ) → IsClass class → IsShape capacity image held s → s.listed 0 ≡ d ∷ ds
+pub cut_free_drains : (capacity class d : ℕ) (image middle new : Image) (held : List Block) (s : Shape) (ds : List ℕ) → IsClass class
+    → IsShape capacity image held s → s.listed 0 ≡ d ∷ ds
     → IsPoppedOf image middle 0 d → IsCut capacity middle new class d → DrainsSame capacity class held image new
 cut_free_drains capacity class d image middle new held s ds is shape list popped cut =
     drains_same capacity class image new held s shape (omega (arith, used)) (omega (arith, used, shape.used)) held_info ds
@@ -174,7 +183,8 @@ cut_free_drains capacity class d image middle new held s ds is shape list popped
     (λ e within. same (link_word e) (omega arith) (λ at. omega arith) (λ at. omega arith) (λ at. omega arith)) 0 (omega arith)) each is where
       -- the words outside superblocks but three are as before
       same : (word : ℕ) → word < start_word capacity 0 → word ≢ info_word d → word ≢ anchor_word d → word ≢ head_word 0 → new word ≡ image word
-      same word less not_info not_anchor not_head = cut_before capacity class d middle new word cut less not_info not_anchor ∙ popped.set.others word not_head
+      same word less not_info not_anchor not_head = cut_before capacity class d middle new word cut less not_info not_anchor
+          ∙ popped.set.others word not_head
 
       first : (s.place d ≡ in_list 0) × (d < capacity) × (times d ds ≡ 0)
       first = first_place capacity image held s shape 0 d ds (omega arith) list
@@ -208,7 +218,8 @@ cut_free_drains capacity class d image middle new held s ds is shape list popped
             )
       ]
 
-pub cut_fresh_drains : (capacity class d : ℕ) (image middle new : Image) (held : List Block) (s : Shape) → IsClass class → IsShape capacity image held s → image used_word ≡ d → d < capacity
+pub cut_fresh_drains : (capacity class d : ℕ) (image middle new : Image) (held : List Block) (s : Shape) → IsClass class
+    → IsShape capacity image held s → image used_word ≡ d → d < capacity
     → IsSet image middle used_word (d + 1) → IsCut capacity middle new class d → DrainsSame capacity class held image new
 cut_fresh_drains capacity class d image middle new held s is shape past within set cut =
     drains_same capacity class image new held s shape (omega (arith, used)) (omega (arith, used)) held_info (s.listed 0) leads each is where
@@ -255,7 +266,14 @@ pub pop_block_drains : (capacity class w : ℕ) (image : Image) (held now : List
     → IsClass class → IsShape capacity image held s → s.cached class ≡ w ∷ ws
     → AddsTo (record { first_word = w; words = words_of_class class }) held now
     → DrainsOne capacity class image held now (record { first_word = w; words = words_of_class class })
-pop_block_drains capacity class w image held now s ws is shape cached adds = record { was = was; rest = rest; only = only; gone = gone; drainable = drainable; accounted = accounted } where
+pop_block_drains capacity class w image held now s ws is shape cached adds = record {
+  was = was;
+  rest = rest;
+  only = only;
+  gone = gone;
+  drainable = drainable;
+  accounted = accounted;
+} where
   b : Block
   b = record { first_word = w; words = words_of_class class }
 
@@ -277,7 +295,8 @@ pop_block_drains capacity class w image held now s ws is shape cached adds = rec
 
   was : IsToDrain capacity image held class b
   was = elim (cases_parts capacity held d) as (λ _. IsToDrain capacity image held class b) [
-    | inl some ↦ let of_class = cached_of_class capacity image held s shape class w is in_cache in beside b d index is of_class.taken of_class.info is_of popped.1 (λ free. free.empty some.0 some.1 some.2)
+    | inl some ↦ let of_class = cached_of_class capacity image held s shape class w is in_cache in
+        beside b d index is of_class.taken of_class.info is_of popped.1 (λ free. free.empty some.0 some.1 some.2)
     | inr none ↦ freed b d index is (record { taken = (cached_of_class capacity image held s shape class w is in_cache).taken; empty = none }) is_of
   ]
 
@@ -300,7 +319,8 @@ pop_block_drains capacity class w image held now s ws is shape cached adds = rec
   rest a (freed _ e i is_class free of) = elim (cases_eq e d) as (λ _. (a ≡ b) ⊎ IsToDrain capacity image now class a) [
     | inl one ↦ elim (unheld a (λ p. free.empty a p (class_part capacity class e i a is of))) as (λ _. (a ≡ b) ⊎ IsToDrain capacity image now class a) [
       | inl same ↦ inl same
-      | inr none ↦ inr (beside a e i is_class free.taken (subst (λ x. image (info_word x) ≡ class) (sym one) (cached_of_class capacity image held s shape class w is in_cache).info) of none
+      | inr none ↦ inr (beside a e i is_class free.taken (subst (λ x. image (info_word x) ≡ class) (sym one)
+          (cached_of_class capacity image held s shape class w is in_cache).info) of none
           (λ still. still.empty b adds.has (subst (HasPartIn capacity b) (sym one) (class_part capacity class d index b is is_of))))
     ]
     | inr apart ↦ inr (freed a e i is_class (record {
@@ -318,7 +338,10 @@ pop_block_drains capacity class w image held now s ws is shape cached adds = rec
     | inl some ↦ beside a e i is_class taken info of (λ p. unkept (adds.keeps a p)) (λ free. free.empty some.0 some.1 some.2)
     | inr none ↦ freed a e i is_class (record { taken = taken; empty = none }) of
   ]
-  only a (freed _ e i is_class free of) = freed a e i is_class (record { taken = free.taken; empty = λ h p part. free.empty h (adds.keeps h p) part }) of
+  only a (freed _ e i is_class free of) = freed a e i is_class (record {
+    taken = free.taken;
+    empty = λ h p part. free.empty h (adds.keeps h p) part;
+  }) of
   only a (fresh _ e i is_class past within of) = fresh a e i is_class past within of
 
   -- a held block is not to be given
@@ -342,7 +365,8 @@ pop_block_drains capacity class w image held now s ws is shape cached adds = rec
     by_use e (for_later in_free) = for_later in_free
 
 -- nothing is left where cache, class list and free list are empty and every superblock was taken
-pub drained_none : (capacity class : ℕ) (image : Image) (held : List Block) (s : Shape) → IsClass class → IsShape capacity image held s → s.cached class ≡ [] → s.listed class ≡ [] → s.listed 0 ≡ []
+pub drained_none : (capacity class : ℕ) (image : Image) (held : List Block) (s : Shape) → IsClass class → IsShape capacity image held s
+    → s.cached class ≡ [] → s.listed class ≡ [] → s.listed 0 ≡ []
     → capacity < image used_word + 1 → IsDrainable capacity image held class → (b : Block) → IsToDrain capacity image held class b → ⊥
 drained_none capacity class image held s is shape cached listed free past drainable b drained = given b drained where
   -- each block of a superblock of the class is held

@@ -50,7 +50,8 @@ of_class_same capacity d image new s t held now class same raised is = record {
       let chain : times (first_of capacity class d index) (t.chain d) ≡ times (first_of capacity class d index) (s.chain d) =
       ap (times (first_of capacity class d index)) same.chain in
       let cached = same.cached class (first_of capacity class d index) is.is_class inside in
-      owner_same s t held now class d (first_of capacity class d index) (omega arith) (same.holds _ inside) (same.held_before _ inside) (is.owned index below);
+      owner_same s t held now class d (first_of capacity class d index) (omega arith) (same.holds _ inside) (same.held_before _ inside)
+      (is.owned index below);
   blocks = λ word p. is.blocks word (subst (λ ws. Contains ws word) same.chain p);
   walks = subst (λ ws. Walks new (first_of capacity class d (anchor_first (new (anchor_word d)))) ws) (sym same.chain)
       (subst (λ a. Walks new (first_of capacity class d (anchor_first a)) (s.chain d)) (sym same.anchor)

@@ -24,7 +24,8 @@ use Rattle.heap_shape.proofs.BasicLemmas.{with_at_same, with_at_other, first_ins
 use Rattle.heap_shape.proofs.FrameLemmas.{SameThere, frame, KeepsBut}
 
 -- each superblock of a held large block has that place
-pub large_places : (capacity d : ℕ) (image : Image) (held : List Block) (s : Shape) (b : Block) → IsShape capacity image held s → Contains held b → superblock_words ≤ b.words
+pub large_places : (capacity d : ℕ) (image : Image) (held : List Block) (s : Shape) (b : Block) → IsShape capacity image held s
+    → Contains held b → superblock_words ≤ b.words
     → b.first_word ≤ start_word capacity d → start_word capacity d < b.first_word + b.words → (d < capacity) × (s.place d ≡ in_large)
 large_places capacity d image held s b shape holds long from until = (within, by_place (s.place d) (shape.places d within)) where
   part : HasPartIn capacity b d
@@ -47,8 +48,10 @@ large_places capacity d image held s b shape holds long from until = (within, by
   by_place is_new is = absurd (let past = is.past in let less = taken in omega arith)
 
 -- it is held no more: its superblocks are still taken by it
-pub drop_large : (capacity : ℕ) (image : Image) (held now : List Block) (s : Shape) (b : Block) → IsShape capacity image held s → Contains held b → superblock_words ≤ b.words → TakesFrom b held now
-    → IsShape capacity image now s × ((d : ℕ) → b.first_word ≤ start_word capacity d → start_word capacity d < b.first_word + b.words → HasNoHeld capacity now d)
+pub drop_large : (capacity : ℕ) (image : Image) (held now : List Block) (s : Shape) (b : Block) → IsShape capacity image held s
+    → Contains held b → superblock_words ≤ b.words → TakesFrom b held now
+    → IsShape capacity image now s × ((d : ℕ) → b.first_word ≤ start_word capacity d → start_word capacity d < b.first_word + b.words
+    → HasNoHeld capacity now d)
 drop_large capacity image held now s b shape holds long takes = (is_shape, none_left) where
   l : Layout
   l = layout_at capacity image
@@ -216,7 +219,8 @@ module _ (capacity d : ℕ) (image middle new : Image) (held : List Block) (s : 
   place_other e below other =
       let same = kept.used in
       frame capacity e image new s (after_split s d) held held (s.place e) (same_other e other) (omega arith)
-      (λ is. let fresh = subst (λ p. IsAs capacity image s held e p) is (shape.places e below) in let past = fresh.past in (omega arith, kept.link e other))
+      (λ is. let fresh = subst (λ p. IsAs capacity image s held e p) is (shape.places e below) in let past = fresh.past in
+      (omega arith, kept.link e other))
       (shape.places e below)
 
   -- a cached block is in none that was in a large block
@@ -284,7 +288,8 @@ module _ (capacity d : ℕ) (image middle new : Image) (held : List Block) (s : 
   }
 
 -- one of them goes to the free list
-pub split_one : (capacity d : ℕ) (image middle new : Image) (held : List Block) (s : Shape) → IsShape capacity image held s → d < capacity → s.place d ≡ in_large → HasNoHeld capacity held d
+pub split_one : (capacity d : ℕ) (image middle new : Image) (held : List Block) (s : Shape) → IsShape capacity image held s → d < capacity
+    → s.place d ≡ in_large → HasNoHeld capacity held d
     → IsSet image middle (anchor_word d) 0 → IsPushedOn middle new 0 d → IsShape capacity new held (after_split s d)
 split_one capacity d image middle new held s shape within place none set pushed =
     split_kept capacity d image middle new held s shape within place set pushed none

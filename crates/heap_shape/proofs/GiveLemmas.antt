@@ -29,7 +29,8 @@ use Rattle.heap_shape.proofs.CacheLemmas.{at_or_other, at_or_other_two, free_onc
 use Rattle.heap_model.proofs.WordLemmas.{anchor_parts}
 
 -- a walk along the given blocks and then others begins at a given block
-walk_begins : (next : ℕ → ℕ) (from : ℕ) (before : List ℕ) (last : ℕ) (rest : List ℕ) → Walks next from ((before ++ last ∷ []) ++ rest) → Contains (before ++ last ∷ []) from
+walk_begins : (next : ℕ → ℕ) (from : ℕ) (before : List ℕ) (last : ℕ) (rest : List ℕ) → Walks next from ((before ++ last ∷ []) ++ rest)
+    → Contains (before ++ last ∷ []) from
 walk_begins next from [] last rest walks = subst (λ x. Contains (last ∷ []) x) (sym walks.0) (in_head last [])
 walk_begins next from (x ∷ before) last rest walks = subst (λ y. Contains (x ∷ (before ++ last ∷ [])) y) (sym walks.0) (in_head x (before ++ last ∷ []))
 
@@ -44,7 +45,8 @@ walk_joined image new from (x ∷ before) last rest chain same walks tail = (
 )
 
 -- a superblock with free blocks of a class is as the list of that class says
-listed_as : (capacity : ℕ) (image : Image) (s : Shape) (held : List Block) (class d : ℕ) → IsClass class → HasFreeBlocks capacity image s held class d → IsAs capacity image s held d (in_list class)
+listed_as : (capacity : ℕ) (image : Image) (s : Shape) (held : List Block) (class d : ℕ) → IsClass class
+    → HasFreeBlocks capacity image s held class d → IsAs capacity image s held d (in_list class)
 listed_as capacity image s held zero d is listed = absurd (let some = is.some in omega arith)
 listed_as capacity image s held (suc c) d is listed = listed
 
@@ -66,8 +68,10 @@ given_shape s class d chain rest first place listed = record {
   start = with_at s.start class first;
 }
 
-module _ (capacity class d : ℕ) (image new : Image) (held : List Block) (s : Shape) (before rest : List ℕ) (last : ℕ) (is : IsClass class) (shape : IsShape capacity image held s) (within : d < capacity)
-    (cache : s.cached class ≡ (before ++ last ∷ []) ++ rest) (firsts : (w : ℕ) → Contains (before ++ last ∷ []) w → IsFirstOf capacity class d w) (of : IsOfClass capacity image s held class d) where
+module _ (capacity class d : ℕ) (image new : Image) (held : List Block) (s : Shape) (before rest : List ℕ) (last : ℕ) (is : IsClass class)
+    (shape : IsShape capacity image held s) (within : d < capacity)
+    (cache : s.cached class ≡ (before ++ last ∷ []) ++ rest) (firsts : (w : ℕ) → Contains (before ++ last ∷ []) w
+    → IsFirstOf capacity class d w) (of : IsOfClass capacity image s held class d) where
   abbrev blocks : List ℕ
   blocks = before ++ last ∷ []
 
@@ -91,7 +95,8 @@ module _ (capacity class d : ℕ) (image new : Image) (held : List Block) (s : S
   -- the last given block is nowhere else
   last_once : (times last before ≡ 0) × (times last (s.chain d) ≡ 0) × (times last rest ≡ 0)
   last_once =
-      let once = free_once s held class d last (subst (λ x. HasOneOwner s held class d x) (sym last_first.at) (of.owned last_first.index last_first.below)) in
+      let once = free_once s held class d last (subst (λ x. HasOneOwner s held class d x) (sym last_first.at)
+      (of.owned last_first.index last_first.below)) in
       let parts = free_parts last in
       let both = times_append last blocks (s.chain d) in
       let given = times_append last before (last ∷ []) in
@@ -135,7 +140,8 @@ module _ (capacity class d : ℕ) (image new : Image) (held : List Block) (s : S
         let index_below = begins.below in
         omega arith
 
-    parts : (anchor_state (new (anchor_word d)) ≡ state) × (anchor_first (new (anchor_word d)) ≡ gives.first) × (anchor_count (new (anchor_word d)) ≡ length blocks + length (s.chain d))
+    parts : (anchor_state (new (anchor_word d)) ≡ state) × (anchor_first (new (anchor_word d)) ≡ gives.first)
+        × (anchor_count (new (anchor_word d)) ≡ length blocks + length (s.chain d))
     parts =
         let short = first_index in
         let few_of = few_blocks class is in
@@ -144,19 +150,21 @@ module _ (capacity class d : ℕ) (image new : Image) (held : List Block) (s : S
 
     -- the given blocks lead along to the chain that was there
     chain_walks : Walks new (s.start class) (blocks ++ s.chain d)
-    chain_walks = walk_joined image new (s.start class) before last rest (s.chain d) (λ w p. stays before last_once.0 w p (given_first w p)) walk_all chain_behind where
-      given_first : (w : ℕ) → Contains before w → IsFirstOf capacity class d w
-      given_first w p = firsts w (Contains-append_left before (last ∷ []) w p)
+    chain_walks = walk_joined image new (s.start class) before last rest (s.chain d)
+        (λ w p. stays before last_once.0 w p (given_first w p)) walk_all chain_behind where
+          given_first : (w : ℕ) → Contains before w → IsFirstOf capacity class d w
+          given_first w p = firsts w (Contains-append_left before (last ∷ []) w p)
 
-      stays : (xs : List ℕ) → times last xs ≡ 0 → (w : ℕ) → Contains xs w → IsFirstOf capacity class d w → new w ≡ image w
-      stays xs none w p first = let inside = (first_inside capacity class d w is first).from in high_word w (omega arith) (not_last xs none w p)
+          stays : (xs : List ℕ) → times last xs ≡ 0 → (w : ℕ) → Contains xs w → IsFirstOf capacity class d w → new w ≡ image w
+          stays xs none w p first = let inside = (first_inside capacity class d w is first).from in high_word w (omega arith) (not_last xs none w p)
 
-      chain_behind : Walks new (new last) (s.chain d)
-      chain_behind = elim gives.linked as (λ _. Walks new (new last) (s.chain d)) [
-        | inl none ↦ subst (λ xs. Walks new (new last) xs) (sym none) tt
-        | inr linked ↦ subst (λ from. Walks new from (s.chain d)) (sym linked)
-            (walks_same image new (first_of capacity class d (anchor_first (image (anchor_word d)))) (s.chain d) (λ w p. stays (s.chain d) last_once.1 w p (of.blocks w p)) of.walks)
-      ]
+          chain_behind : Walks new (new last) (s.chain d)
+          chain_behind = elim gives.linked as (λ _. Walks new (new last) (s.chain d)) [
+            | inl none ↦ subst (λ xs. Walks new (new last) xs) (sym none) tt
+            | inr linked ↦ subst (λ from. Walks new from (s.chain d)) (sym linked)
+                (walks_same image new (first_of capacity class d (anchor_first (image (anchor_word d)))) (s.chain d)
+                (λ w p. stays (s.chain d) last_once.1 w p (of.blocks w p)) of.walks)
+          ]
 
     module _ (chain : List ℕ) (chain_is : chain ≡ blocks ++ s.chain d) (place : ℕ → Place) (listed : ℕ → List ℕ) where
       abbrev after : Shape
@@ -171,8 +179,10 @@ module _ (capacity class d : ℕ) (image new : Image) (held : List Block) (s : S
         is_class = is;
         taken = let same = same_used in let taken = of.taken in omega arith;
         info = same_info d within ∙ of.info;
-        owned = λ index in_count. owner_same s after held held class d (first_of capacity class d index) (free_after (first_of capacity class d index)) (λ h. h) (λ h. h) (of.owned index in_count);
-        blocks = λ w p. elim (Contains-append_cases blocks (s.chain d) w (subst (λ xs. Contains xs w) chain_at p)) [ inl given ↦ firsts w given | inr in_chain ↦ of.blocks w in_chain ];
+        owned = λ index in_count. owner_same s after held held class d (first_of capacity class d index)
+            (free_after (first_of capacity class d index)) (λ h. h) (λ h. h) (of.owned index in_count);
+        blocks = λ w p. elim (Contains-append_cases blocks (s.chain d) w (subst (λ xs. Contains xs w) chain_at p))
+            [ inl given ↦ firsts w given | inr in_chain ↦ of.blocks w in_chain ];
         walks = subst (λ xs. Walks new (first_of capacity class d (anchor_first (new (anchor_word d)))) xs) (sym chain_at)
             (subst (λ from. Walks new from (blocks ++ s.chain d)) (gives.begins ∙ sym (ap (first_of capacity class d) parts.1)) chain_walks);
         count = parts.2 ∙ sym (length-append blocks (s.chain d)) ∙ ap length (sym chain_at);
@@ -185,7 +195,8 @@ module _ (capacity class d : ℕ) (image new : Image) (held : List Block) (s : S
             omega arith
 
       -- it has free blocks, all or some
-      given_listed : ((state ≡ empty_state) × (length blocks + length (s.chain d) ≡ blocks_of class)) ⊎ ((state ≡ partial_state) × (length blocks + length (s.chain d) < blocks_of class))
+      given_listed : ((state ≡ empty_state) × (length blocks + length (s.chain d) ≡ blocks_of class)) ⊎ ((state ≡ partial_state)
+          × (length blocks + length (s.chain d) < blocks_of class))
           → HasFreeBlocks capacity new after held class d
       given_listed cases =
           let at : length (with_at s.chain d chain d) ≡ length blocks + length (s.chain d) = ap length chain_at ∙ length-append blocks (s.chain d) in
@@ -202,16 +213,19 @@ module _ (capacity class d : ℕ) (image new : Image) (held : List Block) (s : S
       alone e e_within apart = record {
         info = same_info e e_within;
         anchor = low_word (anchor_word e) (omega arith) (λ same. apart (omega arith)) (omega arith) (omega arith);
-        inside = λ word in_e. let from = in_e.from in high_word word (omega arith) (λ same. apart (inside_one capacity e d last (subst (λ x. IsInSuperblock capacity e x) same in_e) last_inside));
+        inside = λ word in_e. let from = in_e.from in high_word word (omega arith)
+            (λ same. apart (inside_one capacity e d last (subst (λ x. IsInSuperblock capacity e x) same in_e) last_inside));
         chain = with_at_other s.chain d chain e apart;
-        cached = λ c word _ in_e. at_or_other (λ k xs. times word xs ≡ times word (s.cached k)) s.cached class rest c (rest_times word in_e) (λ _. refl);
+        cached = λ c word _ in_e. at_or_other (λ k xs. times word xs ≡ times word (s.cached k)) s.cached class rest c (rest_times word in_e)
+            (λ _. refl);
         holds = λ word in_e h. h;
         held_before = λ word in_e h. h;
         none = λ none. none;
       } where
         rest_times : (word : ℕ) → IsInSuperblock capacity e word → times word rest ≡ times word (s.cached class)
         rest_times word in_e =
-            let none = times_none word blocks (λ p. apart (inside_one capacity e d word in_e (first_inside capacity class d word is (firsts word p)))) in
+            let none = times_none word blocks (λ p. apart (inside_one capacity e d word in_e
+            (first_inside capacity class d word is (firsts word p)))) in
             let all = times_append word blocks rest in
             let cached : times word (s.cached class) ≡ times word (blocks ++ rest) = ap (times word) cache in
             omega arith
@@ -219,7 +233,10 @@ module _ (capacity class d : ℕ) (image new : Image) (held : List Block) (s : S
       alone_as : (e : ℕ) → e < capacity → e ≢ d → IsAs capacity new after held e (s.place e)
       alone_as e e_within apart = let same = same_used in
           frame capacity e image new s after held held (s.place e) (alone e e_within apart) (omega arith)
-          (λ fresh. (past (s.place e) fresh (shape.places e e_within), low_word (link_word e) (omega arith) (omega arith) (λ one. apart (omega arith)) (omega arith))) (shape.places e e_within)
+          (λ fresh. (
+            past (s.place e) fresh (shape.places e e_within),
+            low_word (link_word e) (omega arith) (omega arith) (λ one. apart (omega arith)) (omega arith),
+          )) (shape.places e e_within)
         where
           past : (p : Place) → p ≡ is_new → IsAs capacity image s held e p → new used_word ≤ e
           past p fresh as_place =
@@ -228,7 +245,8 @@ module _ (capacity class d : ℕ) (image new : Image) (held : List Block) (s : S
               omega arith
 
       -- the whole shape, where the superblock stands as its new place says
-      given_whole : ((e : ℕ) → e ≢ d → place e ≡ s.place e) → IsAs capacity new after held d (place d) → ((w : ℕ) → Contains rest w → IsFirstOf capacity class d w → ⊥) ⊎ (place d ≡ in_list class)
+      given_whole : ((e : ℕ) → e ≢ d → place e ≡ s.place e) → IsAs capacity new after held d (place d)
+          → ((w : ℕ) → Contains rest w → IsFirstOf capacity class d w → ⊥) ⊎ (place d ≡ in_list class)
           → ((l : ℕ) → l < lists → Follows (λ e. new (link_word e)) capacity (head_first (new (head_word l))) (listed l))
           → ((l e : ℕ) → l < lists → times e (listed l) ≡ stands_in (place e) l) → IsShape capacity new held after
       given_whole others as_here rest_here follows counts = record {
@@ -247,9 +265,11 @@ module _ (capacity class d : ℕ) (image new : Image) (held : List Block) (s : S
         cached = λ c w is_c p. let found = shape.cached c w is_c (before_cached c w p) in
             record { superblock = found.superblock; within = found.within; is_first = found.is_first; place = cached_place c w is_c p };
         walks = λ c is_c. at_or_other_two (λ k from words. IsClass k → Walks new from words) s.start s.cached class (image last) rest c
-            (λ _. walks_same image new (image last) rest (λ w p. cached_word class w is (subst (λ xs. Contains xs w) (sym cache) (Contains-append_right blocks rest w p)) (not_last rest last_once.2 w p))
+            (λ _. walks_same image new (image last) rest (λ w p. cached_word class w is
+            (subst (λ xs. Contains xs w) (sym cache) (Contains-append_right blocks rest w p)) (not_last rest last_once.2 w p))
             (walk_behind image (s.start class) before last rest walk_all))
-            (λ other is_k. walks_same image new (s.start c) (s.cached c) (λ w p. cached_word c w is_k p (last_elsewhere c w is_k other p)) (shape.walks c is_k)) is_c;
+            (λ other is_k. walks_same image new (s.start c) (s.cached c) (λ w p. cached_word c w is_k p (last_elsewhere c w is_k other p))
+            (shape.walks c is_k)) is_c;
       } where
         cached_word : (c w : ℕ) → IsClass c → Contains (s.cached c) w → w ≢ last → new w ≡ image w
         cached_word c w is_c p other =
@@ -259,7 +279,8 @@ module _ (capacity class d : ℕ) (image new : Image) (held : List Block) (s : S
 
         cached_place : (c w : ℕ) (is_c : IsClass c) (p : Contains (with_at s.cached class rest c) w)
             → (place (shape.cached c w is_c (before_cached c w p)).superblock ≡ in_list c)
-            ⊎ ((place (shape.cached c w is_c (before_cached c w p)).superblock ≡ is_full) × (new (info_word (shape.cached c w is_c (before_cached c w p)).superblock) ≡ c))
+            ⊎ ((place (shape.cached c w is_c (before_cached c w p)).superblock ≡ is_full)
+            × (new (info_word (shape.cached c w is_c (before_cached c w p)).superblock) ≡ c))
         cached_place c w is_c p =
             let found = shape.cached c w is_c (before_cached c w p) in
             let of_c = cached_of_class capacity image held s shape c w is_c (before_cached c w p) in
@@ -279,25 +300,33 @@ module _ (capacity class d : ℕ) (image new : Image) (held : List Block) (s : S
             ]
 
 -- the lists after a push of a superblock that was in none
-module _ (capacity d list : ℕ) (image new : Image) (held : List Block) (s : Shape) (shape : IsShape capacity image held s) (within : d < capacity) (below : list < lists) (full : s.place d ≡ is_full)
+module _ (capacity d list : ℕ) (image new : Image) (held : List Block) (s : Shape) (shape : IsShape capacity image held s)
+    (within : d < capacity) (below : list < lists) (full : s.place d ≡ is_full)
     (head : head_first (new (head_word list)) ≡ d + 1) (link : new (link_word d) ≡ head_first (image (head_word list)))
-    (heads : (l : ℕ) → l < lists → l ≢ list → new (head_word l) ≡ image (head_word l)) (links : (e : ℕ) → e < capacity → e ≢ d → new (link_word e) ≡ image (link_word e)) where
+    (heads : (l : ℕ) → l < lists → l ≢ list → new (head_word l) ≡ image (head_word l)) (links : (e : ℕ) → e < capacity → e ≢ d
+    → new (link_word e) ≡ image (link_word e)) where
   linked_still : (l : ℕ) → l < lists → Follows (λ e. new (link_word e)) capacity (head_first (image (head_word l))) (s.listed l)
   linked_still l l_below = follows_same (λ e. image (link_word e)) (λ e. new (link_word e)) capacity (head_first (image (head_word l))) (s.listed l)
       (λ e p. links e (follows_below (λ k. image (link_word k)) capacity (head_first (image (head_word l))) (s.listed l) e (shape.follows l l_below) p)
-      (λ same. let some = times_of d (s.listed l) (subst (λ x. Contains (s.listed l) x) same p) in let none = (shape.listed l d l_below ∙ ap (λ p. stands_in p l) full) in omega arith))
+      (λ same. let some = times_of d (s.listed l) (subst (λ x. Contains (s.listed l) x) same p) in
+      let none = (shape.listed l d l_below ∙ ap (λ p. stands_in p l) full) in omega arith))
       (shape.follows l l_below)
 
-  pushed_follows : (l : ℕ) → l < lists → Follows (λ e. new (link_word e)) capacity (head_first (new (head_word l))) (with_at s.listed list (d ∷ s.listed list) l)
-  pushed_follows l l_below = at_or_other (λ k ds. k < lists → Follows (λ e. new (link_word e)) capacity (head_first (new (head_word k))) ds) s.listed list (d ∷ s.listed list) l
+  pushed_follows : (l : ℕ) → l < lists → Follows (λ e. new (link_word e)) capacity (head_first (new (head_word l)))
+      (with_at s.listed list (d ∷ s.listed list) l)
+  pushed_follows l l_below = at_or_other (λ k ds. k < lists → Follows (λ e. new (link_word e)) capacity (head_first (new (head_word k))) ds)
+      s.listed list (d ∷ s.listed list) l
       (λ _. (head, within, subst (λ from. Follows (λ e. new (link_word e)) capacity from (s.listed list)) (sym link) (linked_still list below)))
-      (λ other k_below. subst (λ from. Follows (λ e. new (link_word e)) capacity from (s.listed l)) (sym (ap head_first (heads l k_below other))) (linked_still l k_below)) l_below
+      (λ other k_below. subst (λ from. Follows (λ e. new (link_word e)) capacity from (s.listed l))
+      (sym (ap head_first (heads l k_below other))) (linked_still l k_below)) l_below
 
   pushed_listed : (l e : ℕ) → l < lists → times e (with_at s.listed list (d ∷ s.listed list) l) ≡ stands_in (with_at s.place d (in_list list) e) l
-  pushed_listed l e l_below = at_or_other (λ k ds. k < lists → times e ds ≡ stands_in (with_at s.place d (in_list list) e) k) s.listed list (d ∷ s.listed list) l
+  pushed_listed l e l_below = at_or_other (λ k ds. k < lists → times e ds ≡ stands_in (with_at s.place d (in_list list) e) k) s.listed list
+      (d ∷ s.listed list) l
       (λ _. at_or_other (λ x p. times x (d ∷ s.listed list) ≡ stands_in p list) s.place d (in_list list) e here
       (λ apart. times_past d e (s.listed list) (λ same. apart (sym same)) ∙ shape.listed list e below))
-      (λ other k_below. at_or_other (λ x p. times x (s.listed l) ≡ stands_in p l) s.place d (in_list list) e (shape.listed l d k_below ∙ ap (λ p. stands_in p l) full ∙ sym (elsewhere other))
+      (λ other k_below. at_or_other (λ x p. times x (s.listed l) ≡ stands_in p l) s.place d (in_list list) e (shape.listed l d k_below
+      ∙ ap (λ p. stands_in p l) full ∙ sym (elsewhere other))
       (λ apart. shape.listed l e k_below)) l_below
     where
       here : times d (d ∷ s.listed list) ≡ stands_in (in_list list) list
@@ -311,9 +340,12 @@ module _ (capacity d list : ℕ) (image new : Image) (held : List Block) (s : Sh
       elsewhere other = one_if_false (nat_eq list l) (λ test. other (sym (eqb-true list l test)))
 
 -- a full superblock that got blocks, and was pushed on a list
-module _ (capacity class d : ℕ) (image new final : Image) (held : List Block) (s : Shape) (before rest : List ℕ) (last : ℕ) (is : IsClass class) (shape : IsShape capacity image held s) (within : d < capacity)
-    (cache : s.cached class ≡ (before ++ last ∷ []) ++ rest) (firsts : (w : ℕ) → Contains (before ++ last ∷ []) w → IsFirstOf capacity class d w) (list state : ℕ) (below : list < lists) (few : state < 4)
-    (full : s.place d ≡ is_full) (info : image (info_word d) ≡ class) (given : IsGivenBack capacity image new s class d before last state) (pushed : IsPushedOn new final list d) where
+module _ (capacity class d : ℕ) (image new final : Image) (held : List Block) (s : Shape) (before rest : List ℕ) (last : ℕ) (is : IsClass class)
+    (shape : IsShape capacity image held s) (within : d < capacity)
+    (cache : s.cached class ≡ (before ++ last ∷ []) ++ rest) (firsts : (w : ℕ) → Contains (before ++ last ∷ []) w
+    → IsFirstOf capacity class d w) (list state : ℕ) (below : list < lists) (few : state < 4)
+    (full : s.place d ≡ is_full) (info : image (info_word d) ≡ class) (given : IsGivenBack capacity image new s class d before last state)
+    (pushed : IsPushedOn new final list d) where
   full_of_class : IsOfClass capacity image s held class d
   full_of_class = subst (λ c. IsOfClass capacity image s held c d) info (in_full capacity image held s shape d within full).of_class
 
@@ -321,10 +353,12 @@ module _ (capacity class d : ℕ) (image new final : Image) (held : List Block) 
   full_none = (in_full capacity image held s shape d within full).none
 
   last_high : start_word capacity 0 ≤ last
-  last_high = let from = (last_inside capacity class d image final held s before rest last is shape within cache firsts full_of_class).from in omega arith
+  last_high = let from = (last_inside capacity class d image final held s before rest last is shape within cache firsts full_of_class).from in
+      omega arith
 
   given_word : (word : ℕ) → word ≢ anchor_word d → word ≢ last → word ≢ link_word d → word ≢ head_word list → final word ≡ image word
-  given_word word not_anchor not_last not_link not_head = pushed.head.others word not_head ∙ pushed.link.others word not_link ∙ given.others word not_anchor not_last
+  given_word word not_anchor not_last not_link not_head = pushed.head.others word not_head ∙ pushed.link.others word not_link
+      ∙ given.others word not_anchor not_last
 
   pushed_gives : Gives capacity image final s class d list before last state
   pushed_gives = let high = last_high in record {
@@ -346,9 +380,11 @@ module _ (capacity class d : ℕ) (image new final : Image) (held : List Block) 
       pushed.head.others (link_word d) (omega arith) ∙ pushed.link.at ∙ ap head_first (given.others (head_word list) (omega arith) (omega arith))
 
   abbrev pushed_shape : Shape
-  pushed_shape = given_shape s class d (before ++ last ∷ []) rest (image last) (with_at s.place d (in_list list)) (with_at s.listed list (d ∷ s.listed list))
+  pushed_shape = given_shape s class d (before ++ last ∷ []) rest (image last) (with_at s.place d (in_list list))
+      (with_at s.listed list (d ∷ s.listed list))
 
-  pushed_whole : IsAs capacity final pushed_shape held d (in_list list) → ((w : ℕ) → Contains rest w → IsFirstOf capacity class d w → ⊥) ⊎ (in_list list ≡ in_list class) → IsShape capacity final held pushed_shape
+  pushed_whole : IsAs capacity final pushed_shape held d (in_list list)
+      → ((w : ℕ) → Contains rest w → IsFirstOf capacity class d w → ⊥) ⊎ (in_list list ≡ in_list class) → IsShape capacity final held pushed_shape
   pushed_whole as_list rest_here =
       let high = last_high in
       given_whole capacity class d image final held s before rest last is shape within cache firsts full_of_class list state below few pushed_gives
@@ -381,16 +417,20 @@ module _ (capacity class d : ℕ) (image new final : Image) (held : List Block) 
       let none : length (s.chain d) ≡ 0 = ap length full_none in
       let free = all_given capacity image held s shape class d (before ++ last ∷ []) rest full_of_class cache firsts (omega arith) in
       let taken = full_of_class.taken in
-      let used = same_used capacity class d image final held s before rest last is shape within cache firsts full_of_class list state below few pushed_gives in
-      let anchor = parts capacity class d image final held s before rest last is shape within cache firsts full_of_class list state below few pushed_gives in
+      let used = same_used capacity class d image final held s before rest last is shape within cache firsts full_of_class list state below few
+      pushed_gives in
+      let anchor = parts capacity class d image final held s before rest last is shape within cache firsts full_of_class list state below few
+      pushed_gives in
       let is_free : IsFree capacity final held d = record { taken = omega arith; state = anchor.0 ∙ empty; none = free.0 } in
       pushed_whole (subst (λ l. IsAs capacity final pushed_shape held d (in_list l)) (sym same) is_free) (inl free.1)
 
-module _ (capacity class d : ℕ) (image new : Image) (held : List Block) (s : Shape) (before rest : List ℕ) (last : ℕ) (is : IsClass class) (shape : IsShape capacity image held s) (within : d < capacity)
+module _ (capacity class d : ℕ) (image new : Image) (held : List Block) (s : Shape) (before rest : List ℕ) (last : ℕ) (is : IsClass class)
+    (shape : IsShape capacity image held s) (within : d < capacity)
     (cache : s.cached class ≡ (before ++ last ∷ []) ++ rest) (firsts : (w : ℕ) → Contains (before ++ last ∷ []) w → IsFirstOf capacity class d w) where
   give_some : (state : ℕ) → s.place d ≡ in_list class → ((state ≡ empty_state) × (length (before ++ last ∷ []) + length (s.chain d) ≡ blocks_of class))
       ⊎ ((state ≡ partial_state) × (length (before ++ last ∷ []) + length (s.chain d) < blocks_of class))
-      → IsGivenBack capacity image new s class d before last state → IsShape capacity new held (after_give s class d (before ++ last ∷ []) rest (image last))
+      → IsGivenBack capacity image new s class d before last state → IsShape capacity new held
+      (after_give s class d (before ++ last ∷ []) rest (image last))
   give_some state place all_or_some given =
       given_whole capacity class d image new held s before rest last is shape within cache firsts of class state a_list few gives
       ((before ++ last ∷ []) ++ s.chain d) refl s.place s.listed (λ e apart. refl) as_here (inr place) follows shape.listed
@@ -405,7 +445,13 @@ module _ (capacity class d : ℕ) (image new : Image) (held : List Block) (s : S
       few = elim all_or_some as (λ _. state < 4) [ inl all ↦ let is_state = all.0 in omega arith | inr some ↦ let is_state = some.0 in omega arith ]
 
       gives : Gives capacity image new s class d class before last state
-      gives = record { first = given.first; begins = given.begins; linked = given.linked; anchor = given.anchor; others = λ word not_anchor not_last _ _. given.others word not_anchor not_last }
+      gives = record {
+        first = given.first;
+        begins = given.begins;
+        linked = given.linked;
+        anchor = given.anchor;
+        others = λ word not_anchor not_last _ _. given.others word not_anchor not_last;
+      }
 
       high : start_word capacity 0 ≤ last
       high = let from = (last_inside capacity class d image new held s before rest last is shape within cache firsts of).from in omega arith
@@ -418,14 +464,17 @@ module _ (capacity class d : ℕ) (image new : Image) (held : List Block) (s : S
 
       follows : (l : ℕ) → l < lists → Follows (λ e. new (link_word e)) capacity (head_first (new (head_word l))) (s.listed l)
       follows l below = let last_high = high in
-          subst (λ from. Follows (λ e. new (link_word e)) capacity from (s.listed l)) (ap head_first (sym (given.others (head_word l) (omega arith) (omega arith))))
+          subst (λ from. Follows (λ e. new (link_word e)) capacity from (s.listed l))
+          (ap head_first (sym (given.others (head_word l) (omega arith) (omega arith))))
           (follows_same (λ e. image (link_word e)) (λ e. new (link_word e)) capacity (head_first (image (head_word l))) (s.listed l)
-          (λ e p. let e_within = follows_below (λ k. image (link_word k)) capacity (head_first (image (head_word l))) (s.listed l) e (shape.follows l below) p in
+          (λ e p. let e_within = follows_below (λ k. image (link_word k)) capacity (head_first (image (head_word l))) (s.listed l) e
+          (shape.follows l below) p in
           given.others (link_word e) (omega arith) (omega arith))
           (shape.follows l below))
 
   -- of a superblock that is in its class list, and stays there: all its blocks are in the chain then, or some
-  pub give : s.place d ≡ in_list class → IsGivenBack capacity image new s class d before last (cond (nat_eq (length (before ++ last ∷ []) + length (s.chain d)) (blocks_of class)) empty_state partial_state)
+  pub give : s.place d ≡ in_list class → IsGivenBack capacity image new s class d before last
+      (cond (nat_eq (length (before ++ last ∷ []) + length (s.chain d)) (blocks_of class)) empty_state partial_state)
       → IsShape capacity new held (after_give s class d (before ++ last ∷ []) rest (image last))
   give place given =
       let of = (in_class_list capacity image held s shape class d is within place).of_class in
@@ -437,14 +486,18 @@ module _ (capacity class d : ℕ) (image new : Image) (held : List Block) (s : S
       ]) given
 
   -- of a full one, which goes to its class list
-  pub give_full : (final : Image) → s.place d ≡ is_full → image (info_word d) ≡ class → length (before ++ last ∷ []) < blocks_of class → IsGivenBack capacity image new s class d before last partial_state
+  pub give_full : (final : Image) → s.place d ≡ is_full → image (info_word d) ≡ class → length (before ++ last ∷ []) < blocks_of class
+      → IsGivenBack capacity image new s class d before last partial_state
       → IsPushedOn new final class d → IsShape capacity final held (after_give_full s class d (before ++ last ∷ []) rest (image last))
   give_full final place info some given pushed =
       let last_class = is.last in
-      pushed_some capacity class d image new final held s before rest last is shape within cache firsts class partial_state (omega arith) (omega arith) place info given pushed refl refl some
+      pushed_some capacity class d image new final held s before rest last is shape within cache firsts class partial_state (omega arith)
+      (omega arith) place info given pushed refl refl some
 
   -- of a full one, which gets all its blocks and goes to the free list
-  pub give_all : (final : Image) → s.place d ≡ is_full → image (info_word d) ≡ class → length (before ++ last ∷ []) ≡ blocks_of class → IsGivenBack capacity image new s class d before last empty_state
+  pub give_all : (final : Image) → s.place d ≡ is_full → image (info_word d) ≡ class → length (before ++ last ∷ []) ≡ blocks_of class
+      → IsGivenBack capacity image new s class d before last empty_state
       → IsPushedOn new final 0 d → IsShape capacity final held (after_give_all s class d (before ++ last ∷ []) rest (image last))
   give_all final place info all given pushed =
-      pushed_all capacity class d image new final held s before rest last is shape within cache firsts 0 empty_state (omega arith) (omega arith) place info given pushed refl refl all
+      pushed_all capacity class d image new final held s before rest last is shape within cache firsts 0 empty_state (omega arith)
+      (omega arith) place info given pushed refl refl all

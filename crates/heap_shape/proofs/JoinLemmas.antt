@@ -47,7 +47,8 @@ abbrev large_block : ℕ → ℕ → ℕ → Block
 large_block capacity d n = record { first_word = start_word capacity d; words = superblock_words * n }
 
 -- superblocks that were never taken become a large block, which is held
-pub join : (capacity n d : ℕ) (image middle new : Image) (held now : List Block) (s : Shape) → IsShape capacity image held s → image used_word ≡ d → 1 ≤ n
+pub join : (capacity n d : ℕ) (image middle new : Image) (held now : List Block) (s : Shape) → IsShape capacity image held s
+    → image used_word ≡ d → 1 ≤ n
     → d + n ≤ capacity
     → IsSet image middle used_word (d + n) → IsSet middle new (info_word d) (large_info n)
     → AddsTo (record { first_word = start_word capacity d; words = superblock_words * n }) held now
@@ -110,7 +111,8 @@ join capacity n d image middle new held now s shape past some within set info ad
   named b p = elim (adds.only b p) as (λ _. IsBlock (layout_at capacity new) b) [
     | inl one ↦ subst (IsBlock (layout_at capacity new)) (sym one) is_block
     | inr before ↦ block_same capacity image new b (let raised = used in omega arith)
-        (λ e part. infos e (inl (let taken = part_taken (layout_at capacity image) b e (shape.named b before) part in omega arith))) (shape.named b before)
+        (λ e part. infos e (inl (let taken = part_taken (layout_at capacity image) b e (shape.named b before) part in omega arith)))
+        (shape.named b before)
   ]
 
   -- another superblock stays as its place says
@@ -196,5 +198,6 @@ join capacity n d image middle new held now s shape past some within set info ad
     ];
     cached = cached;
     walks = λ c is_c. walks_same image new (s.start c) (s.cached c)
-        (λ w p. let at = shape.cached c w is_c p in inside at.superblock w (first_inside capacity c at.superblock w is_c at.is_first)) (shape.walks c is_c);
+        (λ w p. let at = shape.cached c w is_c p in inside at.superblock w (first_inside capacity c at.superblock w is_c at.is_first))
+        (shape.walks c is_c);
   }

@@ -86,10 +86,11 @@ module _ (image : Image) (held : List Block) (shaped : IsShaped image held) (d :
 
   -- each counts once at most, and only if it is taken
   within_one : in_lists shaped d + shaped.full d + in_blocks image held d ≤ 1
-  within_one = let one = shaped.one_place d in elim (cases_lt d (used_of image)) as (λ _. in_lists shaped d + shaped.full d + in_blocks image held d ≤ 1) [
-    | inl taken ↦ let is : below d (used_of image) ≡ 1 = one_if_true _ (lt-ltb d (used_of image) taken) in omega arith
-    | inr past ↦ let is = is_past past in omega arith
-  ]
+  within_one = let one = shaped.one_place d in elim (cases_lt d (used_of image)) as
+      (λ _. in_lists shaped d + shaped.full d + in_blocks image held d ≤ 1) [
+        | inl taken ↦ let is : below d (used_of image) ≡ 1 = one_if_true _ (lt-ltb d (used_of image) taken) in omega arith
+        | inr past ↦ let is = is_past past in omega arith
+      ]
 
   is_taken : 0 < in_lists shaped d + shaped.full d + in_blocks image held d → d < used_of image
   is_taken some = let one = shaped.one_place d in elim (cases_lt d (used_of image)) as (λ _. d < used_of image) [
@@ -137,7 +138,8 @@ module _ (image : Image) (held : List Block) (shaped : IsShaped image held) (d :
             omega arith
         | inr other ↦
             let is : one_if (nat_eq at list) ≡ 0 = one_if_false (nat_eq at list) (λ test. other (eqb-true at list test)) in
-            let both = total_two (λ list'. times d (shaped.descriptors list')) list_numbers at list (is_number at at_less) (is_number list less) other in
+            let both = total_two (λ list'. times d (shaped.descriptors list')) list_numbers at list (is_number at at_less)
+            (is_number list less) other in
             omega arith
       ]
 
@@ -185,7 +187,8 @@ module _ (image : Image) (held : List Block) (shaped : IsShaped image held) (nam
       let firsts : (word : ℕ) → Contains (shaped.chains d) word → IsFirstOf (capacity_of image) class d word = λ word p.
       let found = anchored.linked.blocks word p in record { index = found.0; below = found.1.below; at = found.1.at } in
       let owned = λ (index : ℕ) (less : index < blocks_of class). owned_at_rest class index is (omega arith) of.0 less in
-      let few : length (shaped.chains d) ≤ blocks_of class = few_members (λ k. first_of (capacity_of image) class d k) (blocks_of class) (shaped.chains d)
+      let few : length (shaped.chains d) ≤ blocks_of class = few_members (λ k. first_of (capacity_of image) class d k) (blocks_of class)
+      (shaped.chains d)
       (λ x p. let first = firsts x p in (first.index, first.below, first.at))
       (λ k less.
       let one = one_at_rest class k is (omega arith) of.0 less in omega arith) in
@@ -222,7 +225,8 @@ module _ (image : Image) (held : List Block) (shaped : IsShaped image held) (nam
           info = refl;
           owned = λ index less. owned_at_rest (image (info_word d)) index is.0 (omega arith) refl less;
           blocks = λ word p. absurd (in_none word (subst (λ ws. Contains ws word) none p));
-          walks = subst (λ ws. Walks image (first_of (capacity_of image) (image (info_word d)) d (anchor_first (image (anchor_word d)))) ws) (sym none) tt;
+          walks = subst (λ ws. Walks image (first_of (capacity_of image) (image (info_word d)) d (anchor_first (image (anchor_word d)))) ws)
+              (sym none) tt;
           count = subst (λ ws. anchor_count (image (anchor_word d)) ≡ length ws) (sym none) (omega arith);
         };
         none = none;
@@ -230,8 +234,10 @@ module _ (image : Image) (held : List Block) (shaped : IsShaped image held) (nam
       }
 
   -- each is as its place says
-  as_at_rest : (r : RestsAt image held shaped d) → d < capacity_of image → IsAs (capacity_of image) image (shape_of image held shaped) held d (place_of r)
-  as_at_rest (untaken past) within = let words = shaped.untaken d past within in record { past = past; info = words.0; anchor = words.1; link = words.2 }
+  as_at_rest : (r : RestsAt image held shaped d) → d < capacity_of image
+      → IsAs (capacity_of image) image (shape_of image held shaped) held d (place_of r)
+  as_at_rest (untaken past) within = let words = shaped.untaken d past within in
+      record { past = past; info = words.0; anchor = words.1; link = words.2 }
   as_at_rest (listed zero less some) within =
       let free = shaped.free d some in
       let counts = times_within image held shaped d 0 less in
@@ -254,7 +260,8 @@ rest_is_shape image held bytes shaped formed named = record {
   used = formed.used;
   named = named;
   follows = λ list less.
-      head_at_rest (λ d. image (link_word d)) (capacity_of image) (image (head_word list)) (shaped.descriptors list) formed.small (shaped.follows list less);
+      head_at_rest (λ d. image (link_word d)) (capacity_of image) (image (head_word list)) (shaped.descriptors list) formed.small
+      (shaped.follows list less);
   listed = λ list d less. stands_at image held shaped d (rests_at image held shaped d) list less;
   places = λ d within. as_at_rest image held shaped named d (rests_at image held shaped d) within;
   cached = λ class word is p. absurd (in_none word p);
@@ -262,7 +269,8 @@ rest_is_shape image held bytes shaped formed named = record {
 }
 
 -- with the words of an image
-pub opens : (words : List ℕ) (held : List Block) → IsReady words held → (s : Shape) × IsShape (capacity_of (slice_index words)) (slice_index words) held s × ((class : ℕ) → s.cached class ≡ [])
+pub opens : (words : List ℕ) (held : List Block) → IsReady words held → (s : Shape)
+    × IsShape (capacity_of (slice_index words)) (slice_index words) held s × ((class : ℕ) → s.cached class ≡ [])
 opens words held ready = (
   shape_of (slice_index words) held ready.shaped,
   rest_is_shape (slice_index words) held (8 * length words) ready.shaped ready.formed ready.blocks,

@@ -24,7 +24,8 @@ use Rattle.heap_shape.proofs.FrameLemmas.{SameThere, frame}
 use Rattle.heap_shape.proofs.CacheLemmas.{cached_apart}
 
 -- no word of a held block is the first one of a block in the chain of a superblock
-chained_apart : (capacity class d w : ℕ) (image : Image) (held : List Block) (s : Shape) (b : Block) → IsShape capacity image held s → IsOfClass capacity image s held class d
+chained_apart : (capacity class d w : ℕ) (image : Image) (held : List Block) (s : Shape) (b : Block) → IsShape capacity image held s
+    → IsOfClass capacity image s held class d
     → Contains (s.chain d) w → Contains held b → IsIn b w → ⊥
 chained_apart capacity class d w image held s b shape is chained holds is_in =
     let free : Block = record { first_word = w; words = words_of_class class } in
@@ -35,7 +36,8 @@ chained_apart capacity class d w image held s b shape is chained holds is_in =
     let from = is_in.from in
     let until = is_in.until in
     let is_block : IsBlock (layout_at capacity image) free =
-    a_class_block (layout_at capacity image) class d first.index free is.taken is.info is.is_class (record { below = first.below; at = first.at; size = refl }) in
+    a_class_block (layout_at capacity image) class d first.index free is.taken is.info is.is_class
+    (record { below = first.below; at = first.at; size = refl }) in
     elim (is.owned first.index first.below) as (λ _. ⊥) [
       | a_held none at ↦ omega arith
       | a_free once unheld ↦ elim (never_overlap (layout_at capacity image) free b is_block (shape.named b holds)) as (λ _. ⊥) [
@@ -55,7 +57,8 @@ record KeepsRead (capacity : ℕ) (image new : Image) (held : List Block) (s : S
   pub cached : (class w : ℕ) → IsClass class → Contains (s.cached class) w → new w ≡ image w
 
 -- so the shape stays
-module _ (capacity : ℕ) (image new : Image) (held : List Block) (s : Shape) (shape : IsShape capacity image held s) (keeps : KeepsRead capacity image new held s) where
+module _ (capacity : ℕ) (image new : Image) (held : List Block) (s : Shape) (shape : IsShape capacity image held s)
+    (keeps : KeepsRead capacity image new held s) where
   kept_class : (class d : ℕ) → d < capacity → IsOfClass capacity image s held class d → IsOfClass capacity new s held class d
   kept_class class d within is = record {
     is_class = is.is_class;
@@ -64,16 +67,22 @@ module _ (capacity : ℕ) (image new : Image) (held : List Block) (s : Shape) (s
     owned = is.owned;
     blocks = is.blocks;
     walks = subst (λ a. Walks new (first_of capacity class d (anchor_first a)) (s.chain d)) (sym (keeps.anchor d within))
-        (walks_same image new (first_of capacity class d (anchor_first (image (anchor_word d)))) (s.chain d) (λ w p. keeps.chained class d w within is p) is.walks);
+        (walks_same image new (first_of capacity class d (anchor_first (image (anchor_word d)))) (s.chain d)
+        (λ w p. keeps.chained class d w within is p) is.walks);
     count = ap anchor_count (keeps.anchor d within) ∙ is.count;
   }
 
   kept_place : (d : ℕ) → d < capacity → (p : Place) → IsAs capacity image s held d p → IsAs capacity new s held d p
-  kept_place d within (in_list zero) is = record { taken = subst (λ u. d < u) (sym keeps.used) is.taken; state = ap anchor_state (keeps.anchor d within) ∙ is.state; none = is.none }
+  kept_place d within (in_list zero) is = record {
+    taken = subst (λ u. d < u) (sym keeps.used) is.taken;
+    state = ap anchor_state (keeps.anchor d within) ∙ is.state;
+    none = is.none;
+  }
   kept_place d within (in_list (suc c)) is = record {
     of_class = kept_class (suc c) d within is.of_class;
     some = is.some;
-    state = subst (λ a. ((anchor_state a ≡ empty_state) × (length (s.chain d) ≡ blocks_of (suc c))) ⊎ ((anchor_state a ≡ partial_state) × (length (s.chain d) < blocks_of (suc c))))
+    state = subst (λ a. ((anchor_state a ≡ empty_state) × (length (s.chain d) ≡ blocks_of (suc c))) ⊎ ((anchor_state a ≡ partial_state)
+        × (length (s.chain d) < blocks_of (suc c))))
         (sym (keeps.anchor d within)) is.state;
   }
   kept_place d within is_full is = record {
@@ -122,7 +131,8 @@ module _ (capacity : ℕ) (image new : Image) (held : List Block) (s : Shape) (s
   }
 
 -- a store to a word of a held block
-pub store_inside : (capacity word value : ℕ) (image new : Image) (held : List Block) (s : Shape) (b : Block) → IsShape capacity image held s → Contains held b → IsIn b word → IsSet image new word value
+pub store_inside : (capacity word value : ℕ) (image new : Image) (held : List Block) (s : Shape) (b : Block) → IsShape capacity image held s
+    → Contains held b → IsIn b word → IsSet image new word value
     → IsShape capacity new held s
 store_inside capacity word value image new held s b shape holds is_in set =
     let inside = block_inside (layout_at capacity image) b (shape.named b holds) in
@@ -134,12 +144,14 @@ store_inside capacity word value image new held s b shape holds is_in set =
       info = λ d within. set.others (info_word d) (λ q. omega arith);
       anchor = λ d within. set.others (anchor_word d) (λ q. omega arith);
       link = λ d within. set.others (link_word d) (λ q. omega arith);
-      chained = λ class d w within is p. set.others w (λ q. chained_apart capacity class d w image held s b shape is p holds (subst (IsIn b) (sym q) is_in));
+      chained = λ class d w within is p. set.others w (λ q. chained_apart capacity class d w image held s b shape is p holds
+          (subst (IsIn b) (sym q) is_in));
       cached = λ class w is p. set.others w (λ q. cached_apart capacity image held s class w b shape is p holds (subst (IsIn b) (sym q) is_in));
     })
 
 -- a store to a root
-pub store_root : (capacity i value : ℕ) (image new : Image) (held : List Block) (s : Shape) → IsShape capacity image held s → i < roots → IsSet image new (root_word i) value → IsShape capacity new held s
+pub store_root : (capacity i value : ℕ) (image new : Image) (held : List Block) (s : Shape) → IsShape capacity image held s → i < roots
+    → IsSet image new (root_word i) value → IsShape capacity new held s
 store_root capacity i value image new held s shape below set = kept_shape capacity image new held s shape (record {
   used = set.others used_word (λ q. omega arith);
   head = λ list less. set.others (head_word list) (λ q. omega arith);
@@ -147,11 +159,13 @@ store_root capacity i value image new held s shape below set = kept_shape capaci
   anchor = λ d within. set.others (anchor_word d) (λ q. omega arith);
   link = λ d within. set.others (link_word d) (λ q. omega arith);
   chained = λ class d w within is p. let from = (first_inside capacity class d w is.is_class (is.blocks w p)).from in set.others w (λ q. omega arith);
-  cached = λ class w is p. let at = shape.cached class w is p in let from = (first_inside capacity class at.superblock w is at.is_first).from in set.others w (λ q. omega arith);
+  cached = λ class w is p. let at = shape.cached class w is p in let from = (first_inside capacity class at.superblock w is at.is_first).from in
+      set.others w (λ q. omega arith);
 })
 
 -- the same held blocks
-pub same_held : (capacity : ℕ) (image : Image) (held now : List Block) (s : Shape) → ((b : Block) → Contains held b → Contains now b) → ((b : Block) → Contains now b → Contains held b)
+pub same_held : (capacity : ℕ) (image : Image) (held now : List Block) (s : Shape) → ((b : Block) → Contains held b → Contains now b)
+    → ((b : Block) → Contains now b → Contains held b)
     → IsShape capacity image held s → IsShape capacity image now s
 same_held capacity image held now s has only shape = record {
   small = shape.small;
@@ -177,25 +191,32 @@ same_held capacity image held now s has only shape = record {
   }
 
 -- no held block has a part in a superblock that was never taken
-pub none_past : (capacity d : ℕ) (image : Image) (held : List Block) (s : Shape) → IsShape capacity image held s → image used_word ≤ d → HasNoHeld capacity held d
-none_past capacity d image held s shape past b holds part = let taken = part_taken (layout_at capacity image) b d (shape.named b holds) part in omega arith
+pub none_past : (capacity d : ℕ) (image : Image) (held : List Block) (s : Shape) → IsShape capacity image held s → image used_word ≤ d
+    → HasNoHeld capacity held d
+none_past capacity d image held s shape past b holds part = let taken = part_taken (layout_at capacity image) b d (shape.named b holds) part in
+    omega arith
 
 -- each class has a block size of its own
 one_size : (c class : ℕ) → IsClass c → IsClass class → words_of_class c ≡ words_of_class class → c ≡ class
 unfolding words_of_class class_sizes
-one_size c class is_c is same = eqb-true c class (sym (cond-true (nat_eq (words_of_class c) (words_of_class class)) (nat_eq c class) true (eq-eqb (words_of_class c) (words_of_class class) same)) ∙ row)
+one_size c class is_c is same = eqb-true c class (sym (cond-true (nat_eq (words_of_class c) (words_of_class class)) (nat_eq c class) true
+    (eq-eqb (words_of_class c) (words_of_class class) same)) ∙ row)
   where
     row : cond (nat_eq (words_of_class c) (words_of_class class)) (nat_eq c class) true ≡ true
     row = at_class (λ k. cond (nat_eq (words_of_class c) (words_of_class k)) (nat_eq c k) true)
-        (at_class (λ j. agree_below (λ k. cond (nat_eq (words_of_class j) (words_of_class (k + 1))) (nat_eq j (k + 1)) true) (λ _. true) last_class) refl c is_c) class is
+        (at_class (λ j. agree_below (λ k. cond (nat_eq (words_of_class j) (words_of_class (k + 1))) (nat_eq j (k + 1)) true)
+        (λ _. true) last_class) refl c is_c) class is
 
 -- a held block of a superblock of a class: its size, and that its superblock is cut for it
-pub class_block : (capacity class : ℕ) (image : Image) (held : List Block) (s : Shape) (b : Block) → IsShape capacity image held s → IsClass class → Contains held b → b.words ≡ words_of_class class
+pub class_block : (capacity class : ℕ) (image : Image) (held : List Block) (s : Shape) (b : Block) → IsShape capacity image held s
+    → IsClass class → Contains held b → b.words ≡ words_of_class class
     → (d : ℕ) × (d < capacity) × (image (info_word d) ≡ class) × IsInSuperblock capacity d b.first_word
-class_block capacity class image held s b shape is holds size = let named = shape.named b holds in by_begins named.superblock named.words named.count named.is_of.begins named.is_of.taken named.is_of.size
+class_block capacity class image held s b shape is holds size = let named = shape.named b holds in
+    by_begins named.superblock named.words named.count named.is_of.begins named.is_of.taken named.is_of.size
     (block_begins (layout_at capacity image) b named.superblock named.index named.words named.count named.is_of)
   where
-    by_begins : (d w n : ℕ) → Begins (layout_at capacity image) d w n → d < image used_word → b.words ≡ w → (start_word capacity d ≤ b.first_word) × (b.first_word < start_word capacity (d + 1))
+    by_begins : (d w n : ℕ) → Begins (layout_at capacity image) d w n → d < image used_word → b.words ≡ w
+        → (start_word capacity d ≤ b.first_word) × (b.first_word < start_word capacity (d + 1))
         → (d : ℕ) × (d < capacity) × (image (info_word d) ≡ class) × IsInSuperblock capacity d b.first_word
     by_begins d w n (of_class c info is_class) taken words begins =
         let used = shape.used in
@@ -205,14 +226,16 @@ class_block capacity class image held s b shape is holds size = let named = shap
     by_begins d w n (as_large k some info end zeros) taken words begins = absurd (let few = few_words class is in omega arith)
 
 -- the blocks of a held large block's size: it begins where a superblock does, and takes whole ones
-pub large_block : (capacity : ℕ) (image : Image) (held : List Block) (s : Shape) (b : Block) → IsShape capacity image held s → Contains held b → ((class : ℕ) → IsClass class → b.words ≢ words_of_class class)
+pub large_block : (capacity : ℕ) (image : Image) (held : List Block) (s : Shape) (b : Block) → IsShape capacity image held s → Contains held b
+    → ((class : ℕ) → IsClass class → b.words ≢ words_of_class class)
     → (d n : ℕ) × (1 ≤ n) × (d + n ≤ capacity) × (b.first_word ≡ start_word capacity d) × (b.words ≡ superblock_words * n)
-large_block capacity image held s b shape holds size = let named = shape.named b holds in by_begins named.superblock named.index named.words named.count named.is_of.begins named.is_of.below named.is_of.at named.is_of.size where
-  by_begins : (d index w n : ℕ) → Begins (layout_at capacity image) d w n → index < n → b.first_word ≡ start_word capacity d + index * w → b.words ≡ w
-      → (d n : ℕ) × (1 ≤ n) × (d + n ≤ capacity) × (b.first_word ≡ start_word capacity d) × (b.words ≡ superblock_words * n)
-  by_begins d index w n (of_class c info is) below at words = absurd (size c is words)
-  by_begins d index w n (as_large k some info end zeros) below at words =
-      let used = shape.used in
-      let first : index ≡ zero = omega arith in
-      let none : index * (superblock_words * k) ≡ 0 = subst (λ x. x * (superblock_words * k) ≡ 0) (sym first) (zero-mul (superblock_words * k)) in
-      (d, k, some, omega arith, omega arith, words)
+large_block capacity image held s b shape holds size = let named = shape.named b holds in
+    by_begins named.superblock named.index named.words named.count named.is_of.begins named.is_of.below named.is_of.at named.is_of.size where
+      by_begins : (d index w n : ℕ) → Begins (layout_at capacity image) d w n → index < n → b.first_word ≡ start_word capacity d + index * w → b.words ≡ w
+          → (d n : ℕ) × (1 ≤ n) × (d + n ≤ capacity) × (b.first_word ≡ start_word capacity d) × (b.words ≡ superblock_words * n)
+      by_begins d index w n (of_class c info is) below at words = absurd (size c is words)
+      by_begins d index w n (as_large k some info end zeros) below at words =
+          let used = shape.used in
+          let first : index ≡ zero = omega arith in
+          let none : index * (superblock_words * k) ≡ 0 = subst (λ x. x * (superblock_words * k) ≡ 0) (sym first) (zero-mul (superblock_words * k)) in
+          (d, k, some, omega arith, omega arith, words)

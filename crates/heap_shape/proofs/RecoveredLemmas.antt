@@ -21,7 +21,8 @@ use Rattle.heap_shape.specs.Draining.{IsDrainable, IsToDrain}
 use Rattle.heap_shape.proofs.AccountLemmas.{free_follows}
 use Rattle.heap_shape.proofs.OpenLemmas.{head_at_rest}
 
--- what draining needs of an image that was made from another: the infos of superblocks with a part of a kept block stay, and the others are the free list
+-- what draining needs of an image that was made from another: the infos of superblocks with a part of a kept block
+-- stay, and the others are the free list
 pub record LeavesPlaces (old new : Image) (kept : Block → Type 0) : Type 0 where
   pub used : new used_word ≡ old used_word
   pub partial : (class d : ℕ) → IsClass class → IsPartial (layout_of old) kept class d → new (info_word d) ≡ class
@@ -46,12 +47,15 @@ recovered_places old new kept recovered = record {
 }
 
 -- where the same blocks are kept, the same superblocks are free, and the same blocks are given
-pub same_free : (l : Layout) (kept other : Block → Type 0) → ((b : Block) → kept b ↔ other b) → (d : ℕ) → IsFreeSuperblock l kept d → IsFreeSuperblock l other d
+pub same_free : (l : Layout) (kept other : Block → Type 0) → ((b : Block) → kept b ↔ other b) → (d : ℕ) → IsFreeSuperblock l kept d
+    → IsFreeSuperblock l other d
 same_free l kept other same d free = record { taken = free.taken; empty = λ b is part. free.empty b ((same b).1 is) part }
 
-pub same_drained : (l : Layout) (kept other : Block → Type 0) (same : (b : Block) → kept b ↔ other b) (class : ℕ) (b : Block) → IsDrained l kept class b → IsDrained l other class b
+pub same_drained : (l : Layout) (kept other : Block → Type 0) (same : (b : Block) → kept b ↔ other b) (class : ℕ) (b : Block)
+    → IsDrained l kept class b → IsDrained l other class b
 same_drained l kept other same class b (beside _ d index is taken info of unkept not_free) =
-    beside b d index is taken info of (λ holds. unkept ((same b).1 holds)) (λ free. not_free (same_free l other kept (λ a. ((same a).1, (same a).0)) d free))
+    beside b d index is taken info of (λ holds. unkept ((same b).1 holds))
+    (λ free. not_free (same_free l other kept (λ a. ((same a).1, (same a).0)) d free))
 same_drained l kept other same class b (freed _ d index is free of) = freed b d index is (same_free l kept other same d free) of
 same_drained l kept other same class b (fresh _ d index is past within of) = fresh b d index is past within of
 
@@ -127,13 +131,16 @@ module _ (old new : Image) (kept : Block → Type 0) (held : List Block) (left :
   left_drains b class = (still_given b class, given_before b class)
 
 -- the same where the kept blocks are the reached ones, which are blocks of the image
-pub reached_drainable : (old new : Image) (kinds : ℕ → ℕ) (links : Links) (held : List Block) (class : ℕ) → IsRecovered old new (IsReached old kinds links)
+pub reached_drainable : (old new : Image) (kinds : ℕ → ℕ) (links : Links) (held : List Block) (class : ℕ)
+    → IsRecovered old new (IsReached old kinds links)
     → ((b : Block) → Contains held b ↔ IsReached old kinds links b) → capacity_of old ≤ largest_capacity → IsDrainable (capacity_of old) new held class
 reached_drainable old new kinds links held class recovered are_held small =
-    left_drainable old new (IsReached old kinds links) held (recovered_places old new (IsReached old kinds links) recovered) (λ b is. reached_block old kinds links b is.kind is.reach) are_held small class
+    left_drainable old new (IsReached old kinds links) held (recovered_places old new (IsReached old kinds links) recovered)
+    (λ b is. reached_block old kinds links b is.kind is.reach) are_held small class
 
 pub reached_drains : (old new : Image) (kinds : ℕ → ℕ) (links : Links) (held : List Block) (class : ℕ) → IsRecovered old new (IsReached old kinds links)
     → ((b : Block) → Contains held b ↔ IsReached old kinds links b) → (b : Block)
     → IsDrained (layout_of old) (IsReached old kinds links) class b ↔ IsToDrain (capacity_of old) new held class b
 reached_drains old new kinds links held class recovered are_held b =
-    left_drains old new (IsReached old kinds links) held (recovered_places old new (IsReached old kinds links) recovered) (λ a is. reached_block old kinds links a is.kind is.reach) are_held b class
+    left_drains old new (IsReached old kinds links) held (recovered_places old new (IsReached old kinds links) recovered)
+    (λ a is. reached_block old kinds links a is.kind is.reach) are_held b class

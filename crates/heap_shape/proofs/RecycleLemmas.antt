@@ -22,8 +22,10 @@ use Rattle.heap_shape.proofs.FrameLemmas.{SameThere, frame, KeepsBut}
 use Rattle.heap_shape.proofs.CountLemmas.{all_given}
 
 -- it is taken off its class list and put in front of the free list: the heap keeps a shape
-pub recycle : (capacity class d : ℕ) (image middle new : Image) (held : List Block) (s : Shape) (ds : List ℕ) → IsClass class → IsShape capacity image held s → s.listed class ≡ d ∷ ds
-    → anchor_state (image (anchor_word d)) ≢ partial_state → IsPoppedOf image middle class d → IsPushedOn middle new 0 d → IsShape capacity new held (after_recycle s class d ds)
+pub recycle : (capacity class d : ℕ) (image middle new : Image) (held : List Block) (s : Shape) (ds : List ℕ) → IsClass class
+    → IsShape capacity image held s → s.listed class ≡ d ∷ ds
+    → anchor_state (image (anchor_word d)) ≢ partial_state → IsPoppedOf image middle class d → IsPushedOn middle new 0 d
+    → IsShape capacity new held (after_recycle s class d ds)
 recycle capacity class d image middle new held s ds is shape list state popped pushed = record {
   small = shape.small;
   used = subst (λ n. n ≤ capacity) (sym stays.used) shape.used;
@@ -32,7 +34,8 @@ recycle capacity class d image middle new held s ds is shape list state popped p
   listed = listed;
   places = places;
   cached = cached;
-  walks = λ c is_class. walks_same image new (s.start c) (s.cached c) (λ w p. let cached = shape.cached c w is_class p in stays.inside cached.superblock w (first_inside capacity c cached.superblock w is_class cached.is_first)) (shape.walks c is_class);
+  walks = λ c is_class. walks_same image new (s.start c) (s.cached c) (λ w p. let cached = shape.cached c w is_class p in
+      stays.inside cached.superblock w (first_inside capacity c cached.superblock w is_class cached.is_first)) (shape.walks c is_class);
 } where
   below : class < lists
   below = let last = is.last in omega arith
@@ -55,13 +58,15 @@ recycle capacity class d image middle new held s ds is shape list state popped p
 
   -- so none is held or cached
   unused : HasNoHeld capacity held d × ((w : ℕ) → Contains (s.cached class) w → IsFirstOf capacity class d w → ⊥)
-  unused = let long = all.1 in all_given capacity image held s shape class d [] (s.cached class) there.of_class refl (λ w p. absurd (in_none w p)) (omega arith)
+  unused = let long = all.1 in all_given capacity image held s shape class d [] (s.cached class) there.of_class refl
+      (λ w p. absurd (in_none w p)) (omega arith)
 
   cached_elsewhere : (c w : ℕ) (is_class : IsClass c) (p : Contains (s.cached c) w) → (shape.cached c w is_class p).superblock ≢ d
   cached_elsewhere c w is_class p same =
       let cached = shape.cached c w is_class p in
       let one : IsFirstOf capacity c d w = subst (λ e. IsFirstOf capacity c e w) same cached.is_first in
-      let info : image (info_word d) ≡ c = subst (λ e. image (info_word e) ≡ c) same (cached_of_class capacity image held s shape c w is_class p).info in
+      let info : image (info_word d) ≡ c = subst (λ e. image (info_word e) ≡ c) same
+      (cached_of_class capacity image held s shape c w is_class p).info in
       let one_class : c ≡ class = sym info ∙ there.of_class.info in
       unused.1 w (subst (λ k. Contains (s.cached k) w) one_class p) (subst (λ k. IsFirstOf capacity k d w) one_class one)
 
@@ -100,7 +105,8 @@ recycle capacity class d image middle new held s ds is shape list state popped p
       let small = shape.small in
       let set = pushed.head.at in
       let head : middle (head_word 0) ≡ image (head_word 0) = popped.set.others (head_word 0) (λ q. not_free (omega arith)) in
-      let link : new (link_word d) ≡ head_first (image (head_word 0)) = pushed.head.others (link_word d) (λ q. omega arith) ∙ pushed.link.at ∙ ap head_first head in (
+      let link : new (link_word d) ≡ head_first (image (head_word 0)) = pushed.head.others (link_word d) (λ q. omega arith) ∙ pushed.link.at
+      ∙ ap head_first head in (
         omega arith,
         within,
         subst (λ x. Follows (λ e. new (link_word e)) capacity x (s.listed 0)) (sym link)
@@ -121,21 +127,28 @@ recycle capacity class d image middle new held s ds is shape list state popped p
       let first : head_first (new (head_word class)) ≡ image (link_word d) = omega (arith, largest_capacity_fits) in
       subst (λ x. Follows (λ e. new (link_word e)) capacity x ds) (sym first)
       (follows_same (λ e. image (link_word e)) (λ e. new (link_word e)) capacity (image (link_word d)) ds
-      (λ e p. stays.link e (λ one. let some = times_of e ds p in let none : times e ds ≡ 0 = subst (λ x. times x ds ≡ 0) (sym one) gone in omega arith)) before.2)
+      (λ e p. stays.link e (λ one. let some = times_of e ds p in let none : times e ds ≡ 0 = subst (λ x. times x ds ≡ 0) (sym one) gone in
+      omega arith)) before.2)
 
   follows : (l : ℕ) → l < lists → Follows (λ e. new (link_word e)) capacity (head_first (new (head_word l))) ((after_recycle s class d ds).listed l)
-  follows l less = elim (cases_eq l 0) as (λ _. Follows (λ e. new (link_word e)) capacity (head_first (new (head_word l))) ((after_recycle s class d ds).listed l)) [
-    | inl free ↦ subst (λ l. Follows (λ e. new (link_word e)) capacity (head_first (new (head_word l))) ((after_recycle s class d ds).listed l)) (sym free) free_follows
-    | inr no_free ↦ elim (cases_eq l class) as (λ _. Follows (λ e. new (link_word e)) capacity (head_first (new (head_word l))) ((after_recycle s class d ds).listed l)) [
-      | inl one ↦ subst (λ l. Follows (λ e. new (link_word e)) capacity (head_first (new (head_word l))) ((after_recycle s class d ds).listed l)) (sym one)
-          (subst (λ xs. Follows (λ e. new (link_word e)) capacity (head_first (new (head_word class))) xs) (sym class_list) class_follows)
-      | inr other ↦
-          let head : new (head_word l) ≡ image (head_word l) = same (head_word l) (λ q. other (omega arith)) (λ q. omega arith) (λ q. no_free (omega arith)) in
-          subst (λ xs. Follows (λ e. new (link_word e)) capacity (head_first (new (head_word l))) xs) (sym (other_list l no_free other))
-          (subst (λ x. Follows (λ e. new (link_word e)) capacity (head_first x) (s.listed l)) (sym head)
-          (follows_same (λ e. image (link_word e)) (λ e. new (link_word e)) capacity (head_first (image (head_word l))) (s.listed l) (other_links l less other) (shape.follows l less)))
-    ]
-  ]
+  follows l less = elim (cases_eq l 0) as (λ _. Follows (λ e. new (link_word e)) capacity (head_first (new (head_word l)))
+      ((after_recycle s class d ds).listed l)) [
+        | inl free ↦ subst (λ l. Follows (λ e. new (link_word e)) capacity (head_first (new (head_word l))) ((after_recycle s class d ds).listed l))
+            (sym free) free_follows
+        | inr no_free ↦ elim (cases_eq l class) as (λ _. Follows (λ e. new (link_word e)) capacity (head_first (new (head_word l)))
+            ((after_recycle s class d ds).listed l)) [
+              | inl one ↦ subst (λ l. Follows (λ e. new (link_word e)) capacity (head_first (new (head_word l)))
+                  ((after_recycle s class d ds).listed l)) (sym one)
+                  (subst (λ xs. Follows (λ e. new (link_word e)) capacity (head_first (new (head_word class))) xs) (sym class_list) class_follows)
+              | inr other ↦
+                  let head : new (head_word l) ≡ image (head_word l) = same (head_word l) (λ q. other (omega arith)) (λ q. omega arith)
+                  (λ q. no_free (omega arith)) in
+                  subst (λ xs. Follows (λ e. new (link_word e)) capacity (head_first (new (head_word l))) xs) (sym (other_list l no_free other))
+                  (subst (λ x. Follows (λ e. new (link_word e)) capacity (head_first x) (s.listed l)) (sym head)
+                  (follows_same (λ e. image (link_word e)) (λ e. new (link_word e)) capacity (head_first (image (head_word l))) (s.listed l)
+                  (other_links l less other) (shape.follows l less)))
+            ]
+      ]
 
   -- d is in the free list alone, and any other superblock where it was
   moved : (l : ℕ) → l < lists → times d ((after_recycle s class d ds).listed l) ≡ stands_in (in_list 0) l
@@ -149,15 +162,18 @@ recycle capacity class d image middle new held s ds is shape list state popped p
         let nowhere = stands_not 0 l (λ q. no_free (sym q)) in
         elim (cases_eq l class) as (λ _. times d ((after_recycle s class d ds).listed l) ≡ stands_in (in_list 0) l) [
           | inl one ↦ ap (times d) (ap (after_recycle s class d ds).listed one ∙ class_list) ∙ at.2 ∙ sym nowhere
-          | inr other ↦ ap (times d) (other_list l no_free other) ∙ shape.listed l d less ∙ ap (λ p. stands_in p l) at.0 ∙ stands_not class l (λ q. other (sym q)) ∙ sym nowhere
+          | inr other ↦ ap (times d) (other_list l no_free other) ∙ shape.listed l d less ∙ ap (λ p. stands_in p l) at.0
+              ∙ stands_not class l (λ q. other (sym q)) ∙ sym nowhere
         ]
   ]
 
   kept : (l e : ℕ) → e ≢ d → times e ((after_recycle s class d ds).listed l) ≡ times e (s.listed l)
   kept l e apart = elim (cases_eq l 0) as (λ _. times e ((after_recycle s class d ds).listed l) ≡ times e (s.listed l)) [
-    | inl free ↦ subst (λ l. times e ((after_recycle s class d ds).listed l) ≡ times e (s.listed l)) (sym free) (times_past d e (s.listed 0) (λ q. apart (sym q)))
+    | inl free ↦ subst (λ l. times e ((after_recycle s class d ds).listed l) ≡ times e (s.listed l)) (sym free)
+        (times_past d e (s.listed 0) (λ q. apart (sym q)))
     | inr no_free ↦ elim (cases_eq l class) as (λ _. times e ((after_recycle s class d ds).listed l) ≡ times e (s.listed l)) [
-      | inl one ↦ ap (times e) (ap (after_recycle s class d ds).listed one ∙ class_list) ∙ sym (times_past d e ds (λ q. apart (sym q))) ∙ ap (times e) (sym list ∙ ap s.listed (sym one))
+      | inl one ↦ ap (times e) (ap (after_recycle s class d ds).listed one ∙ class_list) ∙ sym (times_past d e ds (λ q. apart (sym q)))
+          ∙ ap (times e) (sym list ∙ ap s.listed (sym one))
       | inr other ↦ ap (times e) (other_list l no_free other)
     ]
   ]
@@ -191,7 +207,8 @@ recycle capacity class d image middle new held s ds is shape list state popped p
         }))
     | inr other ↦ subst (IsAs capacity new (after_recycle s class d ds) held e) (sym (with_at_other s.place d (in_list 0) e other))
         (frame capacity e image new s (after_recycle s class d ds) held held (s.place e) (untouched e other) (let used = stays.used in omega arith)
-        (λ untaken. let free : IsNew image e = subst (IsAs capacity image s held e) untaken (shape.places e within) in (subst (λ n. n ≤ e) (sym stays.used) free.past, stays.link e other))
+        (λ untaken. let free : IsNew image e = subst (IsAs capacity image s held e) untaken (shape.places e within) in
+        (subst (λ n. n ≤ e) (sym stays.used) free.past, stays.link e other))
         (shape.places e within))
   ]
 

@@ -20,7 +20,8 @@ use Rattle.heap_shape.proofs.BasicLemmas.{with_at_same, with_at_other, first_ins
 use Rattle.heap_shape.proofs.CutLemmas.{refilled, IsRefilled, refill, follows_popped, listed_popped, past_is_new, firsts_once, firsts_are, firsts_walk}
 
 -- the chain of the first superblock of the class list is taken
-pub take : (capacity class d : ℕ) (image middle new : Image) (held : List Block) (s : Shape) (ds : List ℕ) → IsClass class → IsShape capacity image held s
+pub take : (capacity class d : ℕ) (image middle new : Image) (held : List Block) (s : Shape) (ds : List ℕ) → IsClass class
+    → IsShape capacity image held s
     → s.listed class ≡ d ∷ ds → s.cached class ≡ []
     → IsPoppedOf image middle class d → IsSet middle new (anchor_word d) full_anchor
     → IsShape capacity new held (after_take s class d ds (first_of capacity class d (anchor_first (image (anchor_word d)))))
@@ -50,10 +51,12 @@ take capacity class d image middle new held s ds is shape list empty popped set 
           → ((times (first_of capacity class d index) (s.chain d) ≡ 1) × (HoldsAt held (first_of capacity class d index) → ⊥))
           ⊎ ((times (first_of capacity class d index) (s.chain d) ≡ 0) × HoldsAt held (first_of capacity class d index))
       owned index less (a_free once unheld) =
-          let none : times (first_of capacity class d index) (s.cached class) ≡ 0 = ap (times (first_of capacity class d index)) empty in inl (omega arith, unheld)
+          let none : times (first_of capacity class d index) (s.cached class) ≡ 0 = ap (times (first_of capacity class d index)) empty in
+          inl (omega arith, unheld)
       owned index less (a_held never at) = inr (omega arith, at)
 
-      taken : IsRefilled capacity class d image new held s (with_at s.listed class ds) (s.chain d) (first_of capacity class d (anchor_first (image (anchor_word d))))
+      taken : IsRefilled capacity class d image new held s (with_at s.listed class ds) (s.chain d)
+          (first_of capacity class d (anchor_first (image (anchor_word d))))
       taken = record {
         within = first.1;
         stood = λ c is_c at. let place = first.0 in cc;
@@ -75,7 +78,8 @@ take capacity class d image middle new held s ds is shape list empty popped set 
         owned = λ index less. owned index less (of.owned index less);
         walks = walks_same image new (first_of capacity class d (anchor_first (image (anchor_word d)))) (s.chain d)
             (λ w p. inside d w (first_inside capacity class d w is (of.blocks w p))) of.walks;
-        follows = follows_popped capacity image held s shape middle new class d ds below list popped (λ other less. set.others (head_word other) (λ e. omega arith))
+        follows = follows_popped capacity image held s shape middle new class d ds below list popped
+            (λ other less. set.others (head_word other) (λ e. omega arith))
             (λ e within. same (link_word e) (λ e. omega arith) (λ e. omega arith));
         in_lists = λ other e less. listed_popped capacity image held s shape class d ds below list other e less;
       }
@@ -97,9 +101,11 @@ record IsCuttable (capacity class d : ℕ) (image middle new : Image) (held : Li
   pub in_lists : (list e : ℕ) → list < lists → times e (listed list) ≡ stands_in (with_at s.place d is_full e) list
 
 -- the words outside superblocks but two are as before
-pub cut_before : (capacity class d : ℕ) (middle new : Image) (word : ℕ) → IsCut capacity middle new class d → word < start_word capacity 0 → word ≢ info_word d
+pub cut_before : (capacity class d : ℕ) (middle new : Image) (word : ℕ) → IsCut capacity middle new class d → word < start_word capacity 0
+    → word ≢ info_word d
     → word ≢ anchor_word d → new word ≡ middle word
-cut_before capacity class d middle new word cut less not_info not_anchor = cut.others word (λ inside. let from = inside.from in omega arith) not_info not_anchor
+cut_before capacity class d middle new word cut less not_info not_anchor = cut.others word (λ inside. let from = inside.from in
+    omega arith) not_info not_anchor
 
 -- a superblock is cut for the class, and all its blocks go into the cache
 cut_any : (capacity class d : ℕ) (image middle new : Image) (held : List Block) (s : Shape) (listed : ℕ → List ℕ) → IsClass class
@@ -132,16 +138,19 @@ cut_any capacity class d image middle new held s listed is shape able =
         untaken = λ e within apart place. let same = used in let past = able.untaken e within apart place in omega arith;
         info = able.cut.info;
         anchor = able.cut.anchor;
-        other_info = λ e within apart. cut_before capacity class d middle new (info_word e) able.cut (omega arith) (λ at. apart (omega arith)) (λ at. omega arith)
+        other_info = λ e within apart. cut_before capacity class d middle new (info_word e) able.cut (omega arith) (λ at. apart (omega arith))
+            (λ at. omega arith)
             ∙ able.kept (info_word e) (omega arith);
-        other_anchor = λ e within apart. cut_before capacity class d middle new (anchor_word e) able.cut (omega arith) (λ at. omega arith) (λ at. apart (omega arith))
+        other_anchor = λ e within apart. cut_before capacity class d middle new (anchor_word e) able.cut (omega arith) (λ at. omega arith)
+            (λ at. apart (omega arith))
             ∙ able.kept (anchor_word e) (omega arith);
         links = λ e within. cut_before capacity class d middle new (link_word e) able.cut (omega arith) (λ at. omega arith) (λ at. omega arith)
             ∙ able.kept (link_word e) (omega arith);
         others = λ e word within apart inside.
             let from = inside.from in
             let less = able.within in
-            able.cut.others word (λ at. apart (inside_one capacity e d word inside at)) (λ at. omega arith) (λ at. omega arith) ∙ able.kept word (omega arith);
+            able.cut.others word (λ at. apart (inside_one capacity e d word inside at)) (λ at. omega arith) (λ at. omega arith)
+            ∙ able.kept word (omega arith);
         unheld = λ b p part. absurd (able.none b p part);
         firsts = λ w p. firsts_are capacity class d 0 (blocks_of class) w (omega arith) p;
         owned = λ index less. inl (firsts_once capacity class d index 0 (blocks_of class) is (omega arith) (omega arith), unheld index less);
@@ -151,7 +160,8 @@ cut_any capacity class d image middle new held s listed is shape able =
       }
 
 -- the first superblock of the free list is cut
-pub cut_free : (capacity class d : ℕ) (image middle new : Image) (held : List Block) (s : Shape) (ds : List ℕ) → IsClass class → IsShape capacity image held s
+pub cut_free : (capacity class d : ℕ) (image middle new : Image) (held : List Block) (s : Shape) (ds : List ℕ) → IsClass class
+    → IsShape capacity image held s
     → s.listed 0 ≡ d ∷ ds → s.cached class ≡ []
     → IsPoppedOf image middle 0 d → IsCut capacity middle new class d → IsShape capacity new held (after_cut s capacity class d ds)
 cut_free capacity class d image middle new held s ds is shape list empty popped cut =
@@ -190,42 +200,44 @@ cut_free capacity class d image middle new held s ds is shape list empty popped 
 pub cut_fresh : (capacity class d : ℕ) (image middle new : Image) (held : List Block) (s : Shape) → IsClass class → IsShape capacity image held s
     → image used_word ≡ d → d < capacity → s.cached class ≡ []
     → IsSet image middle used_word (d + 1) → IsCut capacity middle new class d → IsShape capacity new held (after_fresh s capacity class d)
-cut_fresh capacity class d image middle new held s is shape past within empty set cut = cut_any capacity class d image middle new held s s.listed is shape able where
-  place : s.place d ≡ is_new
-  place = past_is_new capacity image s held d (s.place d) (omega arith) (shape.places d within)
+cut_fresh capacity class d image middle new held s is shape past within empty set cut =
+    cut_any capacity class d image middle new held s s.listed is shape able where
+      place : s.place d ≡ is_new
+      place = past_is_new capacity image s held d (s.place d) (omega arith) (shape.places d within)
 
-  used : middle used_word ≡ d + 1
-  used = set.at
+      used : middle used_word ≡ d + 1
+      used = set.at
 
-  link : (e : ℕ) → e < capacity → new (link_word e) ≡ image (link_word e)
-  link e less = cut_before capacity class d middle new (link_word e) cut (omega arith) (λ at. omega arith) (λ at. omega arith)
-      ∙ set.others (link_word e) (λ at. omega arith)
+      link : (e : ℕ) → e < capacity → new (link_word e) ≡ image (link_word e)
+      link e less = cut_before capacity class d middle new (link_word e) cut (omega arith) (λ at. omega arith) (λ at. omega arith)
+          ∙ set.others (link_word e) (λ at. omega arith)
 
-  head : (list : ℕ) → list < lists → new (head_word list) ≡ image (head_word list)
-  head list less = cut_before capacity class d middle new (head_word list) cut (omega arith) (λ e. omega arith) (λ e. omega arith)
-      ∙ set.others (head_word list) (λ e. omega arith)
+      head : (list : ℕ) → list < lists → new (head_word list) ≡ image (head_word list)
+      head list less = cut_before capacity class d middle new (head_word list) cut (omega arith) (λ e. omega arith) (λ e. omega arith)
+          ∙ set.others (head_word list) (λ e. omega arith)
 
-  able : IsCuttable capacity class d image middle new held s s.listed
-  able = record {
-    within = within;
-    no_class = λ c is_c at. let is_new_place = place in cc;
-    not_full = λ full. let is_new_place = place in cc;
-    empty = empty;
-    none = λ b p part. let taken = part_taken (layout_at capacity image) b d (shape.named b p) part in omega arith;
-    kept = λ word from. set.others word (λ e. omega arith);
-    used = omega arith;
-    raised = omega arith;
-    taken = omega arith;
-    untaken = λ e less apart at. let is_now : IsNew image e = subst (λ p. IsAs capacity image s held e p) at (shape.places e less) in
-        let not_before = is_now.past in omega arith;
-    cut = cut;
-    follows = λ list less. subst (λ h. Follows (λ e. new (link_word e)) capacity (head_first h) (s.listed list)) (sym (head list less))
-        (follows_same (λ e. image (link_word e)) (λ e. new (link_word e)) capacity (head_first (image (head_word list))) (s.listed list)
-        (λ e p. link e (follows_below (λ k. image (link_word k)) capacity (head_first (image (head_word list))) (s.listed list) e (shape.follows list less) p))
-        (shape.follows list less));
-    in_lists = λ list e less. elim (cases_eq e d) as (λ _. times e (s.listed list) ≡ stands_in (with_at s.place d is_full e) list) [
-      | inl same ↦ subst (λ k. times k (s.listed list) ≡ stands_in (with_at s.place d is_full k) list) (sym same)
-          (shape.listed list d less ∙ ap (λ p. stands_in p list) place ∙ sym (ap (λ p. stands_in p list) (with_at_same s.place d is_full)))
-      | inr other ↦ shape.listed list e less ∙ sym (ap (λ p. stands_in p list) (with_at_other s.place d is_full e other))
-    ];
-  }
+      able : IsCuttable capacity class d image middle new held s s.listed
+      able = record {
+        within = within;
+        no_class = λ c is_c at. let is_new_place = place in cc;
+        not_full = λ full. let is_new_place = place in cc;
+        empty = empty;
+        none = λ b p part. let taken = part_taken (layout_at capacity image) b d (shape.named b p) part in omega arith;
+        kept = λ word from. set.others word (λ e. omega arith);
+        used = omega arith;
+        raised = omega arith;
+        taken = omega arith;
+        untaken = λ e less apart at. let is_now : IsNew image e = subst (λ p. IsAs capacity image s held e p) at (shape.places e less) in
+            let not_before = is_now.past in omega arith;
+        cut = cut;
+        follows = λ list less. subst (λ h. Follows (λ e. new (link_word e)) capacity (head_first h) (s.listed list)) (sym (head list less))
+            (follows_same (λ e. image (link_word e)) (λ e. new (link_word e)) capacity (head_first (image (head_word list))) (s.listed list)
+            (λ e p. link e (follows_below (λ k. image (link_word k)) capacity (head_first (image (head_word list))) (s.listed list) e
+            (shape.follows list less) p))
+            (shape.follows list less));
+        in_lists = λ list e less. elim (cases_eq e d) as (λ _. times e (s.listed list) ≡ stands_in (with_at s.place d is_full e) list) [
+          | inl same ↦ subst (λ k. times k (s.listed list) ≡ stands_in (with_at s.place d is_full k) list) (sym same)
+              (shape.listed list d less ∙ ap (λ p. stands_in p list) place ∙ sym (ap (λ p. stands_in p list) (with_at_same s.place d is_full)))
+          | inr other ↦ shape.listed list e less ∙ sym (ap (λ p. stands_in p list) (with_at_other s.place d is_full e other))
+        ];
+      }

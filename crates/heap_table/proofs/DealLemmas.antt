@@ -28,14 +28,18 @@ pub total_set_group : (f : View → ℕ) (groups : List SeatViews) (id : ℕ) (o
     → total f (all_views (set groups id new)) + total f old ≡ total f (all_views groups) + total f new
 total_set_group f [] id old new at = absurd (some-ne-none old (sym at))
 total_set_group f (j ∷ groups) zero old new at =
-    let a = total_append f new (all_views groups) in let b = total_append f j (all_views groups) in let same = ap (total f) (some-injective j old at) in omega arith
+    let a = total_append f new (all_views groups) in let b = total_append f j (all_views groups) in
+    let same = ap (total f) (some-injective j old at) in omega arith
 total_set_group f (j ∷ groups) (suc id) old new at =
-    let a = total_append f j (all_views (set groups id new)) in let b = total_append f j (all_views groups) in let rest = total_set_group f groups id old new at in omega arith
+    let a = total_append f j (all_views (set groups id new)) in let b = total_append f j (all_views groups) in
+    let rest = total_set_group f groups id old new at in omega arith
 
-pub total_last : (f : View → ℕ) (groups : List SeatViews) (last : SeatViews) → total f (all_views (groups ++ last ∷ [])) ≡ total f (all_views groups) + total f last
+pub total_last : (f : View → ℕ) (groups : List SeatViews) (last : SeatViews)
+    → total f (all_views (groups ++ last ∷ [])) ≡ total f (all_views groups) + total f last
 total_last f [] last = let a = total_append f last [] in omega arith
 total_last f (j ∷ groups) last =
-    let a = total_append f j (all_views (groups ++ last ∷ [])) in let b = total_append f j (all_views groups) in let rest = total_last f groups last in omega arith
+    let a = total_append f j (all_views (groups ++ last ∷ [])) in let b = total_append f j (all_views groups) in
+    let rest = total_last f groups last in omega arith
 
 -- a view is one of all exactly where a seat of the table stands for it
 record IsOf (groups : List SeatViews) (v : View) : Type 0 where
@@ -51,20 +55,24 @@ of_all (j ∷ groups) v p = elim (Contains-append_cases j (all_views groups) v p
   | inr later ↦ let rest = of_all groups v later in record { id = suc rest.id; group = rest.group; at = rest.at; has = rest.has }
 ]
 
-pub in_all : (groups : List SeatViews) (id : ℕ) (group : SeatViews) (v : View) → get_elem? groups id ≡ some group → Contains group v → Contains (all_views groups) v
+pub in_all : (groups : List SeatViews) (id : ℕ) (group : SeatViews) (v : View) → get_elem? groups id ≡ some group → Contains group v
+    → Contains (all_views groups) v
 in_all [] id group v at has = absurd (some-ne-none group (sym at))
-in_all (j ∷ groups) zero group v at has = Contains-append_left j (all_views groups) v (subst (λ (l : SeatViews). Contains l v) (sym (some-injective j group at)) has)
+in_all (j ∷ groups) zero group v at has = Contains-append_left j (all_views groups) v
+    (subst (λ (l : SeatViews). Contains l v) (sym (some-injective j group at)) has)
 in_all (j ∷ groups) (suc id) group v at has = Contains-append_right j (all_views groups) v (in_all groups id group v at has)
 
 -- where one seat of the table stands for other views, each view is as before or one of those
-pub of_set : (groups : List SeatViews) (id : ℕ) (new : SeatViews) (v : View) → Contains (all_views (set groups id new)) v → Contains new v ⊎ Contains (all_views groups) v
+pub of_set : (groups : List SeatViews) (id : ℕ) (new : SeatViews) (v : View) → Contains (all_views (set groups id new)) v
+    → Contains new v ⊎ Contains (all_views groups) v
 of_set groups id new v p = let found = of_all (set groups id new) v p in
     elim (at_set groups id found.id new found.group found.at) [
       | inl here ↦ inl (subst (λ (l : SeatViews). Contains l v) (sym here.1) found.has)
       | inr other ↦ inr (in_all groups found.id found.group v other.1 found.has)
     ]
 
-pub of_last : (groups : List SeatViews) (last : SeatViews) (v : View) → Contains (all_views (groups ++ last ∷ [])) v → Contains (all_views groups) v ⊎ Contains last v
+pub of_last : (groups : List SeatViews) (last : SeatViews) (v : View) → Contains (all_views (groups ++ last ∷ [])) v
+    → Contains (all_views groups) v ⊎ Contains last v
 of_last groups last v p = let found = of_all (groups ++ last ∷ []) v p in
     elim (at_snoc groups last found.group found.id found.at) [
       | inl before ↦ inl (in_all groups found.id found.group v before found.has)
@@ -72,7 +80,8 @@ of_last groups last v p = let found = of_all (groups ++ last ∷ []) v p in
     ]
 
 -- the rule holds of the same seats in another order
-keeps_reordered : (o : Opening) (words : List ℕ) (old new : List SeatViews) → AreReordered (all_views old) (all_views new) → HasAllSeats o words old → HasAllSeats o words new
+keeps_reordered : (o : Opening) (words : List ℕ) (old new : List SeatViews) → AreReordered (all_views old) (all_views new)
+    → HasAllSeats o words old → HasAllSeats o words new
 keeps_reordered o words old new same keeps = record {
   reached = in_another_order words (all_views old) (all_views new) keeps.reached same;
   sound = reordered (setup_for o) words (all_views old) (all_views new) same keeps.sound;
@@ -83,7 +92,10 @@ keeps_reordered o words old new same keeps = record {
 
 -- the first views go to a new seat of the table, and the others stay
 pub dealt : (o : Opening) (id : ℕ) (whole left right : SeatViews) → right ++ left ≡ whole → Splits (Holds o) id whole left right
-dealt o id whole left right parts s holds at = keeps_reordered o s.words s.views (set s.views id left ++ right ∷ []) record { sums = sums; members = members } holds where
+dealt o id whole left right parts s holds at = keeps_reordered o s.words s.views (set s.views id left ++ right ∷ []) record {
+  sums = sums;
+  members = members;
+} holds where
   sums : (f : View → ℕ) → total f (all_views (set s.views id left ++ right ∷ [])) ≡ total f (all_views s.views)
   sums f = let a = total_last f (set s.views id left) right in let b = total_set_group f s.views id whole left at in
       let c = total_append f right left in let d = ap (total f) parts in omega arith
@@ -102,12 +114,16 @@ dealt o id whole left right parts s holds at = keeps_reordered o s.words s.views
 
 -- a seat of the table takes in the views of another, which it puts before its own
 pub joined : (o : Opening) (id : ℕ) (mine : SeatViews) (other : ℕ) (theirs : SeatViews) → Joins (Holds o) id mine other theirs (theirs ++ mine) []
-joined o id mine other theirs s holds at apart at_other = keeps_reordered o s.words s.views (set once other []) record { sums = sums; members = members } holds where
+joined o id mine other theirs s holds at apart at_other = keeps_reordered o s.words s.views (set once other []) record {
+  sums = sums;
+  members = members;
+} holds where
   once : List SeatViews
   once = set s.views id (theirs ++ mine)
 
   sums : (f : View → ℕ) → total f (all_views (set (set s.views id (theirs ++ mine)) other [])) ≡ total f (all_views s.views)
-  sums f = let a = total_set_group f (set s.views id (theirs ++ mine)) other theirs [] at_other in let b = total_set_group f s.views id mine (theirs ++ mine) at in
+  sums f = let a = total_set_group f (set s.views id (theirs ++ mine)) other theirs [] at_other in
+      let b = total_set_group f s.views id mine (theirs ++ mine) at in
       let c = total_append f theirs mine in omega arith
 
   has_theirs : (v : View) → Contains theirs v → Contains (all_views s.views) v

@@ -31,9 +31,11 @@ all_last (j ∷ groups) v = ap (λ vs. j ++ vs) (all_last groups v) ∙ sym (app
 pub offers : (o : Opening) (id : ℕ) (group : SeatViews) (v : View) (b : Block) → IsSingle group v → MayHand v → IsHeld v b
     → Splits (Holds o) id group (offered v b.first_word ∷ []) (carrier_of v b.first_word ∷ [])
 offers o id group v b single may held s holds at = record {
-  reached = subst (IsReached (setup_for o) (state_of o) s.words) (sym same) (by_offer s.words (all_views s.views) i v b holds.reached below is may held);
+  reached = subst (IsReached (setup_for o) (state_of o) s.words) (sym same)
+      (by_offer s.words (all_views s.views) i v b holds.reached below is may held);
   sound = subst (Sound (setup_for o) s.words) (sym same) (offer_sound (setup_for o) s.words (all_views s.views) i v b.first_word below is holds.sound);
-  counted = subst (AreSeatsAndCarriers (setup_for o)) (sym same) (offers_one (setup_for o) (all_views s.views) i v (offered v b.first_word) below is holds.counted b.first_word may.seat refl);
+  counted = subst (AreSeatsAndCarriers (setup_for o)) (sym same) (offers_one (setup_for o) (all_views s.views) i v
+      (offered v b.first_word) below is holds.counted b.first_word may.seat refl);
   few = holds.few;
   low = holds.low;
 } where
@@ -46,8 +48,10 @@ offers o id group v b single may held s holds at = record {
   is : get_or (all_views s.views) i v ≡ v
   is = at_offset s.views id group v at single
 
-  same : all_views (set s.views id (offered v b.first_word ∷ []) ++ (carrier_of v b.first_word ∷ []) ∷ []) ≡ set (all_views s.views) i (offered v b.first_word) ++ carrier_of v b.first_word ∷ []
-  same = all_last (set s.views id (offered v b.first_word ∷ [])) (carrier_of v b.first_word) ∙ ap (λ vs. vs ++ carrier_of v b.first_word ∷ []) (set_offset s.views id group v (offered v b.first_word) at single)
+  same : all_views (set s.views id (offered v b.first_word ∷ []) ++ (carrier_of v b.first_word ∷ []) ∷ []) ≡ set (all_views s.views) i
+      (offered v b.first_word) ++ carrier_of v b.first_word ∷ []
+  same = all_last (set s.views id (offered v b.first_word ∷ [])) (carrier_of v b.first_word)
+      ∙ ap (λ vs. vs ++ carrier_of v b.first_word ∷ []) (set_offset s.views id group v (offered v b.first_word) at single)
 
 -- the same sound state, after the offer
 pub has_offered : (v : View) (block : ℕ) → HasSoundState v → HasSoundState (offered v block)
@@ -58,8 +62,10 @@ has_offered v block s = record {
   sound = offer_sound v.setup s.words s.views s.seat v block s.below s.at s.sound;
   counted = offers_one v.setup s.views s.seat v (offered v block) s.below s.at s.counted block s.is_seat refl;
   is_seat = s.is_seat;
-  below = let l = length-append (set s.views s.seat (offered v block)) (carrier_of v block ∷ []) in let n = length-set s.views s.seat (offered v block) in let b = s.below in omega arith;
-  at = get_or_append_left (set s.views s.seat (offered v block)) (carrier_of v block ∷ []) (offered v block) s.seat (let n = length-set s.views s.seat (offered v block) in let b = s.below in omega arith)
+  below = let l = length-append (set s.views s.seat (offered v block)) (carrier_of v block ∷ []) in
+      let n = length-set s.views s.seat (offered v block) in let b = s.below in omega arith;
+  at = get_or_append_left (set s.views s.seat (offered v block)) (carrier_of v block ∷ []) (offered v block) s.seat
+      (let n = length-set s.views s.seat (offered v block) in let b = s.below in omega arith)
       ∙ get_or-set_same s.views s.seat (offered v block) (offered v block) s.below;
 }
 
@@ -69,7 +75,8 @@ at_again (j ∷ groups) zero old new at = refl
 at_again (j ∷ groups) (suc id) old new at = at_again groups id old new at
 
 -- where two views stand, of a seat of the table that stands for both
-module _ (o : Opening) (s : State ℕ SeatViews) (holds : Holds o s) (id : ℕ) (group : SeatViews) (v u : View) (both : group ≡ u ∷ v ∷ []) (at : get_elem? s.views id ≡ some group) where
+module _ (o : Opening) (s : State ℕ SeatViews) (holds : Holds o s) (id : ℕ) (group : SeatViews) (v u : View) (both : group ≡ u ∷ v ∷ [])
+    (at : get_elem? s.views id ≡ some group) where
   abbrev all : List View
   all = all_views s.views
 
@@ -77,7 +84,8 @@ module _ (o : Opening) (s : State ℕ SeatViews) (holds : Holds o s) (id : ℕ) 
   first_below = let b = group_below s.views id group 0 at (let l = ap length both in omega arith) in omega arith
 
   first_at : get_or all (offset id s.views) u ≡ u
-  first_at = ap (λ n. get_or all n u) (let e : offset id s.views ≡ offset id s.views + 0 = omega arith in e) ∙ group_at s.views id group 0 u at (let l = ap length both in omega arith) ∙ ap (λ vs. get_or vs 0 u) both
+  first_at = ap (λ n. get_or all n u) (let e : offset id s.views ≡ offset id s.views + 0 = omega arith in e)
+      ∙ group_at s.views id group 0 u at (let l = ap length both in omega arith) ∙ ap (λ vs. get_or vs 0 u) both
 
   second_below : offset id s.views + 1 < length all
   second_below = group_below s.views id group 1 at (let l = ap length both in omega arith)
@@ -136,18 +144,21 @@ module _ (o : Opening) (s : State ℕ SeatViews) (holds : Holds o s) (id : ℕ) 
   }
 
 -- a read by a seat of the table that stands for two views
-pub allowed_both : (o : Opening) (count id : ℕ) (group : SeatViews) (slots : List (ℕ × ℕ)) (v u : View) (place : ℕ) → group ≡ u ∷ v ∷ [] → v.setup ≡ setup_for o
+pub allowed_both : (o : Opening) (count id : ℕ) (group : SeatViews) (slots : List (ℕ × ℕ)) (v u : View) (place : ℕ) → group ≡ u ∷ v ∷ []
+    → v.setup ≡ setup_for o
     → Allows (Holds o) count id (group, slots) place (λ n. n) (λ found after. DidReadBoth (group, slots) after)
 allowed_both o count id group slots v u place both setup s holds none at fits = (
   group,
   keeps,
   tt,
-  subst (λ ws. HasAllSeats o ws (set s.views id group)) (sym (set-get_or s.words place 0)) (subst (λ js. HasAllSeats o s.words js) (sym (set_again s.views id group at)) holds),
+  subst (λ ws. HasAllSeats o ws (set s.views id group)) (sym (set-get_or s.words place 0))
+      (subst (λ js. HasAllSeats o s.words js) (sym (set_again s.views id group at)) holds),
   record { same = refl; one = v; other = u; group = both; together = together o s holds id group v u both at setup },
 )
 
 -- a read by which a seat of the table that stands for a carrier and a seat accepts
-pub allowed_accept : (o : Opening) (count id : ℕ) (group : SeatViews) (slots : List (ℕ × ℕ)) (v u : View) (place : ℕ) → group ≡ u ∷ v ∷ [] → v.setup ≡ setup_for o → MayHand v → IsCarrier u
+pub allowed_accept : (o : Opening) (count id : ℕ) (group : SeatViews) (slots : List (ℕ × ℕ)) (v u : View) (place : ℕ) → group ≡ u ∷ v ∷ []
+    → v.setup ≡ setup_for o → MayHand v → IsCarrier u
     → Allows (Holds o) count id (group, slots) place (λ n. n) (λ found after. DidAccept (group, slots) after)
 allowed_accept o count id group slots v u place both setup may carries s holds none at fits = (
   accepted v u ∷ [],
@@ -160,14 +171,16 @@ allowed_accept o count id group slots v u place both setup may carries s holds n
     group = both;
     now = refl;
     setup = setup_is o s holds id group v u both at ∙ sym setup;
-    has = state_with o s.words (set s.views id (accepted v u ∷ [])) id (accepted v u ∷ []) (accepted v u) setup may.seat kept (at_again s.views id group (accepted v u ∷ []) at) refl;
+    has = state_with o s.words (set s.views id (accepted v u ∷ [])) id (accepted v u ∷ []) (accepted v u) setup may.seat kept
+        (at_again s.views id group (accepted v u ∷ []) at) refl;
   },
 ) where
   kept : HasAllSeats o s.words (set s.views id (accepted v u ∷ []))
   kept = accepts o s holds id group v u both at may carries
 
 -- the seat after the offer
-pub at_offered : (shared : SharedView) (table table' : TableId) (me me' : Me ℕ SeatViews) (block : ℕ) → IsAt shared table me (view_in me.0) → table' ≡ table → me' ≡ (offered (view_in me.0) block ∷ [], me.1)
+pub at_offered : (shared : SharedView) (table table' : TableId) (me me' : Me ℕ SeatViews) (block : ℕ) → IsAt shared table me (view_in me.0)
+    → table' ≡ table → me' ≡ (offered (view_in me.0) block ∷ [], me.1)
     → IsAt shared table' me' (view_in me'.0)
 at_offered shared table table' me me' block at same left = subst (λ (m : Me ℕ SeatViews). IsAt shared table' m (view_in m.0)) (sym left) record {
   table_is = same ∙ at.table_is;

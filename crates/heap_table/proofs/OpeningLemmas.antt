@@ -13,13 +13,15 @@ use Rattle.heap_table.specs.SeatViews.{SeatViews, first_view, other_views}
 use Rattle.heap_table.proofs.ReachedLemmas.{opened_counted}
 
 -- a heap at rest keeps the rule at the opening
-pub opened_keeps : (o : Opening) (words : List ℕ) → IsReady o.words o.held → AreOwners o.held o.seats o.block_owners o.root_owners → o.seats ≤ most_seats → o.budget < 1099511627776
+pub opened_keeps : (o : Opening) (words : List ℕ) → IsReady o.words o.held → AreOwners o.held o.seats o.block_owners o.root_owners
+    → o.seats ≤ most_seats → o.budget < 1099511627776
     → words ≡ o.words ++ (o.words ++ (0 ∷ [])) → HasAllSeats o words (opened_views o ∷ [])
 opened_keeps o words ready owners few low are = record {
   reached = subst (IsReached (setup_for o) (state_of o) words) (sym (append-nil (opened_views o)))
       (subst (λ ws. IsReached (setup_for o) (state_of o) ws (opened_views o)) (sym are) at_opening);
   sound = subst (Sound (setup_for o) words) (sym (append-nil (opened_views o)))
-      (subst (λ ws. Sound (setup_for o) ws (opened_views o)) (sym are) (opened o.words o.held o.budget o.seats o.block_owners o.root_owners ready owners));
+      (subst (λ ws. Sound (setup_for o) ws (opened_views o)) (sym are)
+      (opened o.words o.held o.budget o.seats o.block_owners o.root_owners ready owners));
   counted = subst (AreSeatsAndCarriers (setup_for o)) (sym (append-nil (opened_views o))) (opened_counted o);
   few = few;
   low = low;
@@ -35,6 +37,7 @@ pub front_is : (words table shown : List ℕ) → table ≡ words ++ (words ++ (
 front_is words table shown are same = ap (take (length shown)) are ∙ take_at words (words ++ (0 ∷ [])) (length shown) (sym (ap length same))
 
 -- the key of the table, which is made of the same parts, is the opening
-pub same_opening : (key o : Opening) → key.words ≡ o.words → key.held ≡ o.held → key.block_owners ≡ o.block_owners → key.root_owners ≡ o.root_owners → key.seats ≡ o.seats → key.budget ≡ o.budget → key ≡ o
+pub same_opening : (key o : Opening) → key.words ≡ o.words → key.held ≡ o.held → key.block_owners ≡ o.block_owners
+    → key.root_owners ≡ o.root_owners → key.seats ≡ o.seats → key.budget ≡ o.budget → key ≡ o
 same_opening key o words held block_owners root_owners seats budget =
     λ j. record { words = words j; held = held j; block_owners = block_owners j; root_owners = root_owners j; seats = seats j; budget = budget j }

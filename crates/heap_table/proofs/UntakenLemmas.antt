@@ -37,7 +37,8 @@ cell_of (volatile_at cell) = cell
 cell_of (durable_at cell) = cell
 cell_of tickets = no_cell
 
-module _ (k : Setup) (m : Memory) (views : List View) (i : ℕ) (v : View) (below : i < length views) (at : get_or views i v ≡ v) (good : Good k m views) where
+module _ (k : Setup) (m : Memory) (views : List View) (i : ℕ) (v : View) (below : i < length views) (at : get_or views i v ≡ v)
+    (good : Good k m views) where
   abbrev whole : ℕ → ℕ
   whole d = times_large d v.large + times_raw d v
 
@@ -89,7 +90,8 @@ module _ (k : Setup) (m : Memory) (views : List View) (i : ℕ) (v : View) (belo
   used_rises : (event : Event) → MayStep m v event → used m ≤ used (memory_after m v event)
   used_rises (Tick shift) may = still (Tick shift) refl
   used_rises (Load word) may = still (Load word) (λ j. (rewritten m.volatile (cell_at v.setup.capacity word)) j used_cell)
-  used_rises (Store word value) may = still (Store word value) (with_other m.volatile (cell_at v.setup.capacity word) value used_cell (λ same. let own = may.ready.0 in let e = ap (times_own v) same in omega (arith, own, e)))
+  used_rises (Store word value) may = still (Store word value) (with_other m.volatile (cell_at v.setup.capacity word) value used_cell
+      (λ same. let own = may.ready.0 in let e = ap (times_own v) same in omega (arith, own, e)))
   used_rises (Settle word) may = still (Settle word) refl
   used_rises LookUsed may = still LookUsed refl
   used_rises (TakeFresh n) may = raised (nat_eq (used m) (seen v.seen_used)) n
@@ -103,11 +105,14 @@ module _ (k : Setup) (m : Memory) (views : List View) (i : ℕ) (v : View) (belo
   used_rises (Give d) may = still (Give d) refl
 
 -- the two words of the table that stand for a word of a superblock are of its cell alone
-cell_is : (c : ℕ) (cell : Cell) → is_cell c cell ≡ true → (word : ℕ) → start_word c 0 ≤ word → word < superblocks_end c → index_of cell ≡ word → cell ≡ data_cell word
+cell_is : (c : ℕ) (cell : Cell) → is_cell c cell ≡ true → (word : ℕ) → start_word c 0 ≤ word → word < superblocks_end c → index_of cell ≡ word
+    → cell ≡ data_cell word
 cell_is c cell is word from until same = sym (cell_at_index c cell is) ∙ ap (cell_at c) same
-    ∙ cell_at_index c (data_cell word) (and_is (nat_le (start_word c 0) word) (nat_lt word (superblocks_end c)) (le-leb (start_word c 0) word from) (lt-ltb word (superblocks_end c) until))
+    ∙ cell_at_index c (data_cell word) (and_is (nat_le (start_word c 0) word) (nat_lt word (superblocks_end c))
+    (le-leb (start_word c 0) word from) (lt-ltb word (superblocks_end c) until))
 
-index_apart : (c : ℕ) (p : StepPlace) → is_place c p ≡ true → (word : ℕ) → start_word c 0 ≤ word → word < superblocks_end c → (cell_of p ≡ data_cell word → ⊥)
+index_apart : (c : ℕ) (p : StepPlace) → is_place c p ≡ true → (word : ℕ) → start_word c 0 ≤ word → word < superblocks_end c
+    → (cell_of p ≡ data_cell word → ⊥)
     → (word ≢ table_index c p) × (image_words c + word ≢ table_index c p)
 index_apart c (volatile_at cell) is word from until other = (
   λ z. other (cell_is c cell is word from until (sym z)),
@@ -119,13 +124,19 @@ index_apart c (durable_at cell) is word from until other = (
 )
 index_apart c tickets is word from until other = (λ z. omega (arith, z, until), λ z. omega (arith, z, until))
 
-reached_untaken : (k : Setup) (start : TableState) → Sound k start.words start.views → (words : List ℕ) (views : List View) → IsReached k start words views
-    → (word : ℕ) → start_word k.capacity 0 ≤ word → word < superblocks_end k.capacity → used (memory_of k.capacity words) ≤ superblock_at k.capacity word
-    → (get_or words word 0 ≡ get_or start.words word 0) × (get_or words (image_words k.capacity + word) 0 ≡ get_or start.words (image_words k.capacity + word) 0)
+reached_untaken : (k : Setup) (start : TableState) → Sound k start.words start.views → (words : List ℕ) (views : List View)
+    → IsReached k start words views
+    → (word : ℕ) → start_word k.capacity 0 ≤ word → word < superblocks_end k.capacity
+    → used (memory_of k.capacity words) ≤ superblock_at k.capacity word
+    → (get_or words word 0 ≡ get_or start.words word 0) × (get_or words (image_words k.capacity + word) 0 ≡ get_or start.words
+    (image_words k.capacity + word) 0)
 reached_untaken k start sound _ _ at_opening word from until past = (refl, refl)
 reached_untaken k start sound _ _ (by_event words views i v event before below at seat may) word from until past =
-    let so_far = reached_untaken k start sound words views before word from until earlier in
-    (get_or-set_other words (table_index k.capacity p) word x 0 apart.0 ∙ so_far.0, get_or-set_other words (table_index k.capacity p) (image_words k.capacity + word) x 0 apart.1 ∙ so_far.1) where
+    let so_far = reached_untaken k start sound words views before word from until earlier in (
+      get_or-set_other words (table_index k.capacity p) word x 0 apart.0
+          ∙ so_far.0,
+      get_or-set_other words (table_index k.capacity p) (image_words k.capacity + word) x 0 apart.1 ∙ so_far.1,
+    ) where
       m : Memory
       m = memory_of k.capacity words
 
@@ -147,17 +158,23 @@ reached_untaken k start sound _ _ (by_event words views i v event before below a
 
       apart : (word ≢ table_index k.capacity p) × (image_words k.capacity + word ≢ table_index k.capacity p)
       apart = index_apart k.capacity p there word from until (no_data k m views i v below at sound_before.good event may word earlier)
-reached_untaken k start sound _ _ (by_record words views i v at_word before below at own) word from until past = reached_untaken k start sound words views before word from until past
-reached_untaken k start sound _ _ (by_offer words views i v b before below at may held) word from until past = reached_untaken k start sound words views before word from until past
-reached_untaken k start sound _ _ (by_accept words old new v u before has_v has_u may carries less) word from until past = reached_untaken k start sound words old before word from until past
-reached_untaken k start sound _ _ (in_another_order words old new before same) word from until past = reached_untaken k start sound words old before word from until past
+reached_untaken k start sound _ _ (by_record words views i v at_word before below at own) word from until past =
+    reached_untaken k start sound words views before word from until past
+reached_untaken k start sound _ _ (by_offer words views i v b before below at may held) word from until past =
+    reached_untaken k start sound words views before word from until past
+reached_untaken k start sound _ _ (by_accept words old new v u before has_v has_u may carries less) word from until past =
+    reached_untaken k start sound words old before word from until past
+reached_untaken k start sound _ _ (in_another_order words old new before same) word from until past =
+    reached_untaken k start sound words old before word from until past
 
-pub never_taken : (o : Opening) (now kept : List ℕ) (views : List View) → IsReady o.words o.held → AreOwners o.held o.seats o.block_owners o.root_owners → IsClosedReached o now kept views
+pub never_taken : (o : Opening) (now kept : List ℕ) (views : List View) → IsReady o.words o.held
+    → AreOwners o.held o.seats o.block_owners o.root_owners → IsClosedReached o now kept views
     → (word : ℕ) → start_word (setup_for o).capacity (slice_index now used_word) ≤ word → word < superblocks_end (setup_for o).capacity
     → (slice_index now word ≡ slice_index o.words word) × (slice_index kept word ≡ slice_index o.words word)
 never_taken o now kept views ready owners closed word from until = (
   sym (at_now now kept closed.drawn word (omega (arith, until, closed.now_long))) ∙ both.0 ∙ at_now o.words o.words 0 word (omega (arith, until, long)),
-  sym (at_kept now kept closed.drawn word iw closed.now_long (omega (arith, until, closed.kept_long))) ∙ both.1 ∙ at_kept o.words o.words 0 word iw long (omega (arith, until, long)),
+  sym (at_kept now kept closed.drawn word iw closed.now_long (omega (arith, until, closed.kept_long))) ∙ both.1
+      ∙ at_kept o.words o.words 0 word iw long (omega (arith, until, long)),
 ) where
   iw : ℕ
   iw = image_words (setup_for o).capacity
@@ -168,5 +185,7 @@ never_taken o now kept views ready owners closed word from until = (
   past : used (memory_of (setup_for o).capacity (now ++ (kept ++ (closed.drawn ∷ [])))) ≤ superblock_at (setup_for o).capacity word
   past = let same = at_now now kept closed.drawn used_word (omega (arith, closed.now_long)) in omega (arith, same, from)
 
-  both : (get_or (now ++ (kept ++ (closed.drawn ∷ []))) word 0 ≡ get_or (state_of o).words word 0) × (get_or (now ++ (kept ++ (closed.drawn ∷ []))) (iw + word) 0 ≡ get_or (state_of o).words (iw + word) 0)
-  both = reached_untaken (setup_for o) (state_of o) (opened o.words o.held o.budget o.seats o.block_owners o.root_owners ready owners) _ views closed.reached word (omega (arith, from)) until past
+  both : (get_or (now ++ (kept ++ (closed.drawn ∷ []))) word 0 ≡ get_or (state_of o).words word 0)
+      × (get_or (now ++ (kept ++ (closed.drawn ∷ []))) (iw + word) 0 ≡ get_or (state_of o).words (iw + word) 0)
+  both = reached_untaken (setup_for o) (state_of o) (opened o.words o.held o.budget o.seats o.block_owners o.root_owners ready owners)
+      _ views closed.reached word (omega (arith, from)) until past

@@ -31,7 +31,8 @@ pub record IsAt (shared : SharedView) (table : TableId) (me : Me ℕ SeatViews) 
   pub setup : v.setup ≡ setup_for shared.opening
   pub has : HasSoundState v
 
--- what the event leaves of the word that it finds: the word itself; the next ticket; the greater of it and a value; in each state that has the view, a new word, where it is the one that was seen, and a value
+-- what the event leaves of the word that it finds: the word itself; the next ticket; the greater of it and a value; in
+-- each state that has the view, a new word, where it is the one that was seen, and a value
 abbrev pub IsLook : Event → Type 0
 IsLook event = (m : Memory) (v : View) (found : ℕ) → left_there m v event found ≡ found
 
@@ -60,7 +61,8 @@ pub data DoesIfMay (event : Event) (v w : View) : Type 0 where
 
 -- what is found of a word is recorded where it is the seat's own, and else nothing
 pub data LearnsOwn (word found : ℕ) (v w : View) : Type 0 where
-  is_own : IsOwn v (cell_at v.setup.capacity word) → (s : HasSoundState v) → found ≡ get_or s.words word 0 → w ≡ learned v word found → LearnsOwn word found v w
+  is_own : IsOwn v (cell_at v.setup.capacity word) → (s : HasSoundState v) → found ≡ get_or s.words word 0 → w ≡ learned v word found
+      → LearnsOwn word found v w
   not_own : (IsOwn v (cell_at v.setup.capacity word) → ⊥) → w ≡ v → LearnsOwn word found v w
 
 -- the volatile words of an image and the durable ones, with some ticket word, are sound with these seats

@@ -16,15 +16,19 @@ use Rattle.core_model.specs.View.{Setup, View}
 abbrev pub learned : View → ℕ → ℕ → View
 learned v word value = record v { volatile = learn v.volatile word value }
 
--- the words and the views that a state comes to by events of its seats, won or lost, by blocks that they offer and accept, and by own words that they read and record; the views may stand in any order
+-- the words and the views that a state comes to by events of its seats, won or lost, by blocks that they offer and
+-- accept, and by own words that they read and record; the views may stand in any order
 pub data IsReached (k : Setup) (start : TableState) : List ℕ → List View → Type 0 where
   at_opening : IsReached k start start.words start.views
-  by_event : (words : List ℕ) (views : List View) (i : ℕ) (v : View) (event : Event) → IsReached k start words views → i < length views → get_or views i v ≡ v
+  by_event : (words : List ℕ) (views : List View) (i : ℕ) (v : View) (event : Event) → IsReached k start words views → i < length views
+      → get_or views i v ≡ v
       → v.carries ≡ 0 → MayStep (memory_of k.capacity words) v event
       → IsReached k start (words_after k words v event) (set views i (seat_after (memory_of k.capacity words) v event))
-  by_record : (words : List ℕ) (views : List View) (i : ℕ) (v : View) (word : ℕ) → IsReached k start words views → i < length views → get_or views i v ≡ v
+  by_record : (words : List ℕ) (views : List View) (i : ℕ) (v : View) (word : ℕ) → IsReached k start words views → i < length views
+      → get_or views i v ≡ v
       → IsOwn v (cell_at k.capacity word) → IsReached k start words (set views i (learned v word (get_or words word 0)))
-  by_offer : (words : List ℕ) (views : List View) (i : ℕ) (v : View) (b : Block) → IsReached k start words views → i < length views → get_or views i v ≡ v
+  by_offer : (words : List ℕ) (views : List View) (i : ℕ) (v : View) (b : Block) → IsReached k start words views → i < length views
+      → get_or views i v ≡ v
       → MayHand v → IsHeld v b → IsReached k start words (set views i (offered v b.first_word) ++ carrier_of v b.first_word ∷ [])
   by_accept : (words : List ℕ) (old new : List View) (v u : View) → IsReached k start words old → Contains old v → Contains old u
       → MayHand v → IsCarrier u → AreOneLess old new v u (accepted v u) → IsReached k start words new

@@ -55,8 +55,10 @@ module _ (old new : Image) (to : RecoversTo old new) (maps : List (BTreeMap ℕ 
       any_root _ (is_linked a from position kind at reached listed is) =
           is_linked a from position kind at (more_roots old (kinds_of old) dict_links (λ root c. tt) a from reached) listed is
 
-  others_reach : (b : Block) (kind : ℕ) → ReachFrom old IsOtherRoot (kinds_of old) dict_links b kind → ReachFrom new IsOtherRoot (kinds_of new) dict_links b kind
-  others_reach b kind reached = reach_by_kinds new (kinds_of old) (kinds_of new) dict_links (λ root below. sym (kinds_kept old new to root below)) b kind
+  others_reach : (b : Block) (kind : ℕ) → ReachFrom old IsOtherRoot (kinds_of old) dict_links b kind
+      → ReachFrom new IsOtherRoot (kinds_of new) dict_links b kind
+  others_reach b kind reached = reach_by_kinds new (kinds_of old) (kinds_of new) dict_links
+      (λ root below. sym (kinds_kept old new to root below)) b kind
       (reach_kept old new IsOtherRoot (kinds_of old) dict_links others_alike b kind reached)
 
   -- the whole map of the image is that of the words
@@ -87,7 +89,8 @@ module _ (old new : Image) (to : RecoversTo old new) (maps : List (BTreeMap ℕ 
           let more = leaves.full.move_cause worker low before later key target is in
           omega (arith, more, (to.recovered.same capacity_word (in_header capacity_word (inr (inr (inl refl))))), used_stays);
       no_table = λ key target there.
-          sym (roots_unchanged old new (kinds_of old) dict_links to.recovered (shard_of target) (let small : shard_of target < shards = mod-lt target (omega arith) in omega (arith, small)))
+          sym (roots_unchanged old new (kinds_of old) dict_links to.recovered (shard_of target)
+          (let small : shard_of target < shards = mod-lt target (omega arith) in omega (arith, small)))
           ∙ leaves.full.no_table key target there;
       alike = leaves.full.alike;
     };
@@ -97,7 +100,8 @@ module _ (old new : Image) (to : RecoversTo old new) (maps : List (BTreeMap ℕ 
         all = λ going whole is. leaves.maps.have_arrived.all going whole (whole_of_words whole is);
         none = leaves.maps.have_arrived.none;
       };
-      each = λ whole is_whole shard map below is. leaves.maps.each whole (whole_of_words whole is_whole) shard map below (map_of_words shard map below is);
+      each = λ whole is_whole shard map below is. leaves.maps.each whole (whole_of_words whole is_whole) shard map below
+          (map_of_words shard map below is);
     };
     header = record {
       well_formed = leaves.header.well_formed;
@@ -105,12 +109,14 @@ module _ (old new : Image) (to : RecoversTo old new) (maps : List (BTreeMap ℕ 
       capacity = leaves.header.capacity ∙ (to.recovered.same capacity_word (in_header capacity_word (inr (inr (inl refl)))));
       kinds = λ root below. leaves.header.kinds root below ∙ kinds_kept old new to root below;
       without_meaning = λ word reserved.
-          leaves.header.without_meaning word (subst (λ n. IsReserved n word) (sym (to.recovered.same capacity_word (in_header capacity_word (inr (inr (inl refl)))))) reserved)
+          leaves.header.without_meaning word (subst (λ n. IsReserved n word)
+          (sym (to.recovered.same capacity_word (in_header capacity_word (inr (inr (inl refl)))))) reserved)
           ∙ to.recovered.same word (is_reserved word reserved);
     };
     others = record {
       nothing_outside = leaves.others.nothing_outside;
-      roots_are = λ root other below. leaves.others.roots_are root other below ∙ roots_unchanged old new (kinds_of old) dict_links to.recovered root below;
+      roots_are = λ root other below. leaves.others.roots_are root other below
+          ∙ roots_unchanged old new (kinds_of old) dict_links to.recovered root below;
       blocks_are = λ b kind word reached within.
           leaves.others.blocks_are b kind word (others_reach b kind reached) within
           ∙ words_unchanged old new (kinds_of old) dict_links to.recovered b word
@@ -125,7 +131,8 @@ module _ (old new : Image) (to : RecoversTo old new) (maps : List (BTreeMap ℕ 
     orderly = leaves.orderly;
   }
 
-  pub runs_carried : (requests : List Request) (options : Options) (put text : List ℕ) → RunsRequests new requests options put text → RunsRequests old requests options put text
+  pub runs_carried : (requests : List Request) (options : Options) (put text : List ℕ) → RunsRequests new requests options put text
+      → RunsRequests old requests options put text
   runs_carried requests options put text runs = record {
     told = runs.told;
     stopped = runs.stopped;

@@ -1,4 +1,5 @@
--- An image that a command leaves is recovered: its header is never refused, nor what points nowhere where nothing does, and no shard of what a run leaves is.
+-- An image that a command leaves is recovered: its header is never refused, nor what points nowhere where nothing does,
+-- and no shard of what a run leaves is.
 use Rattle.std.proofs.Common.{◌≡◌, ◌↔◌, ℕ, List, length, slice_index, Some, subst}
 use Rattle.heap_model.specs.declared.block.Block.{Block}
 use Rattle.heap_model.specs.Geometry.{clean, version, version_word}
@@ -26,7 +27,8 @@ use Rattle.image_run.specs.Reporting.{IsKept, PointsOutside, Recovers, IsRecover
 module _ (words kinds : List ℕ) (is_new : slice_index words version_word ≡ version) where
   pub recovery_of_words : (answer : Recovered)
       → AreAscending (λ (b : Block). b.first_word) (IsKept (slice_index (current_words words kinds))) answer.heap.held
-      → AreAscending (λ d. d) (IsFreeSuperblock (layout_of (slice_index (current_words words kinds))) (IsKept (slice_index (current_words words kinds)))) answer.free.items
+      → AreAscending (λ d. d) (IsFreeSuperblock (layout_of (slice_index (current_words words kinds)))
+      (IsKept (slice_index (current_words words kinds)))) answer.free.items
       → IsRecovered (slice_index (current_words words kinds)) (slice_index answer.heap.words) (IsKept (slice_index (current_words words kinds)))
       → ((answer.was ≡ Clean) ↔ (state_of (slice_index words) ≡ clean)) → HasKindsBelow (Some kind_count) (slice_index answer.heap.words)
       → IsRecoveredHeap (slice_index words) answer
@@ -55,7 +57,8 @@ told_fault words kinds is_new fault at value is tells =
     told_outside words kinds is_new at value why.1 why.2
 
 -- no shard is refused
-pub shard_good : (words : List ℕ) (new : Image) (shard at : ℕ) → CanBeRun (length words) (slice_index words) → RecoversTo (slice_index words) new → TellsLowest new (BadShard shard at) → ⊥
+pub shard_good : (words : List ℕ) (new : Image) (shard at : ℕ) → CanBeRun (length words) (slice_index words)
+    → RecoversTo (slice_index words) new → TellsLowest new (BadShard shard at) → ⊥
 shard_good words new shard at accepted to tells =
     let map = accepted.maps.each shard tells.0 in
     no_bad_shard (slice_index words) shard at map.0 map.1 (bad_kept (slice_index words) new to shard at tells.0 tells.1)

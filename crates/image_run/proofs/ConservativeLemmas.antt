@@ -19,7 +19,8 @@ use Rattle.image_run.specs.Conservative.{IsHeapText, TellsByWords}
 -- the text on the heap is that on the image, where these have one capacity and one state
 pub same_unkeyed_text : (image : Image) (recovered : Recovered) (with_map : Bool) (text : List ℕ)
     → capacity_of (slice_index recovered.heap.words) ≡ capacity_of image → ((recovered.was ≡ Clean) ↔ (state_of image ≡ clean))
-    → IsHeapText recovered with_map text → text ≡ shown_text image with_map [] recovered.heap.held recovered.free.items (slice_index recovered.heap.words)
+    → IsHeapText recovered with_map text → text ≡ shown_text image with_map [] recovered.heap.held recovered.free.items
+    (slice_index recovered.heap.words)
 same_unkeyed_text image recovered with_map text capacity was told =
     let new = slice_index recovered.heap.words in
     let map : List ℕ = if with_map then map_of new recovered.heap.held recovered.free.items else [] in
@@ -29,7 +30,8 @@ same_unkeyed_text image recovered with_map text capacity was told =
     ∙ ap (λ b. report_of (capacity_of image) b [] recovered.heap.held ++ map) (same_test recovered.was (state_of image) clean was)
 
 pub tells_by_words : (words : List ℕ) (recovered : Recovered) (with_map : Bool) (text : List ℕ)
-    → IsMadeOf words (IsReachedByWords (slice_index words)) recovered → IsHeapText recovered with_map text → TellsByWords (slice_index words) with_map text
+    → IsMadeOf words (IsReachedByWords (slice_index words)) recovered → IsHeapText recovered with_map text
+    → TellsByWords (slice_index words) with_map text
 tells_by_words words recovered with_map text made told = record {
   held = recovered.heap.held;
   free = recovered.free.items;
@@ -37,5 +39,6 @@ tells_by_words words recovered with_map text made told = record {
   held_are = made.held;
   free_are = made.free;
   words_are = made.recovered;
-  text_is = same_unkeyed_text (slice_index words) recovered with_map text (made.recovered.same capacity_word (in_header capacity_word (inr (inr (inl refl))))) made.was told;
+  text_is = same_unkeyed_text (slice_index words) recovered with_map text
+      (made.recovered.same capacity_word (in_header capacity_word (inr (inr (inl refl))))) made.was told;
 }

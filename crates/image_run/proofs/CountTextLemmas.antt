@@ -17,7 +17,8 @@ module _ (words : List ℕ) (opened : Quick) (with_map : Bool) (text : List ℕ)
   abbrev image : Image
   image = slice_index words
 
-  told_by_anchors : opened.path ≡ ByAnchors → IsOrderlyImage words → IsReopenedAs words (IsHeldByAnchors image) opened.recovered → TellsOpened words with_map text
+  told_by_anchors : opened.path ≡ ByAnchors → IsOrderlyImage words → IsReopenedAs words (IsHeldByAnchors image) opened.recovered
+      → TellsOpened words with_map text
   told_by_anchors way orderly made = by_anchors orderly (record {
     held = opened.recovered.heap.held;
     free = opened.recovered.free.items;
@@ -31,7 +32,8 @@ module _ (words : List ℕ) (opened : Quick) (with_map : Bool) (text : List ℕ)
         (made.reopened.same capacity_word (in_header capacity_word (inr (inr (inl refl))))) (λ is. orderly.closed, λ is. made.was) told.is_report);
   })
 
-  told_by_trace : opened.path ≡ Traced → ¬ (IsOrderlyImage words) → ((at : ℕ) → PointsOutside image at → ⊥) → IsMadeOf words (IsKept image) opened.recovered
+  told_by_trace : opened.path ≡ Traced → ¬ (IsOrderlyImage words) → ((at : ℕ) → PointsOutside image at → ⊥)
+      → IsMadeOf words (IsKept image) opened.recovered
       → TellsOpened words with_map text
   told_by_trace way disorderly none made = traced disorderly none (record {
     held = opened.recovered.heap.held;
@@ -47,7 +49,8 @@ module _ (words : List ℕ) (opened : Quick) (with_map : Bool) (text : List ℕ)
   })
 
   -- the text tells of the way that was taken
-  pub tells_opened : ((opened.path ≡ ByAnchors) ↔ IsOrderlyImage words) → (opened.path ≡ ByAnchors → IsReopenedAs words (IsHeldByAnchors image) opened.recovered)
+  pub tells_opened : ((opened.path ≡ ByAnchors) ↔ IsOrderlyImage words)
+      → (opened.path ≡ ByAnchors → IsReopenedAs words (IsHeldByAnchors image) opened.recovered)
       → (opened.path ≡ Traced → IsMadeOf words (IsKept image) opened.recovered)
       → (opened.path ≡ Traced → (at : ℕ) → PointsOutside image at → ⊥) → TellsOpened words with_map text
   tells_opened path quick made none = go opened.path refl

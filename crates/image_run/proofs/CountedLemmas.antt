@@ -146,7 +146,8 @@ module _ (words : List ℕ) (with_map : Bool) (text : List ℕ) (orderly : IsOrd
   told_as_recovered (traced not_orderly inside told) = absurd (not_orderly orderly)
 
 -- and so it is of what a run closes
-module _ (image : Image) (requests : List Request) (options : Options) (put told : List ℕ) (have : HasMaps image) (run : RunsRequests image requests options put told)
+module _ (image : Image) (requests : List Request) (options : Options) (put told : List ℕ) (have : HasMaps image)
+    (run : RunsRequests image requests options put told)
     (closed : run.stopped ≡ false) where
   abbrev words : List ℕ
   words = current_words (words_in_bytes put) first_kinds

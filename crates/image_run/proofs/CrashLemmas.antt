@@ -33,19 +33,30 @@ first_owns held seats some = record {
 }
 
 -- what the core does is what the seats do
-pub ended : (words : List ℕ) (held : List Block) (seats : ℕ) (lines : List (ℕ × Event)) (block_owners root_owners : List ℕ) (events : List (ℕ × Event)) (answers : List StepAnswer)
+pub ended : (words : List ℕ) (held : List Block) (seats : ℕ) (lines : List (ℕ × Event)) (block_owners root_owners : List ℕ)
+    (events : List (ℕ × Event)) (answers : List StepAnswer)
     (old new : CoreState) → block_owners ≡ replicate (length held) 0 → root_owners ≡ replicate roots 0 → events ≡ events_of lines
-    → Represents old (replay_setup words seats) (opened_state (replay_setup words seats) held block_owners root_owners seats) → RunsOn old events answers new
-    → (s : TableState) × Runs (replay_setup words seats) (replay_opening words held seats) (events_of lines) answers s × Represents new (replay_setup words seats) s
+    → Represents old (replay_setup words seats) (opened_state (replay_setup words seats) held block_owners root_owners seats)
+    → RunsOn old events answers new
+    → (s : TableState) × Runs (replay_setup words seats) (replay_opening words held seats) (events_of lines) answers s
+    × Represents new (replay_setup words seats) s
 ended words held seats lines block_owners root_owners events answers old new blocks_are roots_are events_are stands runs =
-    let here = subst (λ (l : List ℕ). Represents old (replay_setup words seats) (opened_state (replay_setup words seats) held l (replicate roots 0) seats)) blocks_are
-    (subst (λ (l : List ℕ). Represents old (replay_setup words seats) (opened_state (replay_setup words seats) held block_owners l seats)) roots_are stands) in
-    let ran = runs (replay_setup words seats) (replay_opening words held seats) here in
-    (ran.0, subst (λ (es : List (ℕ × Event)). Runs (replay_setup words seats) (replay_opening words held seats) es answers ran.0) events_are ran.1, ran.2)
+    let here = subst (λ (l : List ℕ). Represents old (replay_setup words seats)
+    (opened_state (replay_setup words seats) held l (replicate roots 0) seats)) blocks_are
+    (subst (λ (l : List ℕ). Represents old (replay_setup words seats) (opened_state (replay_setup words seats) held block_owners l seats))
+    roots_are stands) in
+    let ran = runs (replay_setup words seats) (replay_opening words held seats) here in (
+      ran.0,
+      subst (λ (es : List (ℕ × Event)). Runs (replay_setup words seats) (replay_opening words held seats) es answers ran.0)
+          events_are ran.1,
+      ran.2,
+    )
 
 -- and of the state that they come to it gives the tickets, and an image that a crash leaves
-pub replayed : (words : List ℕ) (held : List Block) (seats : ℕ) (lines : List (ℕ × Event)) (answers : List StepAnswer) (tickets : ℕ) (left : List ℕ) (new : CoreState)
-    → (s : TableState) × Runs (replay_setup words seats) (replay_opening words held seats) (events_of lines) answers s × Represents new (replay_setup words seats) s
+pub replayed : (words : List ℕ) (held : List Block) (seats : ℕ) (lines : List (ℕ × Event)) (answers : List StepAnswer) (tickets : ℕ)
+    (left : List ℕ) (new : CoreState)
+    → (s : TableState) × Runs (replay_setup words seats) (replay_opening words held seats) (events_of lines) answers s
+    × Represents new (replay_setup words seats) s
     → ((k : Setup) (s : TableState) → Represents new k s → tickets ≡ (memory_of k.capacity s.words).drawn)
     → ((k : Setup) (s : TableState) → Represents new k s → IsCrashImage (durable_image k.capacity s.words) (slice_index left))
     → ((k : Setup) (s : TableState) → Represents new k s → length left ≡ image_words k.capacity)
@@ -69,9 +80,11 @@ left_good words held seats lines answers tickets left ready below some is =
     (crash_header (replay_setup words seats) is.state.words is.state.views sound (slice_index left) is.left_is ready.formed (Some kind_count) below)
 
 -- and is of this version: an image of the old one has another number of words
-pub left_new : (capacity : ℕ) (left : List ℕ) → length left ≡ image_words capacity → header_fault (Some kind_count) (8 * length left) (slice_index left) ≡ None
+pub left_new : (capacity : ℕ) (left : List ℕ) → length left ≡ image_words capacity
+    → header_fault (Some kind_count) (8 * length left) (slice_index left) ≡ None
     → slice_index left version_word ≡ version
-left_new capacity left long good = elim (good_header (Some kind_count) (8 * length left) (slice_index left) good) as (λ _. slice_index left version_word ≡ version) [
-  | inl old ↦ absurd (let same = old.length_is in omega arith)
-  | inr new ↦ new.0.version_is
-]
+left_new capacity left long good = elim (good_header (Some kind_count) (8 * length left) (slice_index left) good) as
+    (λ _. slice_index left version_word ≡ version) [
+      | inl old ↦ absurd (let same = old.length_is in omega arith)
+      | inr new ↦ new.0.version_is
+    ]

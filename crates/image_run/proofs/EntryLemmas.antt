@@ -82,7 +82,8 @@ is_in P (m ∷ maps) entry each has = elim (Contains-append_cases m.entries (ent
       record { place = suc there.place; from = there.from; is = there.is; has = there.has }
 ]
 
-is_among : (maps : List KeyMap) (i : ℕ) (m : KeyMap) (entry : Entry) → slice_get maps i ≡ Some m → Contains m.entries entry → Contains (entries_of maps) entry
+is_among : (maps : List KeyMap) (i : ℕ) (m : KeyMap) (entry : Entry) → slice_get maps i ≡ Some m → Contains m.entries entry
+    → Contains (entries_of maps) entry
 is_among [] i m entry at has = let none : None ≡ Some m = at in absurd (cc)
 is_among (n ∷ maps) zero m entry at has =
     let found : Some n ≡ Some m = at in
@@ -109,7 +110,8 @@ apart P ordered across (m ∷ maps) each =
     let rest = others_are P m maps each in
     all_pairs_append (λ (x y : Entry). x.0 ≢ y.0) m.entries (entries_of maps) (apart_in m (ordered 0 m here))
     (apart (λ i. P (suc i)) (λ i. ordered (suc i)) (λ i j n o x y less. across (suc i) (suc j) n o x y (omega arith)) maps rest)
-    (λ x y in_m later. let there = is_in (λ i. P (suc i)) maps y rest later in across 0 (suc there.place) m there.from x y (omega arith) here there.is in_m there.has)
+    (λ x y in_m later. let there = is_in (λ i. P (suc i)) maps y rest later in
+    across 0 (suc there.place) m there.from x y (omega arith) here there.is in_m there.has)
 
 -- keys that are apart ascend strictly once they are sorted
 rising : (xs ys : Entries) → IsPermutation xs ys → IsNonDecreasingBy (λ (e : Entry). e.0) ys → AreApart xs → AllPairs (λ (x y : Entry). x.0 < y.0) ys
@@ -117,7 +119,8 @@ rising xs ys moved sorted once i j d before within =
     let key : Entry → ℕ = λ (e : Entry). e.0 in
     let keys_apart : AllPairs (λ x y. x ≢ y) (map (λ (e : Entry). e.0) xs) = λ s t k less below. λ same.
     let long = length-map xs (λ (e : Entry). e.0) in
-    once s t (k, []) less (omega arith) (sym (get_or-map (λ (e : Entry). e.0) xs s (k, []) k (omega arith)) ∙ same ∙ get_or-map (λ (e : Entry). e.0) xs t (k, []) k (omega arith)) in
+    once s t (k, []) less (omega arith) (sym (get_or-map (λ (e : Entry). e.0) xs s (k, []) k (omega arith)) ∙ same
+    ∙ get_or-map (λ (e : Entry). e.0) xs t (k, []) k (omega arith)) in
     let still : AllPairs (λ x y. x ≢ y) (map (λ (e : Entry). e.0) ys) =
     still_once (map (λ (e : Entry). e.0) xs) (map (λ (e : Entry). e.0) ys) (IsPermutation-map (λ (e : Entry). e.0) xs ys moved) keys_apart in
     let long = length-map ys (λ (e : Entry). e.0) in
@@ -138,7 +141,8 @@ module _ (image : Image) where
       | inl same ↦ same
       | inr other ↦
           let never : None ≡ Some value =
-          sym (cond-false (nat_eq (shard_of key) shard) (find image key (nodes (bucket_of key))) None (ne_eqb (shard_of key) shard other)) ∙ sym (means key) ∙ has in
+          sym (cond-false (nat_eq (shard_of key) shard) (find image key (nodes (bucket_of key))) None (ne_eqb (shard_of key) shard other))
+          ∙ sym (means key) ∙ has in
           absurd (cc)
     ]
 
@@ -168,7 +172,13 @@ module _ (image : Image) where
     is_entry : (entry : Entry) → Contains (entries_of maps) entry → IsEntryOf image entry
     is_entry entry has =
         let there = is_in IsRead maps entry each has in
-        record { shard = there.place; below = there.is.below; keys = get nat_cmp there.from; keys_are = there.is.means; has = found there.place there.from entry there.is there.has }
+        record {
+          shard = there.place;
+          below = there.is.below;
+          keys = get nat_cmp there.from;
+          keys_are = there.is.means;
+          has = found there.place there.from entry there.is there.has;
+        }
 
     is_told : (entry : Entry) → IsEntryOf image entry → Contains (entries_of maps) entry
     is_told entry is =
@@ -179,7 +189,8 @@ module _ (image : Image) where
 
     pub entries_ascend : (entries : Entries) → AreEntries maps entries → AreAscending (λ (e : Entry). e.0) (IsEntryOf image) entries
     entries_ascend entries sorted = record {
-      sound = λ entry has. is_entry entry (Contains-permutation entries (entries_of maps) entry (IsPermutation-sym (entries_of maps) entries sorted.all) has);
+      sound = λ entry has. is_entry entry (Contains-permutation entries (entries_of maps) entry
+          (IsPermutation-sym (entries_of maps) entries sorted.all) has);
       complete = λ entry is. Contains-permutation (entries_of maps) entries entry sorted.all (is_told entry is);
       ascending = rising (entries_of maps) entries sorted.all sorted.ascending (apart IsRead (λ i m read. read.ordered) across maps each);
     }

@@ -31,7 +31,8 @@ seats_below n (line ∷ lines) below e has = elim (Contains-append_cases (events
   first = below line (0, omega arith, refl)
 
 -- each event has an answer
-pub answered : (k : Setup) (s s' : TableState) (events : List Line) (answers : List StepAnswer) → Runs k s events answers s' → length answers ≡ length events
+pub answered : (k : Setup) (s s' : TableState) (events : List Line) (answers : List StepAnswer) → Runs k s events answers s'
+    → length answers ≡ length events
 answered k s s' [] [] runs = refl
 answered k s s' [] (answer ∷ answers) runs = absurd runs
 answered k s s' (e ∷ events) [] runs = absurd runs

@@ -8,7 +8,8 @@ use Rattle.heap_recover.proofs.AscendingLemmas.{ascending_one}
 use Rattle.heap_recover.proofs.OutcomeLemmas.{one_word}
 use Rattle.image_run.specs.Reporting.{IsKept, Recovers}
 
-module _ (image words other : Image) (held again : List Block) (free freed : List ℕ) (is : Recovers image held free words) (too : Recovers image again freed other) where
+module _ (image words other : Image) (held again : List Block) (free freed : List ℕ) (is : Recovers image held free words)
+    (too : Recovers image again freed other) where
   pub one_held : again ≡ held
   one_held = ascending_one (λ (b : Block). b.first_word) (IsKept image) (IsKept image) again held (λ b h. h) (λ b h. h) too.held_are is.held_are
 

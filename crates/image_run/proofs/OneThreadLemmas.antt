@@ -33,7 +33,8 @@ module _ (image : Image) (requests : List Request) (options : Options) (put text
   pub run_room : HasMaps image → (run : RunsRequests image requests options put text) → used_of image + superblocks_needed requests ≤ capacity_of image
       → NoneIsFull (replies_of run.told)
   run_room have run enough =
-      room_for_all image options.workers requests (replies_of run.told) run.leaves.worked.worked.some have run.leaves.answers run.leaves.replies run.leaves.full enough
+      room_for_all image options.workers requests (replies_of run.told)
+      run.leaves.worked.worked.some have run.leaves.answers run.leaves.replies run.leaves.full enough
 
 -- each reply is told in one way
 told_of : Option Reply → Told
@@ -56,7 +57,8 @@ all_back [] = refl
 all_back (t ∷ ts) = ap (λ x. x ∷ map told_of (replies_of ts)) (told_back t) ∙ ap (λ xs. t ∷ xs) (all_back ts)
 
 module _ (image : Image) (requests : List Request) (options others : Options) (put text saved shown : List ℕ) (have : HasMaps image)
-    (run : RunsRequests image requests options put text) (other : RunsRequests image requests others saved shown) (ended : run.stopped ≡ false) (also : other.stopped ≡ false)
+    (run : RunsRequests image requests options put text) (other : RunsRequests image requests others saved shown) (ended : run.stopped ≡ false)
+    (also : other.stopped ≡ false)
     (none_full : NoneIsFull (replies_of run.told)) (none_either : NoneIsFull (replies_of other.told)) where
   one : IsAsOneThread image requests (replies_of run.told) (slice_index run.left)
   one = run_thread image requests options put text have run ended none_full
@@ -67,7 +69,8 @@ module _ (image : Image) (requests : List Request) (options others : Options) (p
   pub told_alike : other.told ≡ run.told
   told_alike =
       sym (all_back other.told)
-      ∙ ap (map told_of) (same_replies image (slice_index run.left) (slice_index other.left) requests (replies_of run.told) (replies_of other.told) one two)
+      ∙ ap (map told_of) (same_replies image (slice_index run.left) (slice_index other.left) requests (replies_of run.told)
+      (replies_of other.told) one two)
       ∙ all_back run.told
 
   pub left_alike : (whole : Map) → IsWholeMap (slice_index run.left) whole → IsWholeMap (slice_index other.left) whole

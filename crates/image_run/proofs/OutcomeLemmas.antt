@@ -20,7 +20,8 @@ use Rattle.dict_model.specs.Links.{dict_links}
 use Rattle.image_run.specs.Reporting.{IsKept, PointsOutside, TellsHeap}
 use Rattle.image_run.specs.Replaying.{events_of, last_answers, replay_setup, replay_opening, IsReplayed, Replays, LeavesOutside}
 
-module _ (words : List ℕ) (held : List Block) (seats : ℕ) (lines : List (ℕ × Event)) (answers answers' : List StepAnswer) (tickets tickets' : ℕ) (left left' : List ℕ)
+module _ (words : List ℕ) (held : List Block) (seats : ℕ) (lines : List (ℕ × Event)) (answers answers' : List StepAnswer) (tickets tickets' : ℕ)
+    (left left' : List ℕ)
     (is : IsReplayed words held seats lines answers tickets left) (too : IsReplayed words held seats lines answers' tickets' left') where
   one : (answers ≡ answers') × (is.state ≡ too.state)
   one = one_run (replay_setup words seats) (replay_opening words held seats) is.state too.state (events_of lines) answers answers' is.runs too.runs
@@ -33,10 +34,12 @@ module _ (words : List ℕ) (held : List Block) (seats : ℕ) (lines : List (ℕ
 
   -- both images are what a crash may leave of one state
   left_too : IsCrashImage (durable_image (capacity_of (slice_index words)) is.state.words) (slice_index left')
-  left_too = subst (λ (s : TableState). IsCrashImage (durable_image (capacity_of (slice_index words)) s.words) (slice_index left')) (sym one.1) too.left_is
+  left_too = subst (λ (s : TableState). IsCrashImage (durable_image (capacity_of (slice_index words)) s.words) (slice_index left'))
+      (sym one.1) too.left_is
 
   pub one_outside : (at : ℕ) → PointsOutside (slice_index left) at → PointsOutside (slice_index left') at × (slice_index left' at ≡ slice_index left at)
-  one_outside = same_outside_in (durable_image (capacity_of (slice_index words)) is.state.words) (slice_index left) (slice_index left') is.left_is left_too dict_links
+  one_outside = same_outside_in (durable_image (capacity_of (slice_index words)) is.state.words) (slice_index left)
+      (slice_index left') is.left_is left_too dict_links
 
   -- they are recovered to the same blocks, so the report on them is one
   kept_too : (image other : Image) → IsCrashImage (durable_image (capacity_of (slice_index words)) is.state.words) image
@@ -51,7 +54,8 @@ module _ (words : List ℕ) (held : List Block) (seats : ℕ) (lines : List (ℕ
       let durable = durable_image (capacity_of (slice_index words)) is.state.words in
       let held : tells'.held ≡ tells.held =
       ascending_one (λ (b : Block). b.first_word) (IsKept (slice_index left')) (IsKept (slice_index left)) tells'.held tells.held
-      (kept_too (slice_index left') (slice_index left) left_too is.left_is) (kept_too (slice_index left) (slice_index left') is.left_is left_too) tells'.recovered.held_are tells.recovered.held_are in
+      (kept_too (slice_index left') (slice_index left) left_too is.left_is)
+      (kept_too (slice_index left) (slice_index left') is.left_is left_too) tells'.recovered.held_are tells.recovered.held_are in
       let capacity : capacity_of (slice_index left') ≡ capacity_of (slice_index left) =
       ap (λ (l : Layout). l.capacity) (same_layout durable (slice_index left) (slice_index left') is.left_is left_too) in
       let state : state_of (slice_index left') ≡ state_of (slice_index left) = left_too.state ∙ sym is.left_is.state in
@@ -62,11 +66,13 @@ module _ (words : List ℕ) (held : List Block) (seats : ℕ) (lines : List (ℕ
       ∙ sym tells.text_is
 
 -- so a replay prints one text
-pub one_text : (words : List ℕ) (held : List Block) (seats : ℕ) (lines : List (ℕ × Event)) (text text' : List ℕ) → Replays words held seats lines text → Replays words held seats lines text' → text' ≡ text
+pub one_text : (words : List ℕ) (held : List Block) (seats : ℕ) (lines : List (ℕ × Event)) (text text' : List ℕ)
+    → Replays words held seats lines text → Replays words held seats lines text' → text' ≡ text
 one_text words held seats lines text text' is too =
     let answers = one_answers words held seats lines is.answers too.answers is.tickets too.tickets is.left too.left is.replayed too.replayed in
     let tickets = one_tickets words held seats lines is.answers too.answers is.tickets too.tickets is.left too.left is.replayed too.replayed in
-    let report = one_report words held seats lines is.answers too.answers is.tickets too.tickets is.left too.left is.replayed too.replayed is.report too.report is.tells too.tells in
+    let report = one_report words held seats lines is.answers too.answers is.tickets too.tickets is.left too.left is.replayed too.replayed
+    is.report too.report is.tells too.tells in
     too.text_is
     ∙ ap (λ (l : List StepAnswer). answers_text_of (last_answers lines l) ++ tickets_line_of too.tickets ++ too.report) answers
     ∙ ap (λ n. answers_text_of (last_answers lines is.answers) ++ tickets_line_of n ++ too.report) tickets
@@ -74,7 +80,8 @@ one_text words held seats lines text text' is too =
     ∙ sym is.text_is
 
 -- where a replay leaves a word outside, each image that the crash may leave has it, with its value
-pub left_in_each : (words : List ℕ) (held : List Block) (seats : ℕ) (lines : List (ℕ × Event)) (at value : ℕ) → LeavesOutside words held seats lines at value
+pub left_in_each : (words : List ℕ) (held : List Block) (seats : ℕ) (lines : List (ℕ × Event)) (at value : ℕ)
+    → LeavesOutside words held seats lines at value
     → (answers : List StepAnswer) (tickets : ℕ) (left : List ℕ) → IsReplayed words held seats lines answers tickets left
     → PointsOutside (slice_index left) at × (slice_index left at ≡ value)
 left_in_each words held seats lines at value leaves answers tickets left is =

@@ -23,7 +23,8 @@ pub image_of_words : (words bytes : List ℕ) → AreWordsOf words bytes → sli
 image_of_words words bytes are = λ at i. are.word i at
 
 -- so bytes of words with a good header are not malformed
-pub good_bytes : (words bytes : List ℕ) → AreWordsOf words bytes → header_fault (Some kind_count) (8 * length words) (slice_index words) ≡ None → fault_of bytes ≡ None
+pub good_bytes : (words bytes : List ℕ) → AreWordsOf words bytes → header_fault (Some kind_count) (8 * length words) (slice_index words) ≡ None
+    → fault_of bytes ≡ None
 good_bytes words bytes are good =
     subst (λ n. header_fault (Some kind_count) n (image_of_bytes bytes) ≡ None) are.count
     (subst (λ (image : Image). header_fault (Some kind_count) (8 * length words) image ≡ None) (image_of_words words bytes are) good)
@@ -39,9 +40,11 @@ words_are_in words bytes are =
 -- words of this version are the image in their bytes
 pub image_in_words : (words bytes : List ℕ) → AreWordsOf words bytes → slice_index words version_word ≡ version → image_in bytes ≡ slice_index words
 image_in_words words bytes are is_new =
-    ap (λ (ws : List ℕ). slice_index (current_words ws first_kinds)) (words_are_in words bytes are) ∙ ap slice_index (current_of_new words first_kinds is_new)
+    ap (λ (ws : List ℕ). slice_index (current_words ws first_kinds)) (words_are_in words bytes are)
+    ∙ ap slice_index (current_of_new words first_kinds is_new)
 
-module _ (image : Image) (requests : List Request) (options : Options) (put text : List ℕ) (have : HasMaps image) (runs : RunsRequests image requests options put text) where
+module _ (image : Image) (requests : List Request) (options : Options) (put text : List ℕ) (have : HasMaps image)
+    (runs : RunsRequests image requests options put text) where
   pub left_again : CanBeRun (length runs.left) (slice_index runs.left)
   left_again =
       can_be_run image (slice_index runs.left) options.workers requests (replies_of runs.told) runs.stopped (length runs.left) have
@@ -60,7 +63,8 @@ module _ (image : Image) (requests : List Request) (options : Options) (put text
   put_maps = put_again.maps
 
   -- where the run wasn't stopped, its own anchors tell what is reached
-  pub put_orderly : runs.stopped ≡ false → IsOrderly (Some kind_count) (length put) (image_in put) × ((b : Block) → IsHeldByAnchors (image_in put) b ↔ IsKept (image_in put) b)
+  pub put_orderly : runs.stopped ≡ false → IsOrderly (Some kind_count) (length put) (image_in put)
+      × ((b : Block) → IsHeldByAnchors (image_in put) b ↔ IsKept (image_in put) b)
   put_orderly closed =
       let same = sym (image_in_words runs.left put runs.words_are left_again.version_is) in
       let left : IsOrderly (Some kind_count) (length put) (slice_index runs.left) =

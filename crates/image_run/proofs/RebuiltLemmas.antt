@@ -42,7 +42,8 @@ module _ (old new : List ℕ) (held : List Block) (is : IsRecoveryOf (Some kind_
   -- it was done
   pub rebuilt_done : (budget : ℕ) (now : List ℕ) (v w : View) → w.volatile ≡ now → HoldsDurably new w → v.budget ≡ budget → v.drawn ≡ 0
       → w.drawn ≡ v.drawn + steps_between (slice_index old) (slice_index new) (length old) → w.drawn ≤ v.budget
-      → ((image : Image) → Mixes (slice_index w.volatile) (slice_index w.durable) image → RecoversAlike (Some kind_count) (8 * length old) (slice_index old) image dict_links)
+      → ((image : Image) → Mixes (slice_index w.volatile) (slice_index w.durable) image
+      → RecoversAlike (Some kind_count) (8 * length old) (slice_index old) image dict_links)
       → IsRebuilt (slice_index old) (length old) budget false now
   rebuilt_done budget now v w now_is has limit none drew below mixed =
       let same : now ≡ new = sym now_is ∙ has.volatile in
@@ -62,11 +63,13 @@ module _ (old new : List ℕ) (held : List Block) (is : IsRecoveryOf (Some kind_
   -- it was stopped, and the image is one that a crash leaves
   pub rebuilt_cut : (budget ticket : ℕ) (kept left : List ℕ) (v w : View) → w.durable ≡ kept → IsBetween old new w → v.budget ≡ budget → v.drawn ≡ 0
       → v.stopped ≡ None → IsStoppedAt old new (steps_between (slice_index old) (slice_index new) (length old)) ticket v w
-      → ((image : Image) → IsCrashImage (slice_index w.durable) image → RecoversAlike (Some kind_count) (8 * length old) (slice_index old) image dict_links)
+      → ((image : Image) → IsCrashImage (slice_index w.durable) image
+      → RecoversAlike (Some kind_count) (8 * length old) (slice_index old) image dict_links)
       → IsCrashImage (slice_index kept) (slice_index left) → length left ≡ length kept → length w.durable ≡ length w.volatile
       → IsRebuilt (slice_index old) (length old) budget true left
   rebuilt_cut budget ticket kept left v w kept_is between limit none going stopped crash is_crash long lengths =
-      let crashed : IsCrashImage (slice_index w.durable) (slice_index left) = subst (λ (ws : List ℕ). IsCrashImage (slice_index ws) (slice_index left)) (sym kept_is) is_crash in
+      let crashed : IsCrashImage (slice_index w.durable) (slice_index left) =
+      subst (λ (ws : List ℕ). IsCrashImage (slice_index ws) (slice_index left)) (sym kept_is) is_crash in
       record {
         new = new;
         recovered = is.words_are;
@@ -80,7 +83,8 @@ module _ (old new : List ℕ) (held : List Block) (is : IsRecoveryOf (Some kind_
           at = stopped.reached.at;
           steps = let steps = stopped.reached.steps going in omega arith;
           rest = λ word past other lasts.
-              crashed.others word other (λ lost. lasts (subst (λ c. IsTransient c word) (durable_capacity w between) lost)) ∙ stopped.reached.rest_durable word past;
+              crashed.others word other (λ lost. lasts (subst (λ c. IsTransient c word) (durable_capacity w between) lost))
+              ∙ stopped.reached.rest_durable word past;
         };
         others = λ word other lasts.
             let same = crashed.others word other (λ lost. lasts (subst (λ c. IsTransient c word) (durable_capacity w between) lost)) in
@@ -91,9 +95,11 @@ module _ (old new : List ℕ) (held : List Block) (is : IsRecoveryOf (Some kind_
       }
 
 -- what a memory left that took the steps of a rebuild, done
-pub left_done : {One : Type 0} (gives : Gives One) (chance : One) (old new left : List ℕ) (held : List Block) (budget : ℕ) (before after : PlainMemory One)
+pub left_done : {One : Type 0} (gives : Gives One) (chance : One) (old new left : List ℕ) (held : List Block) (budget : ℕ)
+    (before after : PlainMemory One)
     → IsRecoveryOf (Some kind_count) old dict_links new held → view_of before ≡ opened old budget → chance_of before ≡ chance
-    → IsDoneBy view_of (DrawsBy gives) (steps_in (slice_index old) (slice_index new) (length old / 8)) before after → HoldsDurably new (view_of after) → left ≡ (view_of after).volatile
+    → IsDoneBy view_of (DrawsBy gives) (steps_in (slice_index old) (slice_index new) (length old / 8)) before after
+    → HoldsDurably new (view_of after) → left ≡ (view_of after).volatile
     → IsLeftBySteps gives chance (slice_index old) budget false left
 left_done gives chance old new left held budget before after is opens has steps holds seen = record {
   words = old;
@@ -112,7 +118,8 @@ left_done gives chance old new left held budget before after is opens has steps 
 }
 
 -- and stopped
-pub left_cut : {One : Type 0} (gives : Gives One) (chance : One) (old new kept left : List ℕ) (held : List Block) (budget ticket : ℕ) (before after : PlainMemory One)
+pub left_cut : {One : Type 0} (gives : Gives One) (chance : One) (old new kept left : List ℕ) (held : List Block) (budget ticket : ℕ)
+    (before after : PlainMemory One)
     → IsRecoveryOf (Some kind_count) old dict_links new held → view_of before ≡ opened old budget → chance_of before ≡ chance
     → IsCutOffIn view_of (DrawsBy gives) (steps_in (slice_index old) (slice_index new) (length old / 8)) ticket before after
     → (view_of after).durable ≡ kept → length kept ≡ length old → IsCrashImage (slice_index kept) (slice_index left) → length left ≡ length kept
@@ -151,4 +158,5 @@ module _ (image : Image) (count budget : ℕ) (put text : List ℕ) (is : Rebuil
   pub rebuilt_alike : RecoversAlike (Some kind_count) (length put) image (image_in put) dict_links
   rebuilt_alike =
       subst (λ n. RecoversAlike (Some kind_count) n image (image_in put) dict_links) long
-      (subst (λ (i : Image). RecoversAlike (Some kind_count) (8 * count) image i dict_links) (sym (image_in_words is.left put is.words_are is.rebuilt.alike.formed.version_is)) is.rebuilt.alike)
+      (subst (λ (i : Image). RecoversAlike (Some kind_count) (8 * count) image i dict_links)
+      (sym (image_in_words is.left put is.words_are is.rebuilt.alike.formed.version_is)) is.rebuilt.alike)

@@ -13,7 +13,8 @@ use Rattle.image_run.specs.Rebuilding.{IsLeftBySteps}
 
 module _ {C : Type 0} (gives : Gives C) (even : (old new : C) (number : ℕ) → gives old number new → number % 2 ≢ 1) where
   -- stores and write-backs leave what is durable
-  steps_stay : (steps : List Step) (from to : PlainMemory C) → TakesAll view_of (DrawsBy gives) from steps to → (view_of to).durable ≡ (view_of from).durable
+  steps_stay : (steps : List Step) (from to : PlainMemory C) → TakesAll view_of (DrawsBy gives) from steps to
+      → (view_of to).durable ≡ (view_of from).durable
   steps_stay [] from to took = ap (λ (m : PlainMemory C). (view_of m).durable) took
   steps_stay (store word value ∷ steps) from to took =
       steps_stay steps took.0 to took.2 ∙ took.1.done.durable ∙ even_settles_none took.1.number (view_of from) (even _ _ _ took.1.given)
@@ -21,13 +22,15 @@ module _ {C : Type 0} (gives : Gives C) (even : (old new : C) (number : ℕ) →
       steps_stay steps took.0 to took.2 ∙ took.1.done.durable ∙ even_settles_none took.1.number (view_of from) (even _ _ _ took.1.given)
 
   -- and so does a refusal
-  refusal_stays : (ticket : ℕ) (from to : PlainMemory C) → RefusesBy (DrawsBy gives from to) ticket (view_of from) (view_of to) → (view_of to).durable ≡ (view_of from).durable
+  refusal_stays : (ticket : ℕ) (from to : PlainMemory C) → RefusesBy (DrawsBy gives from to) ticket (view_of from) (view_of to)
+      → (view_of to).durable ≡ (view_of from).durable
   refusal_stays ticket from to (inl had) = ap (λ (v : View). v.durable) had.unchanged
   refusal_stays ticket from to (inr stops) =
       ap (λ (v : View). v.durable) stops.done ∙ even_settles_none stops.number (view_of from) (even _ _ _ stops.given)
 
   -- so a crash leaves what it would have left before
-  pub none_settled : (chance : C) (image : Image) (budget : ℕ) (left : List ℕ) → IsLeftBySteps gives chance image budget true left → IsCrashImage image (slice_index left)
+  pub none_settled : (chance : C) (image : Image) (budget : ℕ) (left : List ℕ) → IsLeftBySteps gives chance image budget true left
+      → IsCrashImage image (slice_index left)
   none_settled chance image budget left is = record {
     state = (is.durable refl).state;
     others = λ word other lasts.

@@ -29,13 +29,17 @@ same_test Dirty m n is = sym (ne_eqb m n (λ e. let yes : Dirty ≡ Clean = is.1
 same_text : (image : Image) (recovered : Recovered) (keys : List ℕ) (with_map : Bool) → IsRecoveredHeap image recovered
     → text_of recovered keys with_map ≡ shown_text image with_map keys recovered.heap.held recovered.free.items (slice_index recovered.heap.words)
 same_text image recovered keys with_map is =
-    let capacity : slice_index recovered.heap.words capacity_word ≡ image capacity_word = is.recovers.words_are.same capacity_word (in_header capacity_word (inr (inr (inl refl)))) in
+    let capacity : slice_index recovered.heap.words capacity_word ≡ image capacity_word =
+    is.recovers.words_are.same capacity_word (in_header capacity_word (inr (inr (inl refl)))) in
     let state : is_clean recovered.was ≡ nat_eq (state_of image) clean = same_test recovered.was (state_of image) clean is.was in
-    ap (λ n. report_of n (is_clean recovered.was) keys recovered.heap.held ++ (if with_map then map_of (slice_index recovered.heap.words) recovered.heap.held recovered.free.items else [])) capacity
-    ∙ ap (λ b. report_of (capacity_of image) b keys recovered.heap.held ++ (if with_map then map_of (slice_index recovered.heap.words) recovered.heap.held recovered.free.items else [])) state
+    ap (λ n. report_of n (is_clean recovered.was) keys recovered.heap.held ++
+    (if with_map then map_of (slice_index recovered.heap.words) recovered.heap.held recovered.free.items else [])) capacity
+    ∙ ap (λ b. report_of (capacity_of image) b keys recovered.heap.held ++
+    (if with_map then map_of (slice_index recovered.heap.words) recovered.heap.held recovered.free.items else [])) state
 
 -- so it is the report on the image, where the maps are those of the image
-pub reports : (image : Image) (recovered : Recovered) (maps : List (BTreeMap ℕ (List ℕ))) (with_sum with_map : Bool) (text : List ℕ) → IsRecoveredHeap image recovered
+pub reports : (image : Image) (recovered : Recovered) (maps : List (BTreeMap ℕ (List ℕ))) (with_sum with_map : Bool) (text : List ℕ)
+    → IsRecoveredHeap image recovered
     → AreMaps image shards maps → IsTextOf recovered maps with_sum with_map text → Reports image with_sum with_map text
 reports image recovered maps with_sum with_map text is are text_is =
     let told : TellsKeys (Some maps) with_sum text_is.keys = text_is.keys_are in
@@ -60,7 +64,8 @@ tells_heap image recovered text is report = record {
   words = slice_index recovered.heap.words;
   recovered = is.recovers;
   text_is = report.is
-      ∙ ap (λ (keys : List ℕ). report_of (capacity_of (slice_index recovered.heap.words)) (is_clean recovered.was) keys recovered.heap.held) report.tells
+      ∙ ap (λ (keys : List ℕ). report_of (capacity_of (slice_index recovered.heap.words)) (is_clean recovered.was) keys recovered.heap.held)
+      report.tells
       ∙ ap (λ n. report_of n (is_clean recovered.was) [] recovered.heap.held) capacity
       ∙ ap (λ b. report_of (capacity_of image) b [] recovered.heap.held) (same_test recovered.was (state_of image) clean is.was);
 } where

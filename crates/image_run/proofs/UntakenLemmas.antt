@@ -20,11 +20,18 @@ use Rattle.image_run.specs.Running.{Options, AreOpened, as_they_are, by_recovery
 use Rattle.image_run.proofs.PutLemmas.{image_in_words}
 
 -- recovery changes no word of a superblock that was never taken: the words that it links are those of blocks
-past_recovery : (old new : Image) (kept : Block → Type 0) → IsRecovered old new kept → (word : ℕ) → start_word (capacity_of old) (used_of old) ≤ word → new word ≡ old word
+past_recovery : (old new : Image) (kept : Block → Type 0) → IsRecovered old new kept → (word : ℕ)
+    → start_word (capacity_of old) (used_of old) ≤ word → new word ≡ old word
 past_recovery old new kept is word from = is.inside word (omega (arith, from)) (λ class d is_class partial linked.
     let spare = (is.chained class d is_class partial).sound word (but_last_in (is.chains d) word linked) in
     let begins = block_begins (layout_of old) spare.block d spare.index (words_of_class class) (blocks_of class)
-    (record { taken = partial.taken; begins = of_class class partial.info_is is_class; below = spare.is_block.below; at = spare.is_block.at; size = spare.is_block.size }) in
+    (record {
+      taken = partial.taken;
+      begins = of_class class partial.info_is is_class;
+      below = spare.is_block.below;
+      at = spare.is_block.at;
+      size = spare.is_block.size;
+    }) in
     let first = spare.first in
     let taken = partial.taken in
     omega (arith, from, first, begins.1, taken))
@@ -40,24 +47,31 @@ opened_past words _ (by_recovery image next to opened) =
     let used = to.recovered.same used_word (in_header used_word (inr (inr (inr refl)))) in (
       next_is.0 ∙ capacity,
       next_is.1 ∙ used,
-      λ word from. next_is.2 word (omega (arith, from, capacity, used)) ∙ past_recovery image next (IsReachedIn image dict_links) to.recovered word from,
+      λ word from. next_is.2 word (omega (arith, from, capacity, used))
+          ∙ past_recovery image next (IsReachedIn image dict_links) to.recovered word from,
     )
 
-module _ (image : Image) (requests : List Request) (options : Options) (put text : List ℕ) (run : RunsRequests image requests options put text) (ended : run.stopped ≡ false) where
-  left_past : (word : ℕ) → start_word (capacity_of image) (used_of (slice_index run.left)) ≤ word → word < superblocks_end (capacity_of image) → slice_index run.left word ≡ image word
+module _ (image : Image) (requests : List Request) (options : Options) (put text : List ℕ) (run : RunsRequests image requests options put text)
+    (ended : run.stopped ≡ false) where
+  left_past : (word : ℕ) → start_word (capacity_of image) (used_of (slice_index run.left)) ≤ word → word < superblocks_end (capacity_of image)
+      → slice_index run.left word ≡ image word
   left_past word from until =
       let over = run.leaves.worked in
       let worked = over.worked in
-      let closed : IsClosedImage (slice_index over.now) (slice_index run.left) = subst (λ b. IsLeftOf b over.now over.kept run.left) ended worked.left_is in
+      let closed : IsClosedImage (slice_index over.now) (slice_index run.left) =
+      subst (λ b. IsLeftOf b over.now over.kept run.left) ended worked.left_is in
       let used = closed.others used_word (λ e. omega arith) in
       let opened = opened_past over.words image over.opened in
       let capacity = opened.0 in
       let least = run.leaves.used.least in
-      let stays = never_taken (opening_for over.words over.held worked.owners options.workers options.budget) over.now over.kept (worked.views ++ worked.carriers) worked.ready worked.by_root.fits worked.reached
+      let stays = never_taken (opening_for over.words over.held worked.owners options.workers options.budget) over.now over.kept
+      (worked.views ++ worked.carriers) worked.ready worked.by_root.fits worked.reached
       word (omega (arith, from, used, capacity)) (omega (arith, until, capacity)) in
       closed.others word (λ e. omega (arith, from, e)) ∙ stays.0 ∙ opened.2 word (omega (arith, from, least))
 
-  pub never_taken_put : (word : ℕ) → start_word (capacity_of image) (used_of (image_in put)) ≤ word → word < superblocks_end (capacity_of image) → image_in put word ≡ image word
+  pub never_taken_put : (word : ℕ) → start_word (capacity_of image) (used_of (image_in put)) ≤ word → word < superblocks_end (capacity_of image)
+      → image_in put word ≡ image word
   never_taken_put =
-      subst (λ (left : Image). (word : ℕ) → start_word (capacity_of image) (used_of left) ≤ word → word < superblocks_end (capacity_of image) → left word ≡ image word)
+      subst (λ (left : Image). (word : ℕ) → start_word (capacity_of image) (used_of left) ≤ word → word < superblocks_end (capacity_of image)
+      → left word ≡ image word)
       (sym (image_in_words run.left put run.words_are run.leaves.header.version_is)) left_past

@@ -43,8 +43,10 @@ pub record TellsHeld (way : Path) (image : Image) (kept : Block → Type 0) (Lea
 -- the text on the image in these words: what its anchors hold where it is orderly, and else what its roots reach, none of which points outside
 pub data TellsOpened (words : List ℕ) (with_map : Bool) (text : List ℕ) : Type 0 where
   by_anchors : IsOrderlyImage words
-      → TellsHeld ByAnchors (slice_index words) (IsHeldByAnchors (slice_index words)) (λ new. IsReopened (slice_index words) new (IsHeldByAnchors (slice_index words))) with_map text
+      → TellsHeld ByAnchors (slice_index words) (IsHeldByAnchors (slice_index words))
+      (λ new. IsReopened (slice_index words) new (IsHeldByAnchors (slice_index words))) with_map text
       → TellsOpened words with_map text
   traced : ¬ (IsOrderlyImage words) → ((at : ℕ) → PointsOutside (slice_index words) at → ⊥)
-      → TellsHeld Traced (slice_index words) (IsKept (slice_index words)) (λ new. IsRecovered (slice_index words) new (IsKept (slice_index words))) with_map text
+      → TellsHeld Traced (slice_index words) (IsKept (slice_index words))
+      (λ new. IsRecovered (slice_index words) new (IsKept (slice_index words))) with_map text
       → TellsOpened words with_map text

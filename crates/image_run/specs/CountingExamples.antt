@@ -11,11 +11,13 @@ quick_line : way_line ByAnchors ≡ codes "quick" ++ line_feed
 quick_line = refl
 
 -- an empty image, closed
-empty_by_anchors : way_line ByAnchors ++ shown_text (formatted 1 []) false [] [] [] (formatted 1 []) ≡ codes "quick" ++ line_feed ++ codes "heap 1 clean" ++ line_feed
+empty_by_anchors : way_line ByAnchors ++ shown_text (formatted 1 []) false [] [] []
+    (formatted 1 []) ≡ codes "quick" ++ line_feed ++ codes "heap 1 clean" ++ line_feed
 unfolding digits classes
 empty_by_anchors = refl
 
 -- the same with a free list that leads to a superblock that has not been taken
-empty_traced : way_line Traced ++ shown_text (formatted 1 ((16, 1) ∷ [])) false [] [] [] (formatted 1 []) ≡ codes "traced" ++ line_feed ++ codes "heap 1 clean" ++ line_feed
+empty_traced : way_line Traced ++ shown_text (formatted 1 ((16, 1) ∷ [])) false [] [] []
+    (formatted 1 []) ≡ codes "traced" ++ line_feed ++ codes "heap 1 clean" ++ line_feed
 unfolding digits classes
 empty_traced = refl

@@ -16,7 +16,8 @@ never_without_a_step image count left is =
     omega arith
 
 -- with a budget of 1 one is done only where recovery changes no word
-changes_no_word : (image : Image) (count : ℕ) (left : List ℕ) (is : IsRebuilt image count 1 false left) → differences image (slice_index is.new) count ≡ 0
+changes_no_word : (image : Image) (count : ℕ) (left : List ℕ) (is : IsRebuilt image count 1 false left)
+    → differences image (slice_index is.new) count ≡ 0
 changes_no_word image count left is =
     let within : steps_between image (slice_index is.new) count ≤ 1 = is.within refl in
     omega arith
@@ -34,11 +35,14 @@ never_with_all_steps image count budget left is enough =
     omega arith
 
 -- with a budget of 0 a memory takes no step
-takes_none_without_a_step : {One : Type 0} (gives : Gives One) (chance : One) (image : Image) (left : List ℕ) (is : IsLeftBySteps gives chance image 0 true left)
+takes_none_without_a_step : {One : Type 0} (gives : Gives One) (chance : One) (image : Image) (left : List ℕ)
+    (is : IsLeftBySteps gives chance image 0 true left)
     → ((is.cut_off refl).1).taken ≡ []
-takes_none_without_a_step {One} gives chance image left is = none_taken ((is.cut_off refl).1).taken is.before ((is.cut_off refl).1).last is.is_opened ((is.cut_off refl).1).took
+takes_none_without_a_step {One} gives chance image left is = none_taken ((is.cut_off refl).1).taken is.before
+    ((is.cut_off refl).1).last is.is_opened ((is.cut_off refl).1).took
   where
-    none_taken : (steps : List Step) (from to : PlainMemory One) → view_of from ≡ opened is.words 0 → TakesAll view_of (DrawsBy gives) from steps to → steps ≡ []
+    none_taken : (steps : List Step) (from to : PlainMemory One) → view_of from ≡ opened is.words 0
+        → TakesAll view_of (DrawsBy gives) from steps to → steps ≡ []
     none_taken [] from to opens took = refl
     none_taken (step ∷ steps) from to opens took =
         let allowed = took.1.allowed in

@@ -44,10 +44,13 @@ abbrev pub rebuilt_line : Bool → List ℕ
 rebuilt_line true = codes "rebuild stopped" ++ line_feed
 rebuilt_line false = codes "rebuild done" ++ line_feed
 
--- The words that are left of an image by the steps that make it its recovery. A new memory of its words took them in their order, each with a number that this chance
--- gave then: all of them and a fence where that was not stopped, and what loads see is left. Else it took the first of them, and the image is one that a crash leaves
+-- The words that are left of an image by the steps that make it its recovery. A new memory of its words took them in
+-- their order, each with a number that this chance
+-- gave then: all of them and a fence where that was not stopped, and what loads see is left. Else it took the first of
+-- them, and the image is one that a crash leaves
 -- of what is then durable.
-pub record IsLeftBySteps {One : Type 0} (draw_gives : Gives One) (chance : One) (image : Image) (budget : ℕ) (stopped : Bool) (left : List ℕ) : Type 0 where
+pub record IsLeftBySteps {One : Type 0} (draw_gives : Gives One) (chance : One) (image : Image) (budget : ℕ) (stopped : Bool)
+    (left : List ℕ) : Type 0 where
   pub words : List ℕ
   pub long : length words ≡ length left
   pub are_old : (word : ℕ) → slice_index words word ≡ image word
@@ -62,7 +65,8 @@ pub record IsLeftBySteps {One : Type 0} (draw_gives : Gives One) (chance : One) 
   pub cut_off : stopped ≡ true → (ticket : ℕ) × IsCutOffIn view_of (DrawsBy draw_gives) (steps_in image new (length words / 8)) ticket before after
   pub durable : stopped ≡ true → IsCrashImage (slice_index (view_of after).durable) (slice_index left)
 
--- One chance was asked for, by the number 0, and what is left is left with the numbers of that one. Where it was stopped, the words were then taken that the crash leaves
+-- One chance was asked for, by the number 0, and what is left is left with the numbers of that one. Where it was
+-- stopped, the words were then taken that the crash leaves
 -- at random.
 pub record RebuildDraws {C One : Type 0} (chance_gives : C → ℕ → One → C → Type 0) (draw_gives : Gives One) (word_gives : C → ℕ → C → Type 0)
     (image : Image) (budget : ℕ) (stopped : Bool) (left : List ℕ) (old new : C) : Type 0 where
@@ -73,7 +77,8 @@ pub record RebuildDraws {C One : Type 0} (chance_gives : C → ℕ → One → C
   pub then_nothing : stopped ≡ false → new ≡ dealt
   pub then_words : stopped ≡ true → GivesAll word_gives dealt (map (slice_index left) (transient_words (capacity_of image))) new
 
--- The chances of a rebuild that puts these bytes and prints this text began anew by the seed, first of all and once. Then it drew its numbers from them.
+-- The chances of a rebuild that puts these bytes and prints this text began anew by the seed, first of all and once.
+-- Then it drew its numbers from them.
 pub record RebuildAsks {C One : Type 0} (seed_gives : C → ℕ → C → Type 0) (chance_gives : C → ℕ → One → C → Type 0) (draw_gives : Gives One)
     (word_gives : C → ℕ → C → Type 0) (image : Image) (budget seed : ℕ) (put text : List ℕ) (old new : C) : Type 0 where
   pub begun : C

@@ -63,7 +63,8 @@ pub record IsReplayed (words : List ℕ) (held : List Block) (seats : ℕ) (line
   pub left_is : IsCrashImage (durable_image (capacity_of (slice_index words)) state.words) (slice_index left)
   pub long : length left ≡ image_words (capacity_of (slice_index words))
 
--- an answer for each line is printed, then how many tickets were drawn, and then the report on the image that the crash leaves, in which nothing points outside
+-- an answer for each line is printed, then how many tickets were drawn, and then the report on the image that the crash
+-- leaves, in which nothing points outside
 pub record Replays (words : List ℕ) (held : List Block) (seats : ℕ) (lines : List (ℕ × Event)) (text : List ℕ) : Type 0 where
   pub answers : List StepAnswer
   pub tickets : ℕ
@@ -76,7 +77,8 @@ pub record Replays (words : List ℕ) (held : List Block) (seats : ℕ) (lines :
 
 -- The chances of a replay that prints this text began anew by the seed, first of all and once. Then the words were taken that the crash
 -- leaves at random, and nothing else.
-pub record ReplayAsks {C : Type 0} (seed_gives word_gives : C → ℕ → C → Type 0) (words : List ℕ) (held : List Block) (seats : ℕ) (lines : List (ℕ × Event))
+pub record ReplayAsks {C : Type 0} (seed_gives word_gives : C → ℕ → C → Type 0) (words : List ℕ) (held : List Block) (seats : ℕ)
+    (lines : List (ℕ × Event))
     (seed : ℕ) (text : List ℕ) (old new : C) : Type 0 where
   pub begun : C
   pub anew : seed_gives old seed begun

@@ -38,7 +38,8 @@ pub data AreOpened (words : List ℕ) : Image → Type 0 where
   as_they_are : AreOpened words (slice_index words)
   by_recovery : (image next : Image) → RecoversTo image next → AreOpened words next → AreOpened words image
 
--- the replies and the image left are those of workers over one heap at rest that was opened with the image: the states that each one's seat went through, from the opening on, say why it was stopped
+-- the replies and the image left are those of workers over one heap at rest that was opened with the image: the states
+-- that each one's seat went through, from the opening on, say why it was stopped
 pub record WorkedOver (image : Image) (workers budget : ℕ) (requests : List Request) (replies : Replies) (stopped : Bool) (left : List ℕ) : Type 0 where
   pub words : List ℕ
   pub opened : AreOpened words image
@@ -61,7 +62,8 @@ pub record Leaves (image : Image) (requests : List Request) (workers budget : �
   pub state : LeavesState stopped (slice_index left)
   pub orderly : LeavesOrderly stopped (length left) (slice_index left)
 
--- a run of the requests over the image puts these bytes, those of the image that is left, which are read again as its words, and prints this text: the replies, and then the report on the image that is left
+-- a run of the requests over the image puts these bytes, those of the image that is left, which are read again as its
+-- words, and prints this text: the replies, and then the report on the image that is left
 pub record RunsRequests (image : Image) (requests : List Request) (options : Options) (put text : List ℕ) : Type 0 where
   pub told : List Told
   pub stopped : Bool
@@ -73,7 +75,8 @@ pub record RunsRequests (image : Image) (requests : List Request) (options : Opt
   pub reports : Reports (slice_index left) options.with_sum options.with_map report
   pub text_is : text ≡ replies_text told stopped options.with_sum ++ report
 
--- the chances of a run that puts these bytes began anew by the seed, first of all and once. Then each worker was given its chance and, where the run was stopped, the words were taken that the crash leaves at random
+-- the chances of a run that puts these bytes began anew by the seed, first of all and once. Then each worker was given
+-- its chance and, where the run was stopped, the words were taken that the crash leaves at random
 pub record RunAsks {C One : Type 0} (seed_gives : C → ℕ → C → Type 0) (chance_gives : C → ℕ → One → C → Type 0) (word_gives : C → ℕ → C → Type 0)
     (image : Image) (options : Options) (put : List ℕ) (old new : C) : Type 0 where
   pub begun : C

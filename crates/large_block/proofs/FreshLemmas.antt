@@ -43,20 +43,25 @@ zero_still (x ∷ xs) (suc at) (suc word) is = zero_still xs at word is
 fresh_still : (values : List (Option ℕ)) (u n word : ℕ) → get_or values word None ≡ Some 0 → get_or (learn_fresh values u n) word None ≡ Some 0
 fresh_still values u zero word is = is
 fresh_still values u (suc n) word is = fresh_still (learn (learn (learn values (info_word u) 0) (anchor_word u) 0) (link_word u) 0) (u + 1) n word
-    (zero_still (learn (learn values (info_word u) 0) (anchor_word u) 0) (link_word u) word (zero_still (learn values (info_word u) 0) (anchor_word u) word (zero_still values (info_word u) word is)))
+    (zero_still (learn (learn values (info_word u) 0) (anchor_word u) 0) (link_word u) word
+    (zero_still (learn values (info_word u) 0) (anchor_word u) word (zero_still values (info_word u) word is)))
 
 -- 0 is known of the info and the anchor of each superblock that is taken
 abbrev AreZero : List (Option ℕ) → ℕ → Type 0
 AreZero values e = (get_or values (info_word e) None ≡ Some 0) × (get_or values (anchor_word e) None ≡ Some 0)
 
-fresh_zero : (c : ℕ) (values : List (Option ℕ)) (u n e : ℕ) → length values ≡ image_words c → u + n ≤ c → u ≤ e → e < u + n → AreZero (learn_fresh values u n) e
+fresh_zero : (c : ℕ) (values : List (Option ℕ)) (u n e : ℕ) → length values ≡ image_words c → u + n ≤ c → u ≤ e → e < u + n
+    → AreZero (learn_fresh values u n) e
 fresh_zero c values u zero e long room from until = absurd (omega arith)
 fresh_zero c values u (suc n) e long room from until = elim (cases_eq e u) as (λ _. AreZero (learn_fresh values u (suc n)) e) [
   | inl same ↦ subst (AreZero (learn_fresh values u (suc n))) (sym same) (
-    fresh_still three (u + 1) n (info_word u) (zero_still two (link_word u) (info_word u) (zero_still one (anchor_word u) (info_word u) (get_or-set_same values (info_word u) (Some 0) None (omega arith)))),
-    fresh_still three (u + 1) n (anchor_word u) (zero_still two (link_word u) (anchor_word u) (get_or-set_same one (anchor_word u) (Some 0) None (let l = length-set values (info_word u) (Some 0) in omega arith))),
+    fresh_still three (u + 1) n (info_word u) (zero_still two (link_word u) (info_word u)
+        (zero_still one (anchor_word u) (info_word u) (get_or-set_same values (info_word u) (Some 0) None (omega arith)))),
+    fresh_still three (u + 1) n (anchor_word u) (zero_still two (link_word u) (anchor_word u)
+        (get_or-set_same one (anchor_word u) (Some 0) None (let l = length-set values (info_word u) (Some 0) in omega arith))),
   )
-  | inr other ↦ fresh_zero c three (u + 1) n e (length-set two (link_word u) (Some 0) ∙ length-set one (anchor_word u) (Some 0) ∙ length-set values (info_word u) (Some 0) ∙ long) (omega arith) (omega (arith, other)) (omega arith)
+  | inr other ↦ fresh_zero c three (u + 1) n e (length-set two (link_word u) (Some 0) ∙ length-set one (anchor_word u) (Some 0)
+      ∙ length-set values (info_word u) (Some 0) ∙ long) (omega arith) (omega (arith, other)) (omega arith)
 ] where
   one : List (Option ℕ)
   one = learn values (info_word u) 0
@@ -69,7 +74,8 @@ fresh_zero c values u (suc n) e long room from until = elim (cases_eq e u) as (�
 
 -- each of them is claimed
 pub fresh_claimed : (xs : List ℕ) (d n e : ℕ) → d ≤ e → e < d + n → 0 < times e (xs ++ steps d 1 n)
-fresh_claimed xs d n e from until = let both = times_append e xs (steps d 1 n) in let here = times_steps e d n in let a = below_not e d from in let b = below_is e (d + n) until in omega arith
+fresh_claimed xs d n e from until = let both = times_append e xs (steps d 1 n) in let here = times_steps e d n in let a = below_not e d from in
+    let b = below_is e (d + n) until in omega arith
 
 module _ (v u w : View) (n used found : ℕ) (drawn : HasDrawn v u) (mark : v.seen_used ≡ Some used) (event : IsEvent (TakeFresh n) u found w) where
   marked : found ≡ seen u.seen_used → HasMarked n used v w
@@ -84,10 +90,14 @@ module _ (v u w : View) (n used found : ℕ) (drawn : HasDrawn v u) (mark : v.se
     heads = ap (λ (x : View). x.head_looks) left;
     later = let l = ap next_of left in let d = drawn.later in omega arith;
     blank = record {
-      info = λ e from until. ap (λ l. get_or l (info_word e) None) volatile ∙ (fresh_zero u.setup.capacity u.volatile used n e (volatile_long u event.before) room from until).0;
-      durable_info = λ e from until. ap (λ l. get_or l (info_word e) None) durable ∙ (fresh_zero u.setup.capacity u.durable used n e (durable_long u event.before) room from until).0;
-      anchor = λ e from until. ap (λ l. get_or l (anchor_word e) None) volatile ∙ (fresh_zero u.setup.capacity u.volatile used n e (volatile_long u event.before) room from until).1;
-      durable_anchor = λ e from until. ap (λ l. get_or l (anchor_word e) None) durable ∙ (fresh_zero u.setup.capacity u.durable used n e (durable_long u event.before) room from until).1;
+      info = λ e from until. ap (λ l. get_or l (info_word e) None) volatile
+          ∙ (fresh_zero u.setup.capacity u.volatile used n e (volatile_long u event.before) room from until).0;
+      durable_info = λ e from until. ap (λ l. get_or l (info_word e) None) durable
+          ∙ (fresh_zero u.setup.capacity u.durable used n e (durable_long u event.before) room from until).0;
+      anchor = λ e from until. ap (λ l. get_or l (anchor_word e) None) volatile
+          ∙ (fresh_zero u.setup.capacity u.volatile used n e (volatile_long u event.before) room from until).1;
+      durable_anchor = λ e from until. ap (λ l. get_or l (anchor_word e) None) durable
+          ∙ (fresh_zero u.setup.capacity u.durable used n e (durable_long u event.before) room from until).1;
     };
   } where
     left : w ≡ taken_fresh (drawn_as v drawn.ticket u) n
@@ -118,13 +128,15 @@ module _ (v u w : View) (n used found : ℕ) (drawn : HasDrawn v u) (mark : v.se
     left : w ≡ record (lost (drawn_as v drawn.ticket u) found) { seen_used = None }
     left = fresh_lost n u w found event other ∙ ap (λ (x : View). record (lost x found) { seen_used = None }) drawn.left
 
-  pub exchanged : ViewRow one_draw v u → (won : Bool) (result : Result ⊤ ℕ) → Tells (seen u.seen_used) found result → won ≡ is_ok result → Marks n used won v w
+  pub exchanged : ViewRow one_draw v u → (won : Bool) (result : Result ⊤ ℕ) → Tells (seen u.seen_used) found result → won ≡ is_ok result
+      → Marks n used won v w
   exchanged row won (Ok x) told is = subst (λ b. Marks n used b v w) (sym is) (marked told)
   exchanged row won (Err x) told is = subst (λ b. Marks n used b v w) (sym is) (mark_lost row told.1)
 
 -- the mark is made durable
 pub zero_kept : (v w : View) (word : ℕ) → KeepsWord v w word → seen_at v word ≡ Some 0 → left_at v word ≡ Some 0 → left_at w word ≡ Some 0
-zero_kept v w word keeps seen left = let d = durable_then v w word keeps (record { value = 0; seen = seen; left = left }) in d.left ∙ sym d.seen ∙ keeps.volatile 0 seen
+zero_kept v w word keeps seen left = let d = durable_then v w word keeps (record { value = 0; seen = seen; left = left }) in
+    d.left ∙ sym d.seen ∙ keeps.volatile 0 seen
 
 -- infos and anchors of claimed superblocks are own words
 pub raw_owns : (v : View) (e : ℕ) → e < v.setup.capacity → 0 < times_raw e v → Owns v (info_word e) × Owns v (anchor_word e)
@@ -133,12 +145,15 @@ raw_owns v e below raw = (
   subst (λ (cell : Cell). IsOwn v cell) (sym (cell_at_index v.setup.capacity (anchor_cell e) (lt-ltb e v.setup.capacity below))) raw,
 )
 
-pub blank_still : (v w : View) (d n : ℕ) → ((e : ℕ) → d ≤ e → e < d + n → Owns v (info_word e) × Owns v (anchor_word e)) → ((word : ℕ) → Owns v word → KeepsWord v w word) → AreBlankFrom d n v → AreBlankFrom d n w
+pub blank_still : (v w : View) (d n : ℕ) → ((e : ℕ) → d ≤ e → e < d + n → Owns v (info_word e) × Owns v (anchor_word e))
+    → ((word : ℕ) → Owns v word → KeepsWord v w word) → AreBlankFrom d n v → AreBlankFrom d n w
 blank_still v w d n owns words blank = record {
   info = λ e from until. (words (info_word e) (owns e from until).0).volatile 0 (blank.info e from until);
-  durable_info = λ e from until. zero_kept v w (info_word e) (words (info_word e) (owns e from until).0) (blank.info e from until) (blank.durable_info e from until);
+  durable_info = λ e from until. zero_kept v w (info_word e) (words (info_word e) (owns e from until).0) (blank.info e from until)
+      (blank.durable_info e from until);
   anchor = λ e from until. (words (anchor_word e) (owns e from until).1).volatile 0 (blank.anchor e from until);
-  durable_anchor = λ e from until. zero_kept v w (anchor_word e) (words (anchor_word e) (owns e from until).1) (blank.anchor e from until) (blank.durable_anchor e from until);
+  durable_anchor = λ e from until. zero_kept v w (anchor_word e) (words (anchor_word e) (owns e from until).1) (blank.anchor e from until)
+      (blank.durable_anchor e from until);
 }
 
 pub mark_kept : (v u w : View) (used found : ℕ) → HasDrawn v u → v.seen_used ≡ Some used → IsEvent KeepUsed u found w → HasKept used v w
@@ -157,7 +172,8 @@ mark_kept v u w used found drawn mark event = record {
   left = event.after ∙ ap (λ (x : View). record (used_up x) { floor = max x.floor (seen x.seen_used) }) drawn.left
 
   inside : (e : ℕ) → 0 < times_raw e v → e < v.setup.capacity
-  inside e raw = let i = raw_inside u event.before e (let c = ap (times_raw e) drawn.left in omega arith) in let s = ap (λ (x : View). x.setup.capacity) drawn.left in omega arith
+  inside e raw = let i = raw_inside u event.before e (let c = ap (times_raw e) drawn.left in omega arith) in
+      let s = ap (λ (x : View). x.setup.capacity) drawn.left in omega arith
 
   words : (word : ℕ) → Owns v word → KeepsWord v w word
   words word own = subst (λ x. KeepsWord v x word) (sym left) (let p = drawn.words word own in record { volatile = p.volatile; durable = p.durable })
@@ -167,10 +183,19 @@ abbrev pub taking : ℕ → Costs
 taking n = record no_costs { draws = 3; wins = 1; taken = n }
 
 pub taking_row : (v t u : SeatView) (n : ℕ) → Row one_draw v t → Row (record one_win { draws = 1; taken = n }) t u → Row (taking n) v u
-taking_row v t u n look take = row_within (taking n) v u (record { draws = omega arith; wins = omega arith; gives = omega arith; cuts = omega arith; taken = omega arith; moves = omega arith }) (row_then v t u look take)
+taking_row v t u n look take = row_within (taking n) v u (record {
+  draws = omega arith;
+  wins = omega arith;
+  gives = omega arith;
+  cuts = omega arith;
+  taken = omega arith;
+  moves = omega arith;
+}) (row_then v t u look take)
 
-pub keeping_row : (v t u w : SeatView) (n : ℕ) → Row one_draw v t → Row (record one_win { draws = 1; taken = n }) t u → Row one_draw u w → Row (taking n) v w
-keeping_row v t u w n look take keep = row_within (taking n) v w (record { draws = omega arith; wins = omega arith; gives = omega arith; cuts = omega arith; taken = omega arith; moves = omega arith })
+pub keeping_row : (v t u w : SeatView) (n : ℕ) → Row one_draw v t → Row (record one_win { draws = 1; taken = n }) t u → Row one_draw u w
+    → Row (taking n) v w
+keeping_row v t u w n look take keep = row_within (taking n) v w
+    (record { draws = omega arith; wins = omega arith; gives = omega arith; cuts = omega arith; taken = omega arith; moves = omega arith })
     (row_then v u w (row_then v t u look take) keep)
 
 -- the ticket behind which the next one rose
@@ -184,7 +209,8 @@ taken_then v t u w n used sees marked kept = record {
   going = kept.going;
   parts_are = kept.parts_are ∙ marked.parts_are ∙ ap (with_fresh used n) sees.goes_on.parts_are;
   durable = kept.durable;
-  blank = kept.blank used n (λ e from until. let c = fresh_claimed t.raw used n e from until in let s = ap (λ (p : Parts). times e p.raw) marked.parts_are in omega arith) marked.blank;
+  blank = kept.blank used n (λ e from until. let c = fresh_claimed t.raw used n e from until in
+      let s = ap (λ (p : Parts). times e p.raw) marked.parts_are in omega arith) marked.blank;
   room = let r = marked.room in let s = ap (λ (p : Parts). p.setup.capacity) sees.goes_on.parts_are in omega arith;
   seen = ap (λ (l : LastLook). l.word) look;
   wins = kept.wins ∙ marked.wins ∙ ap (λ k. k + 1) sees.goes_on.wins;
@@ -228,11 +254,27 @@ pub record Trying (v t : View) : Type 0 where
   pub fresh : (t ≡ v) ⊎ (t.stopped ≡ None)
 
 pub tries_begin : (v : View) → Trying v v
-tries_begin v = record { row = view_row_none v; parts_are = refl; wins = refl; taken = refl; cuts = refl; heads = refl; both = λ ran. ran; fresh = inl refl }
+tries_begin v = record {
+  row = view_row_none v;
+  parts_are = refl;
+  wins = refl;
+  taken = refl;
+  cuts = refl;
+  heads = refl;
+  both = λ ran. ran;
+  fresh = inl refl;
+}
 
 pub tries_on : (v t w : View) → Trying v t → HasLostMark 2 t w → Trying v w
 tries_on v t w trying lost = record {
-  row = view_row_within no_costs v w (record { draws = omega arith; wins = omega arith; gives = omega arith; cuts = omega arith; taken = omega arith; moves = omega arith }) (view_row_then v t w trying.row lost.row);
+  row = view_row_within no_costs v w (record {
+    draws = omega arith;
+    wins = omega arith;
+    gives = omega arith;
+    cuts = omega arith;
+    taken = omega arith;
+    moves = omega arith;
+  }) (view_row_then v t w trying.row lost.row);
   parts_are = lost.parts_are ∙ trying.parts_are;
   wins = lost.wins ∙ trying.wins;
   taken = lost.taken ∙ trying.taken;
@@ -249,13 +291,32 @@ tries_stop v t w step trying stop = elim trying.fresh [
 ]
 
 pub tries_row : (v t w : View) (n : ℕ) → Trying v t → ViewRow (taking n) t w → ViewRow (taking n) v w
-tries_row v t w n trying row = view_row_within (taking n) v w (record { draws = omega arith; wins = omega arith; gives = omega arith; cuts = omega arith; taken = omega arith; moves = omega arith }) (view_row_then v t w trying.row row)
+tries_row v t w n trying row = view_row_within (taking n) v w (record {
+  draws = omega arith;
+  wins = omega arith;
+  gives = omega arith;
+  cuts = omega arith;
+  taken = omega arith;
+  moves = omega arith;
+}) (view_row_then v t w trying.row row)
 
 pub tries_less : (t w : View) → HasLostMark 2 t w → w.setup.budget - w.draws < t.setup.budget - t.draws
 tries_less t w lost = let same = ap (λ (k : Setup). k.budget) lost.row.passes.setup in let room = lost.room in let more = lost.more in omega arith
 
 pub tries_done : (v t w : View) (n : ℕ) (take : TakeAnswer) → Trying v t → Takes n take t w → Takes n take v w
-tries_done v t w n (Got d) trying got = record { going = got.going; parts_are = got.parts_are ∙ ap (with_fresh d n) trying.parts_are; durable = got.durable; blank = got.blank; room = let r = got.room in let s = ap (λ (k : Setup). k.capacity) trying.row.passes.setup in omega arith; seen = got.seen; wins = got.wins ∙ ap (λ k. k + 1) trying.wins; taken = got.taken ∙ ap (λ k. k + n) trying.taken; heads = got.heads ∙ trying.heads; made = made } where
+tries_done v t w n (Got d) trying got = record {
+  going = got.going;
+  parts_are = got.parts_are ∙ ap (with_fresh d n) trying.parts_are;
+  durable = got.durable;
+  blank = got.blank;
+  room = let r = got.room in let s = ap (λ (k : Setup). k.capacity) trying.row.passes.setup in
+      omega arith;
+  seen = got.seen;
+  wins = got.wins ∙ ap (λ k. k + 1) trying.wins;
+  taken = got.taken ∙ ap (λ k. k + n) trying.taken;
+  heads = got.heads ∙ trying.heads;
+  made = made;
+} where
   made : IsMade (next_of v) (next_of w) v.taken v.taken w.used_look
   made = let m = got.made in record {
     ticket = m.ticket;
@@ -278,7 +339,8 @@ tries_done v t w n (Past used) trying past = record {
 }
 
 -- they are in one hand
-pub alone : ((v : View) (s : HasSoundState v) (d : ℕ) → 0 < times_claimed d v → (j : ℕ) (u : View) → j ≢ s.seat → j < length s.views → get_or s.views j u ≡ u → times_claimed d u ≡ 0)
+pub alone : ((v : View) (s : HasSoundState v) (d : ℕ) → 0 < times_claimed d v → (j : ℕ) (u : View) → j ≢ s.seat → j < length s.views
+    → get_or s.views j u ≡ u → times_claimed d u ≡ 0)
     → (v w : View) (n : ℕ) (take : TakeAnswer) → Takes n take v w → AreInThisHandAlone n take w
 alone one v w n (Past used) is = tt
 alone one v w n (Got d) is = λ e from until. (claimed e from until, λ s. one w s e (claimed e from until)) where

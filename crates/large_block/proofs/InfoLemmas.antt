@@ -41,7 +41,8 @@ module _ (v : View) (has : HasSoundState v) (d : ℕ) (raw : 0 < times_raw d v) 
 
     module _ (x : View) (found : ℕ) (store : IsEvent (Store (info_word d) info) u found x) where
       stored_left : x ≡ record (used_up u) { volatile = learn u.volatile (info_word d) info }
-      stored_left = store.after ∙ ap (λ (cell : Cell). stored (record (used_up u) { volatile = learn u.volatile (info_word d) info }) cell info) info_here
+      stored_left = store.after ∙ ap (λ (cell : Cell). stored (record (used_up u) { volatile = learn u.volatile (info_word d) info }) cell info)
+          info_here
 
       not_held : IsHeldWord u (info_word d) → ⊥
       not_held held = let e = ap (times_held u) info_here in omega arith
@@ -53,18 +54,22 @@ module _ (v : View) (has : HasSoundState v) (d : ℕ) (raw : 0 < times_raw d v) 
       can_settle = record {
         going = ap (λ (y : View). y.stopped) stored_left ∙ ap (λ (y : View). y.stopped) drawn.left ∙ drawn.went;
         ticket = tt;
-        shown = let s = ap (times_raw d) stored_left in subst (λ (cell : Cell). IsOwn x cell) (sym (ap (λ (y : View). cell_at y.setup.capacity (info_word d)) stored_left ∙ info_here)) (let r = raw_here in omega arith);
+        shown = let s = ap (times_raw d) stored_left in subst (λ (cell : Cell). IsOwn x cell)
+            (sym (ap (λ (y : View). cell_at y.setup.capacity (info_word d)) stored_left ∙ info_here)) (let r = raw_here in omega arith);
       }
 
       module _ (w : View) (at : ℕ) (settle : IsEvent (Settle (info_word d)) x at w) where
         left : w ≡ record x { volatile = learn x.volatile (info_word d) info; durable = learn x.durable (info_word d) info }
-        left = settle_left (info_word d) info x w at settle (subst (λ (c : ℕ). Shows x (cell_at c (info_word d)) info) (ap (λ (y : View). y.setup.capacity) (sym stored_left)) (store_shown (info_word d) info u x found store))
+        left = settle_left (info_word d) info x w at settle (subst (λ (c : ℕ). Shows x (cell_at c (info_word d)) info)
+            (ap (λ (y : View). y.setup.capacity) (sym stored_left)) (store_shown (info_word d) info u x found store))
 
         below : info_word d < length x.volatile
-        below = let l = volatile_long x settle.before in let i = raw_inside v has d raw in let a = ap (λ (y : View). y.setup.capacity) stored_left in let b = ap (λ (y : View). y.setup.capacity) drawn.left in omega arith
+        below = let l = volatile_long x settle.before in let i = raw_inside v has d raw in
+            let a = ap (λ (y : View). y.setup.capacity) stored_left in let b = ap (λ (y : View). y.setup.capacity) drawn.left in omega arith
 
         below_durable : info_word d < length x.durable
-        below_durable = let l = durable_long x settle.before in let i = raw_inside v has d raw in let a = ap (λ (y : View). y.setup.capacity) stored_left in let b = ap (λ (y : View). y.setup.capacity) drawn.left in omega arith
+        below_durable = let l = durable_long x settle.before in let i = raw_inside v has d raw in
+            let a = ap (λ (y : View). y.setup.capacity) stored_left in let b = ap (λ (y : View). y.setup.capacity) drawn.left in omega arith
 
         pub info_set : HasInfo d info v w
         info_set = record {
@@ -76,14 +81,17 @@ module _ (v : View) (has : HasSoundState v) (d : ℕ) (raw : 0 < times_raw d v) 
           losses = ap (λ (y : View). y.losses) left ∙ ap (λ (y : View). y.losses) stored_left ∙ ap (λ (y : View). y.losses) drawn.left;
           heads = ap (λ (y : View). y.head_looks) left ∙ ap (λ (y : View). y.head_looks) stored_left ∙ ap (λ (y : View). y.head_looks) drawn.left;
           info_is = ap (λ (y : View). get_or y.volatile (info_word d) None) left ∙ get_or-set_same x.volatile (info_word d) (Some info) None below;
-          durable_info_is = ap (λ (y : View). get_or y.durable (info_word d) None) left ∙ get_or-set_same x.durable (info_word d) (Some info) None below_durable;
+          durable_info_is = ap (λ (y : View). get_or y.durable (info_word d) None) left
+              ∙ get_or-set_same x.durable (info_word d) (Some info) None below_durable;
           words = λ k other own. word_then v x w k
-              (word_then v u x k (drawn.words k own) (subst (λ y. KeepsWord u y k) (sym stored_left) (let p = stored_other u (info_word d) info k other in record { volatile = p.volatile; durable = p.durable })))
+              (word_then v u x k (drawn.words k own) (subst (λ y. KeepsWord u y k) (sym stored_left)
+              (let p = stored_other u (info_word d) info k other in record { volatile = p.volatile; durable = p.durable })))
               (settled_word x w (info_word d) at settle k (still_owns v x same_parts k own));
         }
 
 -- its row
-pub info_row : (v u x w : SeatView) (has : HasSoundState v.view) (d info found at : ℕ) → 0 < times_raw d v.view → HasDrawn v.view u.view → Row one_draw v u → IsEvent (Store (info_word d) info) u.view found x.view → HasNewStore (info_word d) u x
+pub info_row : (v u x w : SeatView) (has : HasSoundState v.view) (d info found at : ℕ) → 0 < times_raw d v.view → HasDrawn v.view u.view
+    → Row one_draw v u → IsEvent (Store (info_word d) info) u.view found x.view → HasNewStore (info_word d) u x
     → IsEvent (Settle (info_word d)) x.view at w.view → KeepsStores x w → Row one_draw v w
 info_row v u x w has d info found at raw drawn row store new settle stores =
     let free = not_held v.view has d raw u.view info drawn x.view found store in

@@ -46,7 +46,8 @@ without_behind : (x : ℕ) (ys zs : List ℕ) → times x ys ≡ 0 → without x
 without_behind x [] zs none = ap (λ t. cond t zs (x ∷ without x zs)) (eq-eqb x x refl)
 without_behind x (y ∷ ys) zs none = elim (cases_eq y x) as (λ _. cond (nat_eq y x) (ys ++ x ∷ zs) (y ∷ without x (ys ++ x ∷ zs)) ≡ y ∷ ys ++ zs) [
   | inl here ↦ absurd (let e = ap one_if (eq-eqb y x here) in omega arith)
-  | inr other ↦ ap (λ t. cond t (ys ++ x ∷ zs) (y ∷ without x (ys ++ x ∷ zs))) (ne_eqb y x other) ∙ ap (λ l. y ∷ l) (without_behind x ys zs (omega arith))
+  | inr other ↦ ap (λ t. cond t (ys ++ x ∷ zs) (y ∷ without x (ys ++ x ∷ zs))) (ne_eqb y x other)
+      ∙ ap (λ l. y ∷ l) (without_behind x ys zs (omega arith))
 ]
 
 times_other : (e x : ℕ) (ys : List ℕ) → x ≢ e → times e (without x ys) ≡ times e ys
@@ -58,12 +59,14 @@ times_other e x ys other = elim (cases_lt 0 (times x ys)) as (λ _. times e (wit
 -- of those that are not reached yet as many are left
 split_still : (d k e : ℕ) (p : Parts) → d + k ≤ e → times e (all_cleared d k p).split ≡ times e p.split
 split_still d zero e p behind = refl
-split_still d (suc k) e p behind = times_other e (d + k) (all_cleared d k p).split (λ same. omega (arith, same, behind)) ∙ split_still d k e p (omega arith)
+split_still d (suc k) e p behind = times_other e (d + k) (all_cleared d k p).split (λ same. omega (arith, same, behind))
+    ∙ split_still d k e p (omega arith)
 
 -- all of them, the list that had them behind others
 cleared_is : (d n k : ℕ) (p : Parts) (kept : List ℕ) → p.split ≡ kept ++ steps d 1 n → ((e : ℕ) → d ≤ e → e < d + n → times e kept ≡ 0) → k ≤ n
     → all_cleared d k p ≡ record p { raw = down d k ++ p.raw; split = kept ++ steps (d + k) 1 (n - k) }
-cleared_is d n zero p kept is none less = ap (λ l. record p { split = l }) (is ∙ ap (λ i. kept ++ steps i 1 n) (let e : d ≡ d + 0 = omega arith in e) ∙ ap (λ m. kept ++ steps (d + 0) 1 m) (let e : n ≡ n - 0 = omega arith in e))
+cleared_is d n zero p kept is none less = ap (λ l. record p { split = l }) (is
+    ∙ ap (λ i. kept ++ steps i 1 n) (let e : d ≡ d + 0 = omega arith in e) ∙ ap (λ m. kept ++ steps (d + 0) 1 m) (let e : n ≡ n - 0 = omega arith in e))
 cleared_is d n (suc k) p kept is none less =
     ap (with_cleared (d + k)) (cleared_is d n k p kept is none (omega arith))
     ∙ ap (λ l. record p { raw = (d + k) ∷ down d k ++ p.raw; split = l }) (
@@ -71,9 +74,11 @@ cleared_is d n (suc k) p kept is none less =
     ∙ without_behind (d + k) kept (steps (d + k + 1) 1 (n - suc k)) (none (d + k) (omega arith) (omega arith))
     ∙ ap (λ i. kept ++ steps i 1 (n - suc k)) (let e : d + k + 1 ≡ d + suc k = omega arith in e))
 
-pub cleared_all : (d n : ℕ) (p : Parts) (kept : List ℕ) → p.split ≡ kept ++ steps d 1 n → ((e : ℕ) → d ≤ e → e < d + n → times e kept ≡ 0) → all_cleared d n p ≡ record p { raw = down d n ++ p.raw; split = kept }
+pub cleared_all : (d n : ℕ) (p : Parts) (kept : List ℕ) → p.split ≡ kept ++ steps d 1 n → ((e : ℕ) → d ≤ e → e < d + n → times e kept ≡ 0)
+    → all_cleared d n p ≡ record p { raw = down d n ++ p.raw; split = kept }
 cleared_all d n p kept is none = cleared_is d n n p kept is none (omega arith)
-    ∙ ap (λ l. record p { raw = down d n ++ p.raw; split = l }) (ap (λ m. kept ++ steps (d + n) 1 m) (let e : n - n ≡ 0 = omega arith in e) ∙ append-nil kept)
+    ∙ ap (λ l. record p { raw = down d n ++ p.raw; split = l }) (ap (λ m. kept ++ steps (d + n) 1 m) (let e : n - n ≡ 0 = omega arith in e)
+    ∙ append-nil kept)
 
 -- an anchor is stored to
 module _ (v : View) (has : HasSoundState v) (e : ℕ) (split : 0 < times e v.split) where
@@ -91,7 +96,11 @@ module _ (v : View) (has : HasSoundState v) (e : ℕ) (split : 0 < times e v.spl
     can_clear = record {
       going = ap (λ (x : View). x.stopped) drawn.left ∙ drawn.went;
       ticket = ap (λ (x : View). one_if_some x.ticket) drawn.left;
-      shown = subst (λ (cell : Cell). IsOwn u cell × CanStore u cell 0) (sym anchor_here) (let s = ap (times_raw e) drawn.left in omega arith, as_empty);
+      shown = subst (λ (cell : Cell). IsOwn u cell × CanStore u cell 0) (sym anchor_here) (
+        let s = ap (times_raw e) drawn.left in
+            omega arith,
+        as_empty,
+      );
     }
 
     module _ (w : View) (found : ℕ) (store : IsEvent (Store (anchor_word e) 0) u found w) where
@@ -105,13 +114,19 @@ module _ (v : View) (has : HasSoundState v) (e : ℕ) (split : 0 < times e v.spl
       anchor_not_held held = let s = ap (times_held u) anchor_here in omega arith
 
       words : (k : ℕ) → k ≢ anchor_word e → Owns v k → KeepsWord v w k
-      words k other own = word_then v u w k (drawn.words k own) (subst (λ y. KeepsWord u y k) (sym left) (let p = stored_other u (anchor_word e) 0 k other in record { volatile = p.volatile; durable = p.durable }))
+      words k other own = word_then v u w k (drawn.words k own) (subst (λ y. KeepsWord u y k) (sym left)
+          (let p = stored_other u (anchor_word e) 0 k other in record { volatile = p.volatile; durable = p.durable }))
 
       owned : (i : ℕ) → i < v.setup.capacity → Shows v (anchor_cell i) 0 → Owns v (anchor_word i)
-      owned i less shows = subst (λ (cell : Cell). IsOwn v cell) (sym (anchor_at i less)) ((has.sound.good.words has.seat v has.below has.at).volatile (anchor_cell i) 0 (lt-ltb i v.setup.capacity less) shows).0
+      owned i less shows = subst (λ (cell : Cell). IsOwn v cell) (sym (anchor_at i less))
+          ((has.sound.good.words has.seat v has.below has.at).volatile (anchor_cell i) 0 (lt-ltb i v.setup.capacity less) shows).0
 
       same : parts w ≡ record (parts v) { raw = e ∷ without e v.raw; split = without e v.split; cutting = without e v.cutting }
-      same = ap parts left ∙ ap (λ (y : View). record (parts y) { raw = e ∷ without e y.raw; split = without e y.split; cutting = without e y.cutting }) drawn.left
+      same = ap parts left ∙ ap (λ (y : View). record (parts y) {
+        raw = e ∷ without e y.raw;
+        split = without e y.split;
+        cutting = without e y.cutting;
+      }) drawn.left
 
       pub none_lost : w.losses ≡ v.losses
       none_lost = ap (λ (y : View). y.losses) left ∙ ap (λ (y : View). y.losses) drawn.left
@@ -121,13 +136,15 @@ module _ (v : View) (has : HasSoundState v) (e : ℕ) (split : 0 < times e v.spl
         ran = drawn.went;
         going = ap (λ (y : View). y.stopped) left ∙ ap (λ (y : View). y.stopped) drawn.left ∙ drawn.went;
         parts_are = same
-            ∙ ap (λ l. record (parts v) { raw = e ∷ l; split = without e v.split; cutting = without e v.cutting }) (without_absent e v.raw (omega arith))
+            ∙ ap (λ l. record (parts v) { raw = e ∷ l; split = without e v.split; cutting = without e v.cutting })
+            (without_absent e v.raw (omega arith))
             ∙ ap (λ l. record (parts v) { raw = e ∷ v.raw; split = without e v.split; cutting = l }) (without_absent e v.cutting (omega arith));
         anchor = subst (λ (cell : Cell). Shows w cell 0) anchor_here (store_shown (anchor_word e) 0 u w found store);
         others = λ i other less shows. (words (anchor_word i) (λ s. omega (arith, s, other)) (owned i less shows)).volatile 0 shows;
       }
 
-pub clear_row : (v u w : SeatView) (has : HasSoundState v.view) (e found : ℕ) → 0 < times e v.view.split → HasDrawn v.view u.view → Row one_draw v u → IsEvent (Store (anchor_word e) 0) u.view found w.view → HasNewStore (anchor_word e) u w → Row one_draw v w
+pub clear_row : (v u w : SeatView) (has : HasSoundState v.view) (e found : ℕ) → 0 < times e v.view.split → HasDrawn v.view u.view
+    → Row one_draw v u → IsEvent (Store (anchor_word e) 0) u.view found w.view → HasNewStore (anchor_word e) u w → Row one_draw v w
 clear_row v u w has e found split drawn row store new = let free = anchor_not_held v.view has e split u.view drawn w.view found store in
     row_then v u w row (row_of_store u w (anchor_word e) new free (store_row (anchor_word e) 0 u.view w.view found store free))
 
@@ -140,9 +157,11 @@ pub record Clearing (d e : ℕ) (v t : SeatView) : Type 0 where
   pub row : Row (record no_costs { draws = e - d }) v t
 
 pub still_split : (v t : SeatView) (d e : ℕ) → d ≤ e → Clearing d e v t → 0 < times e v.view.split → 0 < times e t.view.split
-still_split v t d e from clearing split = let s = ap (λ (p : Parts). times e p.split) clearing.parts_are in let l = split_still d (e - d) e (parts v.view) (omega arith) in omega arith
+still_split v t d e from clearing split = let s = ap (λ (p : Parts). times e p.split) clearing.parts_are in
+    let l = split_still d (e - d) e (parts v.view) (omega arith) in omega arith
 
-pub clearing_on : (v t w : SeatView) (d e : ℕ) → d ≤ e → e ≤ v.view.setup.capacity → Clearing d e v t → HasCleared e t.view w.view → w.view.losses ≡ t.view.losses → Row one_draw t w → Clearing d (e + 1) v w
+pub clearing_on : (v t w : SeatView) (d e : ℕ) → d ≤ e → e ≤ v.view.setup.capacity → Clearing d e v t → HasCleared e t.view w.view
+    → w.view.losses ≡ t.view.losses → Row one_draw t w → Clearing d (e + 1) v w
 clearing_on v t w d e from inside clearing cleared losses row = record {
   going = cleared.going;
   parts_are = cleared.parts_are ∙ ap (with_cleared e) clearing.parts_are
@@ -150,10 +169,18 @@ clearing_on v t w d e from inside clearing cleared losses row = record {
       ∙ ap (λ k. all_cleared d k (parts v.view)) (let s : suc (e - d) ≡ e + 1 - d = omega arith in s);
   anchors = λ i low until. elim (cases_eq i e) as (λ _. Shows w.view (anchor_cell i) 0) [
     | inl same ↦ subst (λ j. Shows w.view (anchor_cell j) 0) (sym same) cleared.anchor
-    | inr other ↦ cleared.others i other (let c = ap (λ (k : Setup). k.capacity) clearing.row.view.passes.setup in omega (arith, other)) (clearing.anchors i low (omega (arith, other)))
+    | inr other ↦ cleared.others i other (let c = ap (λ (k : Setup). k.capacity) clearing.row.view.passes.setup in
+        omega (arith, other)) (clearing.anchors i low (omega (arith, other)))
   ];
   losses = losses ∙ clearing.losses;
-  row = row_within (record no_costs { draws = e + 1 - d }) v w (record { draws = omega arith; wins = omega arith; gives = omega arith; cuts = omega arith; taken = omega arith; moves = omega arith }) (row_then v t w clearing.row row);
+  row = row_within (record no_costs { draws = e + 1 - d }) v w (record {
+    draws = omega arith;
+    wins = omega arith;
+    gives = omega arith;
+    cuts = omega arith;
+    taken = omega arith;
+    moves = omega arith;
+  }) (row_then v t w clearing.row row);
 }
 
 -- the superblocks of a held large block
@@ -175,10 +202,13 @@ module _ (v : View) (has : HasSoundState v) (block : ℕ) (may : MaySplit v bloc
     counted = let words = ap (λ (a : Block). a.words) (only large large_held (let e = may.first in omega arith)) in omega arith
 
   pub block_small : block < superblocks_end v.setup.capacity
-  block_small = let p = held_placed v has large large_held in let until = p.until in let low = p.low in let some = p.some in let at = may.first in omega arith
+  block_small = let p = held_placed v has large large_held in let until = p.until in let low = p.low in let some = p.some in
+      let at = may.first in omega arith
 
 pub clearing_row : (v t w : SeatView) (d n e : ℕ) → d ≤ e → e < d + n → Clearing d e v t → Row one_draw t w → Row (record no_costs { draws = n }) v w
-clearing_row v t w d n e from until clearing row = row_within (record no_costs { draws = n }) v w (record { draws = omega arith; wins = omega arith; gives = omega arith; cuts = omega arith; taken = omega arith; moves = omega arith }) (row_then v t w clearing.row row)
+clearing_row v t w d n e from until clearing row = row_within (record no_costs { draws = n }) v w
+    (record { draws = omega arith; wins = omega arith; gives = omega arith; cuts = omega arith; taken = omega arith; moves = omega arith })
+    (row_then v t w clearing.row row)
 
 -- the draw with which the block is held no more
 module _ (v t : SeatView) (stores : KeepsStores v t) (block : ℕ)
@@ -204,25 +234,35 @@ module _ (v t : SeatView) (stores : KeepsStores v t) (block : ℕ)
       (ap parts is, let f = ap (λ (x : View). x.floor) is in omega arith)
 
   pub each_split : t.view.stopped ≡ None → (e : ℕ) → d ≤ e → e < d + n → 0 < times e t.view.split
-  each_split going e from until = let s = ap (λ (p : Parts). times e p.split) (opened going).0 in let c = fresh_claimed v.view.split d n e from until in omega arith
+  each_split going e from until = let s = ap (λ (p : Parts). times e p.split) (opened going).0 in
+      let c = fresh_claimed v.view.split d n e from until in omega arith
 
   -- refused
   pub none_split : (step : ℕ) → t.view.stopped ≡ Some step → MayHaveSplit d v.view t.view
   none_split step stop = by_stop v.view.stopped refl where
     by_stop : (o : Option ℕ) → v.view.stopped ≡ o → MayHaveSplit d v.view t.view
-    by_stop None went = let e = event went in let row = row_of_stop v.view e.0 e.1 (Some (Split block)) t.view e.2 e.3 step went stop in record { small = row.small; large = inl row.large }
-    by_stop (Some before) had = let same = view_idle before had in record { small = ap (λ (x : View). x.small) same; large = inl (ap (λ (x : View). x.large) same) }
+    by_stop None went = let e = event went in let row = row_of_stop v.view e.0 e.1 (Some (Split block)) t.view e.2 e.3 step went stop in
+        record { small = row.small; large = inl row.large }
+    by_stop (Some before) had = let same = view_idle before had in
+        record { small = ap (λ (x : View). x.small) same; large = inl (ap (λ (x : View). x.large) same) }
 
   pub refused_within : HoldingRow (record no_costs { draws = n + 1 }) v t
-  refused_within = holding_within (record no_costs { draws = n + 1 }) v t (record { draws = omega arith; wins = omega arith; gives = omega arith; cuts = omega arith; taken = omega arith; moves = omega arith }) opening_row
+  refused_within = holding_within (record no_costs { draws = n + 1 }) v t
+      (record { draws = omega arith; wins = omega arith; gives = omega arith; cuts = omega arith; taken = omega arith; moves = omega arith })
+      opening_row
 
   -- and then the anchors
   module _ (w : SeatView) (going : t.view.stopped ≡ None) (row : Row (record no_costs { draws = n }) t w) where
     pub split_row : HoldingRow (record no_costs { draws = n + 1 }) v w
-    split_row = holding_within (record no_costs { draws = n + 1 }) v w (record { draws = omega arith; wins = omega arith; gives = omega arith; cuts = omega arith; taken = omega arith; moves = omega arith }) (holding_then v t w opening_row row)
+    split_row = holding_within (record no_costs { draws = n + 1 }) v w
+        (record { draws = omega arith; wins = omega arith; gives = omega arith; cuts = omega arith; taken = omega arith; moves = omega arith })
+        (holding_then v t w opening_row row)
 
     pub split_may : MayHaveSplit d v.view w.view
-    split_may = record { small = row.view.small ∙ ap (λ (p : Parts). p.small) (opened going).0; large = inr (row.view.large ∙ ap (λ (p : Parts). p.large) (opened going).0) }
+    split_may = record {
+      small = row.view.small ∙ ap (λ (p : Parts). p.small) (opened going).0;
+      large = inr (row.view.large ∙ ap (λ (p : Parts). p.large) (opened going).0);
+    }
 
     pub split_stops : (step : ℕ) → Stops step t.view w.view → Stops step v.view w.view
     split_stops step stop = stops_passed v.view t.view w.view step (ran going) going opening_row.passes stop
@@ -235,7 +275,8 @@ module _ (v t : SeatView) (stores : KeepsStores v t) (block : ℕ)
       anchors = cleared.anchors;
     } where
       none : (e : ℕ) → d ≤ e → e < d + n → times e v.view.split ≡ 0
-      none e from until = let once = raw_once t.view has e in let both = times_append e v.view.split (steps d 1 n) in let here = fresh_claimed [] d n e from until in
+      none e from until = let once = raw_once t.view has e in let both = times_append e v.view.split (steps d 1 n) in
+          let here = fresh_claimed [] d n e from until in
           let s = ap (λ (p : Parts). times e p.split) (opened going).0 in omega arith
 
 -- an answer that is passed on

@@ -75,7 +75,8 @@ pub record HasKept (used : ℕ) (v w : View) : Type 0 where
   pub heads : w.head_looks ≡ v.head_looks
   pub later : next_of v ≤ next_of w
 
--- they are the seat's and counted as taken, no crash forgets that they were, and nothing is in their descriptors; the last look at the mark said that there is room for them
+-- they are the seat's and counted as taken, no crash forgets that they were, and nothing is in their descriptors; the
+-- last look at the mark said that there is room for them
 pub record HasTakenFresh (n d : ℕ) (v w : View) : Type 0 where
   pub going : w.stopped ≡ None
   pub parts_are : parts w ≡ with_fresh d n (parts v)
@@ -112,4 +113,5 @@ TriesTake n (Some take) v w = Takes n take v w
 -- each superblock that was taken is claimed, and in no sound state that has the view by another seat too
 abbrev pub AreInThisHandAlone : ℕ → Take → View → Type 0
 AreInThisHandAlone n (Past used) w = ⊤
-AreInThisHandAlone n (Got d) w = (e : ℕ) → d ≤ e → e < d + n → (0 < times_claimed e w) × ((s : HasSoundState w) (j : ℕ) (u : View) → j ≢ s.seat → j < length s.views → get_or s.views j u ≡ u → times_claimed e u ≡ 0)
+AreInThisHandAlone n (Got d) w = (e : ℕ) → d ≤ e → e < d + n → (0 < times_claimed e w)
+    × ((s : HasSoundState w) (j : ℕ) (u : View) → j ≢ s.seat → j < length s.views → get_or s.views j u ≡ u → times_claimed e u ≡ 0)

@@ -26,7 +26,9 @@ contains_or_not (y ∷ ys) x =
     not_at y ys x ne no_tail (suc k) l e = no_tail (k, omega arith, e)
 
 -- a word written back is what it was or what loads see
-written_cases : (volatile durable : List ℕ) (word other : ℕ) → (get_or (set durable word (get_or volatile word 0)) other 0 ≡ get_or durable other 0) ⊎ (get_or (set durable word (get_or volatile word 0)) other 0 ≡ get_or volatile other 0)
+written_cases : (volatile durable : List ℕ) (word other : ℕ) → (get_or
+    (set durable word (get_or volatile word 0)) other 0 ≡ get_or durable other 0) ⊎
+    (get_or (set durable word (get_or volatile word 0)) other 0 ≡ get_or volatile other 0)
 written_cases volatile durable word other =
     elim (cases_eq other word) [
       | inl e ↦
@@ -38,7 +40,9 @@ written_cases volatile durable word other =
     ]
 
 -- and so with the word that a draw writes back, if there is one
-early_cases : (early : Option ℕ) (volatile durable : List ℕ) (other : ℕ) → (get_or (option_map_or (written_back volatile durable) early durable) other 0 ≡ get_or durable other 0) ⊎ (get_or (option_map_or (written_back volatile durable) early durable) other 0 ≡ get_or volatile other 0)
+early_cases : (early : Option ℕ) (volatile durable : List ℕ) (other : ℕ)
+    → (get_or (option_map_or (written_back volatile durable) early durable) other 0 ≡ get_or durable other 0) ⊎
+    (get_or (option_map_or (written_back volatile durable) early durable) other 0 ≡ get_or volatile other 0)
 early_cases None volatile durable other = inl refl
 early_cases (Some word) volatile durable other = written_cases volatile durable word other
 
@@ -134,7 +138,8 @@ pub store_leaves : (gives : ℕ → Type 0) (word value : ℕ) (v w : View) → 
 store_leaves gives word value v w t = λ other.
     subst (λ (x : List ℕ). IsValueOf v other (get_or x other 0)) (sym t.done.durable) ((draw_adds t.number v).durable other)
 
-pub store_may_store : (gives : ℕ → Type 0) (word value : ℕ) (v w : View) → word < word_count v → TakesBy gives (IsStore word value) v w → MayLeaveStore word value v w
+pub store_may_store : (gives : ℕ → Type 0) (word value : ℕ) (v w : View) → word < word_count v → TakesBy gives (IsStore word value) v w
+    → MayLeaveStore word value v w
 store_may_store gives word value v w l t =
     record {
       words = ap (λ (x : List ℕ). length x) t.done.volatile ∙ length-set v.volatile word value;

@@ -22,7 +22,8 @@ mark_count-below (true ∷ marks) (suc k) l e = let h = mark_count-below marks k
 mark_count-below (false ∷ marks) (suc k) l e = let h = mark_count-below marks k (omega arith) e in omega arith
 
 -- a new mark counts
-pub mark_count-set : (marks : List Bool) (k : ℕ) → k < length marks → get_or marks k false ≡ false → mark_count (set marks k true) ≡ mark_count marks + 1
+pub mark_count-set : (marks : List Bool) (k : ℕ) → k < length marks → get_or marks k false ≡ false
+    → mark_count (set marks k true) ≡ mark_count marks + 1
 mark_count-set [] k l e = absurd (omega arith)
 mark_count-set (true ∷ marks) zero l e = absurd (cc)
 mark_count-set (false ∷ marks) zero l e = refl
@@ -46,12 +47,14 @@ fewer_marks (true ∷ marks) (suc k) is = let rest = fewer_marks marks k is in o
 fewer_marks (false ∷ marks) (suc k) is = fewer_marks marks k is
 
 -- a page that isn't listed has room
-pub has_room : (words pages : List Bool) (list : List ℕ) (capacity page : ℕ) → ListsPages words pages list capacity → page < length pages → get_or pages page false ≡ false → length list < capacity
+pub has_room : (words pages : List Bool) (list : List ℕ) (capacity page : ℕ) → ListsPages words pages list capacity → page < length pages
+    → get_or pages page false ≡ false → length list < capacity
 has_room words pages list capacity page h l e =
     let m = mark_count-below pages page l e in omega (arith, h.room, h.few)
 
 -- a page in the memory has its place among the pages
-pub page_within : (words pages : List Bool) (list : List ℕ) (capacity page : ℕ) → ListsPages words pages list capacity → 4096 * page < length words → page < length pages
+pub page_within : (words pages : List Bool) (list : List ℕ) (capacity page : ℕ) → ListsPages words pages list capacity
+    → 4096 * page < length words → page < length pages
 page_within words pages list capacity page h l = omega (arith, h.reach)
 
 -- a set mark stays, whichever other is set
@@ -63,13 +66,15 @@ set_keeps pages page other m =
     ]
 
 -- the groups that have marked words are covered once a line's words are marked, and its group
-pub cover_line : (words new groups : List Bool) (line : ℕ) → CoversGroups words groups → length new ≡ length words → 8 * line < length words → ((k : ℕ) → k / 8 ≢ line → get_or new k false ≡ get_or words k false) → CoversGroups new (set groups (line / 8) true)
+pub cover_line : (words new groups : List Bool) (line : ℕ) → CoversGroups words groups → length new ≡ length words → 8 * line < length words
+    → ((k : ℕ) → k / 8 ≢ line → get_or new k false ≡ get_or words k false) → CoversGroups new (set groups (line / 8) true)
 cover_line words new groups line h len l same =
     record {
       reach = omega (arith, h.reach, length-set {A = Bool});
       covers = λ word m.
           elim (cases_eq (word / 64) (line / 8)) [
-            | inl e ↦ subst (λ (x : ℕ). IsMarked (set groups (line / 8) true) x) (sym e) (get_or-set_same groups (line / 8) true false (omega (arith, h.reach)))
+            | inl e ↦ subst (λ (x : ℕ). IsMarked (set groups (line / 8) true) x) (sym e)
+                (get_or-set_same groups (line / 8) true false (omega (arith, h.reach)))
             | inr ne ↦ set_keeps groups (line / 8) (word / 64) (h.covers word (sym (same word (λ here. ne (omega (arith, here)))) ∙ m))
           ];
     }
@@ -83,15 +88,18 @@ set_cases pages page other m =
     ]
 
 -- what holds of each number of a list and of one more
-each_pushed : (list : List ℕ) (page bound : ℕ) → ((k : ℕ) → k < length list → 4096 * get_or list k 0 < bound) → 4096 * page < bound → (k : ℕ) → k < length (list ++ page ∷ []) → 4096 * get_or (list ++ page ∷ []) k 0 < bound
+each_pushed : (list : List ℕ) (page bound : ℕ) → ((k : ℕ) → k < length list → 4096 * get_or list k 0 < bound) → 4096 * page < bound → (k : ℕ)
+    → k < length (list ++ page ∷ []) → 4096 * get_or (list ++ page ∷ []) k 0 < bound
 each_pushed list page bound each l k lt = grind (arith, elements)
 
 -- and, if it holds of all, of those before the last
-each_popped : (list : List ℕ) (page bound : ℕ) → ((k : ℕ) → k < length (list ++ page ∷ []) → 4096 * get_or (list ++ page ∷ []) k 0 < bound) → (k : ℕ) → k < length list → 4096 * get_or list k 0 < bound
+each_popped : (list : List ℕ) (page bound : ℕ) → ((k : ℕ) → k < length (list ++ page ∷ []) → 4096 * get_or (list ++ page ∷ []) k 0 < bound)
+    → (k : ℕ) → k < length list → 4096 * get_or list k 0 < bound
 each_popped list page bound each k lt = let h = each k (omega (arith, length-append {A = ℕ})) in grind (arith, elements, h)
 
 -- the list once the page is added
-pub list_page : (words pages : List Bool) (list : List ℕ) (capacity room page : ℕ) → ListsPages words pages list capacity → capacity ≤ room → 4096 * page < length words → get_or pages page false ≡ false → ListsPages words (set pages page true) (list ++ page ∷ []) room
+pub list_page : (words pages : List Bool) (list : List ℕ) (capacity room page : ℕ) → ListsPages words pages list capacity → capacity ≤ room
+    → 4096 * page < length words → get_or pages page false ≡ false → ListsPages words (set pages page true) (list ++ page ∷ []) room
 list_page words pages list capacity room page h more l e =
     let within : page < length pages = page_within words pages list capacity page h l in
     record {
@@ -108,7 +116,9 @@ list_page words pages list capacity room page h more l e =
     }
 
 -- the marks of the words of a listed page may change
-pub remark : (words new pages : List Bool) (list : List ℕ) (capacity page : ℕ) → ListsPages words pages list capacity → length new ≡ length words → IsMarked pages page → ((k : ℕ) → k / 4096 ≢ page → get_or new k false ≡ get_or words k false) → ListsPages new pages list capacity
+pub remark : (words new pages : List Bool) (list : List ℕ) (capacity page : ℕ) → ListsPages words pages list capacity
+    → length new ≡ length words → IsMarked pages page → ((k : ℕ) → k / 4096 ≢ page → get_or new k false ≡ get_or words k false)
+    → ListsPages new pages list capacity
 remark words new pages list capacity page h len on same =
     record {
       reach = omega (arith, h.reach);
@@ -124,7 +134,8 @@ remark words new pages list capacity page h len on same =
     }
 
 -- what is left of the list's last page once its mark is taken back
-unset_all : (pages : List Bool) (list : List ℕ) (page other : ℕ) → ((l : ℕ) → IsMarked pages l → Contains (list ++ page ∷ []) l) → IsMarked (set pages page false) other → Contains list other
+unset_all : (pages : List Bool) (list : List ℕ) (page other : ℕ) → ((l : ℕ) → IsMarked pages l → Contains (list ++ page ∷ []) l)
+    → IsMarked (set pages page false) other → Contains list other
 unset_all pages list page other all m =
     elim (cases_eq other page) [
       | inl e ↦
@@ -139,7 +150,9 @@ unset_all pages list page other all m =
     ]
 
 -- the list once its last page is taken, whose words have no mark any more
-pub unlist_page : (words new pages : List Bool) (list : List ℕ) (capacity page : ℕ) → ListsPages words pages (list ++ page ∷ []) capacity → length new ≡ length words → ((k : ℕ) → k / 4096 ≡ page → get_or new k false ≡ false) → ((k : ℕ) → k / 4096 ≢ page → get_or new k false ≡ get_or words k false) → ListsPages new (set pages page false) list capacity
+pub unlist_page : (words new pages : List Bool) (list : List ℕ) (capacity page : ℕ) → ListsPages words pages (list ++ page ∷ []) capacity
+    → length new ≡ length words → ((k : ℕ) → k / 4096 ≡ page → get_or new k false ≡ false)
+    → ((k : ℕ) → k / 4096 ≢ page → get_or new k false ≡ get_or words k false) → ListsPages new (set pages page false) list capacity
 unlist_page words new pages list capacity page h len clear same =
     record {
       reach = omega (arith, h.reach, length-set {A = Bool});
@@ -167,13 +180,18 @@ pub read_is : (xs : List Bool) (i : ℕ) (read value : Bool) → i < length xs �
 read_is xs i read value l e r = get_or_default xs i false read l ∙ sym e ∙ r
 
 -- the marks of a page that was listed are set
-pub marked_again : (words slice new pages : List Bool) (list : List ℕ) (capacity page : ℕ) → ListsPages words pages list capacity → slice ≡ words → length new ≡ length slice → ((k : ℕ) → k / 4096 ≢ page → get_or new k false ≡ get_or slice k false) → IsMarked pages page → ListsPages new pages list capacity
+pub marked_again : (words slice new pages : List Bool) (list : List ℕ) (capacity page : ℕ) → ListsPages words pages list capacity
+    → slice ≡ words → length new ≡ length slice → ((k : ℕ) → k / 4096 ≢ page → get_or new k false ≡ get_or slice k false) → IsMarked pages page
+    → ListsPages new pages list capacity
 marked_again words slice new pages list capacity page h s len same on =
     remark words new pages list capacity page h (len ∙ ap length s) on
     (λ k ne. same k ne ∙ ap (λ (x : List Bool). get_or x k false) s)
 
 -- the marks of a page that wasn't listed are set, and the page is listed
-pub marked_first : (words slice new pages : List Bool) (list pushed : List ℕ) (capacity room page : ℕ) → ListsPages words pages list capacity → slice ≡ words → length new ≡ length slice → ((k : ℕ) → k / 4096 ≢ page → get_or new k false ≡ get_or slice k false) → get_or pages page false ≡ false → 4096 * page < length words → capacity ≤ room → pushed ≡ list ++ page ∷ [] → ListsPages new (set pages page true) pushed room
+pub marked_first : (words slice new pages : List Bool) (list pushed : List ℕ) (capacity room page : ℕ) → ListsPages words pages list capacity
+    → slice ≡ words → length new ≡ length slice → ((k : ℕ) → k / 4096 ≢ page → get_or new k false ≡ get_or slice k false)
+    → get_or pages page false ≡ false → 4096 * page < length words → capacity ≤ room → pushed ≡ list ++ page ∷ []
+    → ListsPages new (set pages page true) pushed room
 marked_first words slice new pages list pushed capacity room page h s len same off l more p =
     let within = page_within words pages list capacity page h l in
     let there = list_page words pages list capacity room page h more l off in
@@ -181,7 +199,10 @@ marked_first words slice new pages list pushed capacity room page h s len same o
     (marked_again words slice new (set pages page true) (list ++ page ∷ []) room page there s len same (get_or-set_same pages page true false within))
 
 -- the last page of the list is completed
-pub completed_last : (words slice new pages : List Bool) (list all : List ℕ) (capacity room page : ℕ) → ListsPages words pages all capacity → all ≡ list ++ page ∷ [] → room ≡ capacity → slice ≡ words → length new ≡ length slice → ((k : ℕ) → k / 4096 ≡ page → get_or new k false ≡ false) → ((k : ℕ) → k / 4096 ≢ page → get_or new k false ≡ get_or slice k false) → ListsPages new (set pages page false) list room
+pub completed_last : (words slice new pages : List Bool) (list all : List ℕ) (capacity room page : ℕ) → ListsPages words pages all capacity
+    → all ≡ list ++ page ∷ [] → room ≡ capacity → slice ≡ words → length new ≡ length slice
+    → ((k : ℕ) → k / 4096 ≡ page → get_or new k false ≡ false) → ((k : ℕ) → k / 4096 ≢ page → get_or new k false ≡ get_or slice k false)
+    → ListsPages new (set pages page false) list room
 completed_last words slice new pages list all capacity room page h p r s len clear same =
     let there = subst (λ (x : List ℕ). ListsPages words pages x capacity) p h in
     let more = subst (λ (x : ℕ). ListsPages words pages (list ++ page ∷ []) x) (sym r) there in
@@ -192,8 +213,14 @@ completed_last words slice new pages list all capacity room page h p r s len cle
 pub completed_one : (marks : List Bool) (volatile durable : List ℕ) (word : ℕ) → IsMarked marks word → word < length durable → (k : ℕ)
     → completed_at (set marks word false) volatile (set durable word (get_or volatile word 0)) k ≡ completed_at marks volatile durable k
 completed_one marks volatile durable word on inside k =
-    elim (cases_eq k word) as (λ _. completed_at (set marks word false) volatile (set durable word (get_or volatile word 0)) k ≡ completed_at marks volatile durable k) [
-      | inl here ↦ subst (λ n. completed_at (set marks word false) volatile (set durable word (get_or volatile word 0)) n ≡ completed_at marks volatile durable n) (sym here)
-          (rw (get_or-set_same marks word false false (is_marked_within marks word on), get_or-set_same durable word (get_or volatile word 0) 0 inside, on) refl)
+    elim (cases_eq k word) as (λ _. completed_at (set marks word false) volatile
+    (set durable word (get_or volatile word 0)) k ≡ completed_at marks volatile durable k) [
+      | inl here ↦ subst (λ n. completed_at (set marks word false) volatile
+          (set durable word (get_or volatile word 0)) n ≡ completed_at marks volatile durable n) (sym here)
+          (rw (
+            get_or-set_same marks word false false (is_marked_within marks word on),
+            get_or-set_same durable word (get_or volatile word 0) 0 inside,
+            on,
+          ) refl)
       | inr other ↦ rw (get_or-set_other marks word k false false other, get_or-set_other durable word k (get_or volatile word 0) 0 other) refl
     ]

@@ -39,7 +39,8 @@ counts_all : (image : Image) (links : Links) (a : Block) (mode : Mode) (position
 counts_all image links a (Kind kind) position counts = absurd counts
 counts_all image links a All position counts = refl
 
-all_stay : (image : Image) (modes : ℕ → Mode) (links : Links) → HaveNoFilter modes → (b : Block) (mode : Mode) → ReachMixed image modes links b mode → mode ≡ All
+all_stay : (image : Image) (modes : ℕ → Mode) (links : Links) → HaveNoFilter modes → (b : Block) (mode : Mode)
+    → ReachMixed image modes links b mode → mode ≡ All
 all_stay image modes links none _ _ (by_start b mode start) = start.mode_is ∙ none.each start.root start.below
 all_stay image modes links none _ _ (by_link a b from mode reached link) =
     counts_all image links a mode link.position
@@ -84,7 +85,8 @@ module _ (image : Image) (modes : ℕ → Mode) (kinds : ℕ → ℕ) (links : L
   IsPlain b All = ⊥
 
   plain_link : (a b : Block) (from mode : Mode) → IsPlain a from → WordLeadsAs image links a from b mode → IsPlain b mode
-  plain_link a b (Kind from) (Kind kind) reached link = by_link a b from kind reached (record { position = link.position; listed = link.counts; leads = link.leads })
+  plain_link a b (Kind from) (Kind kind) reached link = by_link a b from kind reached
+      (record { position = link.position; listed = link.counts; leads = link.leads })
   plain_link a b (Kind from) All reached link = absurd link.counts
   plain_link a b All mode reached link = absurd reached
 
@@ -103,7 +105,8 @@ module _ (image : Image) (modes : ℕ → Mode) (kinds : ℕ → ℕ) (links : L
         leads = start.leads;
       })
   mixed_of_plain _ _ (by_link a b from kind reached link) =
-      by_link a b (Kind from) (Kind kind) (mixed_of_plain a from reached) (record { position = link.position; counts = link.listed; leads = link.leads })
+      by_link a b (Kind from) (Kind kind) (mixed_of_plain a from reached)
+      (record { position = link.position; counts = link.listed; leads = link.leads })
 
   pub plain_of_mixed : (b : Block) (kind : ℕ) → ReachMixed image modes links b (Kind kind) → Reach image kinds links b kind
   plain_of_mixed b kind reached = plain b (Kind kind) reached
@@ -120,11 +123,13 @@ module _ (image : Image) (modes : ℕ → Mode) (kinds : ℕ → ℕ) (links : L
 
   traced_plain : (at : ℕ) → IsTracedMixed image modes links at → IsTraced image kinds links at
   traced_plain _ (is_root root kind at below is at_is) = is_plain_root root at below tt at_is
-  traced_plain _ (is_linked a from position kind at reached listed at_is) = is_plain_linked a from position kind at (plain_of_mixed a from reached) listed at_is
+  traced_plain _ (is_linked a from position kind at reached listed at_is) =
+      is_plain_linked a from position kind at (plain_of_mixed a from reached) listed at_is
 
   plain_traced : (at : ℕ) → IsTraced image kinds links at → IsTracedMixed image modes links at
   plain_traced _ (is_plain_root root at below chosen at_is) = is_root root (kinds root) at below (have.each root below) at_is
-  plain_traced _ (is_plain_linked a from position kind at reached listed at_is) = is_linked a from position kind at (mixed_of_plain a from reached) listed at_is
+  plain_traced _ (is_plain_linked a from position kind at reached listed at_is) =
+      is_linked a from position kind at (mixed_of_plain a from reached) listed at_is
 
   pub outside_plain : (at : ℕ) → IsOutsideMixed image modes links at → IsOutside image kinds links at
   outside_plain at out = record { traced = traced_plain at out.traced; outside = out.outside }
@@ -133,8 +138,10 @@ module _ (image : Image) (modes : ℕ → Mode) (kinds : ℕ → ℕ) (links : L
   plain_outside at out = record { traced = plain_traced at out.traced; outside = out.outside }
 
 -- with fewer filters, what was reached is reached as before or without a filter
-module _ (image : Image) (modes fewer : ℕ → Mode) (links : Links) (limit : ℕ) (inside : AreInside limit links) (less : HaveFewerFilters modes fewer) where
-  still_reached : (b : Block) (mode : Mode) → ReachMixed image modes links b mode → ReachMixed image fewer links b mode ⊎ ReachMixed image fewer links b All
+module _ (image : Image) (modes fewer : ℕ → Mode) (links : Links) (limit : ℕ) (inside : AreInside limit links)
+    (less : HaveFewerFilters modes fewer) where
+  still_reached : (b : Block) (mode : Mode) → ReachMixed image modes links b mode
+      → ReachMixed image fewer links b mode ⊎ ReachMixed image fewer links b All
   still_reached _ _ (by_start b mode start) =
       elim (less.each start.root start.below) as (λ _. ReachMixed image fewer links b mode ⊎ ReachMixed image fewer links b All) [
         | inl same ↦ inl (by_start b mode (record { root = start.root; below = start.below; mode_is = start.mode_is ∙ sym same; leads = start.leads }))
@@ -158,8 +165,10 @@ module _ (image : Image) (modes fewer : ℕ → Mode) (links : Links) (limit : �
       ]
 
 -- images with the same heap reach the same
-module _ (image other : Image) (same : HasSameHeap image other) (few : used_of image ≤ capacity_of image) (links : Links) (limit : ℕ) (inside : AreInside limit links) where
-  counts_there : (a : Block) (from mode : Mode) (position : ℕ) → words_in other a ≡ words_in image a → CountsAs image links a from position mode → CountsAs other links a from position mode
+module _ (image other : Image) (same : HasSameHeap image other) (few : used_of image ≤ capacity_of image) (links : Links) (limit : ℕ)
+    (inside : AreInside limit links) where
+  counts_there : (a : Block) (from mode : Mode) (position : ℕ) → words_in other a ≡ words_in image a → CountsAs image links a from position mode
+      → CountsAs other links a from position mode
   counts_there a (Kind from) (Kind kind) position words listed = subst (λ ws. Contains (links from ws) (position, kind)) (sym words) listed
   counts_there a (Kind from) All position words counts = absurd counts
   counts_there a All (Kind kind) position words counts = absurd counts
@@ -176,7 +185,8 @@ module _ (image other : Image) (same : HasSameHeap image other) (few : used_of i
         root = start.root;
         below = start.below;
         mode_is = start.mode_is;
-        leads = leads_there (root_word start.root) b (let low = start.below in same.words_are (root_word start.root) (λ e. omega (arith, e)) (omega arith)) start.leads;
+        leads = leads_there (root_word start.root) b (let low = start.below in
+            same.words_are (root_word start.root) (λ e. omega (arith, e)) (omega arith)) start.leads;
       })
   mixed_there modes _ _ (by_link a b from mode reached link) =
       let block = mixed_block image modes links a from reached in
@@ -184,7 +194,8 @@ module _ (image other : Image) (same : HasSameHeap image other) (few : used_of i
       let at : ℕ = a.first_word + link.position in
       by_link a b from mode (mixed_there modes a from reached) (record {
         position = link.position;
-        counts = counts_there a from mode link.position (words_from-agree other image a.first_word a.words (same_part image other same few a block)) link.counts;
+        counts = counts_there a from mode link.position (words_from-agree other image a.first_word a.words
+            (same_part image other same few a block)) link.counts;
         leads = leads_there at b (same_part image other same few a block at (omega arith) (omega arith)) link.leads;
       })
 
@@ -203,7 +214,8 @@ migrated_no_less words kinds fewer links limit count count' formed inside less b
     let by_modes : Image = slice_index (words_by_modes words fewer) in
     let same = current_same None words kinds count (inl formed) in
     let same' = current_same None words (map stored_kind fewer) (length-map fewer stored_kind ∙ count') (inl formed) in
-    let few : used_of by_kinds ≤ capacity_of by_kinds = let capacity = same.capacity_is in let used = same.used_is in let low = formed.used in omega arith in
+    let few : used_of by_kinds ≤ capacity_of by_kinds = let capacity = same.capacity_is in let used = same.used_is in let low = formed.used in
+    omega arith in
     let mixed : IsReachedMixed by_kinds (λ root. Kind (slice_index kinds root)) links b
     = from_plain by_kinds (λ root. Kind (slice_index kinds root)) (kinds_of by_kinds) links
     (record { each = λ root low. ap (λ k. Kind k) (sym (current_kinds words kinds count formed root low)) }) b reached in

@@ -44,7 +44,8 @@ module _ (image : Image) (count at kind : ℕ) (pairs pairs' : List (Block × �
       → AreMarked (layout_of image) count pairs' marks'
   passes_marked work below (followed follows) = follow_marked image count at kind pairs pairs' marks marks' work below follows
   passes_marked work below (nowhere out same_pairs same_marks) =
-      subst (λ ps. AreMarked (layout_of image) count ps marks') (sym same_pairs) (subst (λ ms. AreMarked (layout_of image) count pairs ms) (sym same_marks) work)
+      subst (λ ps. AreMarked (layout_of image) count ps marks') (sym same_pairs)
+      (subst (λ ms. AreMarked (layout_of image) count pairs ms) (sym same_marks) work)
 
   passes_grows : Passes image count at kind pairs pairs' marks marks' → IsExtended pairs pairs'
   passes_grows (followed follows) = follow_grows image count at kind pairs pairs' marks marks' follows
@@ -133,7 +134,8 @@ module _ (image : Image) (modes : ℕ → Mode) (links : Links) (limit : ℕ) wh
         grown = more_and_more pairs pairs' pairs'' was.grown grown;
         followed = λ n m this. elim (cases n m this) as (λ _. IsFollowedAs image limit pairs'' n m) [
           | inl old ↦ still_as image limit pairs' pairs'' n m grown (was.followed n m old)
-          | inr same ↦ subst (λ k. IsFollowedAs image limit pairs'' k m) (sym same.0) (subst (λ k. IsFollowedAs image limit pairs'' at k) (sym same.1) here)
+          | inr same ↦ subst (λ k. IsFollowedAs image limit pairs'' k m) (sym same.0)
+              (subst (λ k. IsFollowedAs image limit pairs'' at k) (sym same.1) here)
         ];
       }
 
@@ -162,7 +164,8 @@ root_cases modes upto at mode this =
 pub link_cases : (a : Block) (upto : List (ℕ × ℕ)) (position kind at : ℕ) (mode : Mode) → IsLinkAmong a (upto ++ (position, kind) ∷ []) at mode
     → IsLinkAmong a upto at mode ⊎ ((at ≡ a.first_word + position) × (mode ≡ Kind kind))
 link_cases a upto position kind at mode this =
-    elim (Contains-push_cases upto (position, kind) (this.position, this.kind) this.listed) as (λ _. IsLinkAmong a upto at mode ⊎ ((at ≡ a.first_word + position) × (mode ≡ Kind kind))) [
+    elim (Contains-push_cases upto (position, kind) (this.position, this.kind) this.listed) as
+    (λ _. IsLinkAmong a upto at mode ⊎ ((at ≡ a.first_word + position) × (mode ≡ Kind kind))) [
       | inl old ↦ inl (record { position = this.position; kind = this.kind; listed = old; at_is = this.at_is; mode_is = this.mode_is })
       | inr same ↦ inr (
         this.at_is ∙ ap (λ (l : ℕ × ℕ). a.first_word + l.0) (sym same),
@@ -184,9 +187,16 @@ word_cases a upto at mode this =
 -- the words of a block that count are the links that the filter lists, or all
 pub counted_links : (image : Image) (links : Links) (a : Block) (from at : ℕ) (mode : Mode) → IsCounted image links a (Kind from) at mode
     → IsLinkAmong a (links from (words_in image a)) at mode
-counted_links image links a from at (Kind kind) counted = record { position = counted.position; kind = kind; listed = counted.counts; at_is = counted.at_is; mode_is = refl }
+counted_links image links a from at (Kind kind) counted = record {
+  position = counted.position;
+  kind = kind;
+  listed = counted.counts;
+  at_is = counted.at_is;
+  mode_is = refl;
+}
 counted_links image links a from at All counted = absurd counted.counts
 
-pub counted_words : (image : Image) (links : Links) (a : Block) (at : ℕ) (mode : Mode) → IsCounted image links a All at mode → IsWordAmong a a.words at mode
+pub counted_words : (image : Image) (links : Links) (a : Block) (at : ℕ) (mode : Mode) → IsCounted image links a All at mode
+    → IsWordAmong a a.words at mode
 counted_words image links a at (Kind kind) counted = absurd counted.counts
 counted_words image links a at All counted = record { position = counted.position; below = counted.counts; at_is = counted.at_is; mode_is = refl }

@@ -23,7 +23,8 @@ use Rattle.mixed_trace.specs.Laws.{HaveNoFilter}
 use Rattle.mixed_trace.proofs.LawLemmas.{not_outside}
 use Rattle.mixed_trace.proofs.WorkLemmas.{mixed_block}
 
-module _ (image : Image) (modes : ℕ → Mode) (links : Links) (limit : ℕ) (pairs : List (Block × ℕ)) (are : AreReachedMixed image modes links limit pairs) where
+module _ (image : Image) (modes : ℕ → Mode) (links : Links) (limit : ℕ) (pairs : List (Block × ℕ))
+    (are : AreReachedMixed image modes links limit pairs) where
   marked_mixed : (b : Block) → IsMarked pairs b → IsReachedMixed image modes links b
   marked_mixed b marked =
       let known = are.codes b marked.kind marked.pair in

@@ -20,7 +20,8 @@ use Rattle.mixed_trace.specs.Steps.{TellsAs, IsFollowedAs, FollowsEach, IsRootAm
 use Rattle.mixed_trace.proofs.MixedStepLemmas.{code_one, counts_fit, still_as, as_has}
 
 -- a reached pair names a block
-pub mixed_block : (image : Image) (modes : ℕ → Mode) (links : Links) (b : Block) (mode : Mode) → ReachMixed image modes links b mode → IsBlock (layout_of image) b
+pub mixed_block : (image : Image) (modes : ℕ → Mode) (links : Links) (b : Block) (mode : Mode) → ReachMixed image modes links b mode
+    → IsBlock (layout_of image) b
 mixed_block image modes links _ _ (by_start b mode start) = start.leads.names.block
 mixed_block image modes links _ _ (by_link a b from mode reached link) = link.leads.names.block
 
@@ -67,13 +68,17 @@ module _ (image : Image) (modes : ℕ → Mode) (links : Links) (limit : ℕ) wh
   }
 
   -- the next pair is of a block that is reached as one of the mode for which its number stands
-  pub next_found : (next : ℕ) (a : Block) (number : ℕ) (mode : Mode) (pairs : List (Block × ℕ)) (marks : List Bool) → IsMixedWork image modes links limit next pairs marks
+  pub next_found : (next : ℕ) (a : Block) (number : ℕ) (mode : Mode) (pairs : List (Block × ℕ)) (marks : List Bool)
+      → IsMixedWork image modes links limit next pairs marks
       → next < length pairs → get_or pairs next (a, number) ≡ (a, number) → ((m : Mode) → FitsBelow limit m → number ≡ code limit m → mode ≡ m)
       → FitsBelow limit mode × (number ≡ code limit mode) × ReachMixed image modes links a mode
   next_found next a number mode pairs marks work below read is_mode =
       let found = work.found.reached.each a number (next, below, read) in
-      let same = sym (is_mode found.mode found.fits found.code_is) in
-      (subst (λ m. FitsBelow limit m) same found.fits, subst (λ m. number ≡ code limit m) same found.code_is, subst (λ m. ReachMixed image modes links a m) same found.reach)
+      let same = sym (is_mode found.mode found.fits found.code_is) in (
+        subst (λ m. FitsBelow limit m) same found.fits,
+        subst (λ m. number ≡ code limit m) same found.code_is,
+        subst (λ m. ReachMixed image modes links a m) same found.reach,
+      )
 
   still_has : (pairs pairs' : List (Block × ℕ)) (a : Block) (number : ℕ) → IsExtended pairs pairs' → IsFollowedPair image links limit pairs a number
       → IsFollowedPair image links limit pairs' a number
@@ -89,7 +94,8 @@ module _ (image : Image) (modes : ℕ → Mode) (links : Links) (limit : ℕ) wh
       → IsMixedWork image modes links limit (next + 1) pairs' marks'
   work_step next a number from pairs pairs' marks marks' work below read fits code_is follows =
       let grown = follows.grown in
-      let longer : length pairs' ≡ length pairs + length grown.more = ap (λ (ps : List (Block × ℕ)). length ps) grown.is ∙ length-append pairs grown.more in
+      let longer : length pairs' ≡ length pairs + length grown.more = ap (λ (ps : List (Block × ℕ)). length ps) grown.is
+      ∙ length-append pairs grown.more in
       let front : take (next + 1) pairs' ≡ take next pairs ++ (a, number) ∷ [] =
       ap (λ (ps : List (Block × ℕ)). take (next + 1) ps) grown.is
       ∙ take-append-le (next + 1) pairs grown.more (omega arith)
@@ -103,17 +109,20 @@ module _ (image : Image) (modes : ℕ → Mode) (links : Links) (limit : ℕ) wh
         found = follows.found;
         roots_followed = λ at mode root. still_as image limit pairs pairs' at mode grown (work.roots_followed at mode root);
         words_followed = record {
-          each = λ b other here. elim (pair_cases (take next pairs) a b number other (subst (λ ps. Contains ps (b, other)) front here)) as (λ _. IsFollowedPair image links limit pairs' b other) [
-            | inl old ↦ still_has pairs pairs' b other grown (work.words_followed.each b other old)
-            | inr same ↦ subst (λ x. IsFollowedPair image links limit pairs' x other) same.0 (subst (λ x. IsFollowedPair image links limit pairs' a x) same.1 this)
-          ];
+          each = λ b other here. elim (pair_cases (take next pairs) a b number other (subst (λ ps. Contains ps (b, other)) front here)) as
+              (λ _. IsFollowedPair image links limit pairs' b other) [
+                | inl old ↦ still_has pairs pairs' b other grown (work.words_followed.each b other old)
+                | inr same ↦ subst (λ x. IsFollowedPair image links limit pairs' x other) same.0
+                    (subst (λ x. IsFollowedPair image links limit pairs' a x) same.1 this)
+              ];
         };
         within = omega arith;
       }
 
   all_followed : (next : ℕ) (pairs : List (Block × ℕ)) (marks : List Bool) → IsMixedWork image modes links limit next pairs marks → length pairs ≤ next
       → Each (IsFollowedPair image links limit pairs) pairs
-  all_followed next pairs marks work past = subst (λ ps. Each (IsFollowedPair image links limit pairs) ps) (take_all next pairs past) work.words_followed
+  all_followed next pairs marks work past = subst (λ ps. Each (IsFollowedPair image links limit pairs) ps)
+      (take_all next pairs past) work.words_followed
 
   -- when all pairs have been followed, each that is reached is there
   complete : (pairs : List (Block × ℕ)) → AreInside limit links → ((root : ℕ) → root < roots → FitsBelow limit (modes root))
@@ -143,10 +152,12 @@ module _ (image : Image) (modes : ℕ → Mode) (links : Links) (limit : ℕ) wh
       (from_roots at (Kind kind) (record { root = root; below = below; at_is = at_is; mode_is = sym is })).inside outside
   inside_all pairs inside fit from_roots from_words _ (is_linked a from position kind at reached listed at_is) outside =
       let has = complete pairs inside fit from_roots from_words a (Kind from) reached in
-      ((from_words.each a from has.pair).each (Kind from) has.fits refl at (Kind kind) (record { position = position; counts = listed; at_is = at_is })).inside outside
+      ((from_words.each a from has.pair).each (Kind from) has.fits refl at (Kind kind)
+      (record { position = position; counts = listed; at_is = at_is })).inside outside
 
   -- so the pairs are those that are reached
-  pub work_ends : (next : ℕ) (pairs : List (Block × ℕ)) (marks : List Bool) → AreInside limit links → ((root : ℕ) → root < roots → FitsBelow limit (modes root))
+  pub work_ends : (next : ℕ) (pairs : List (Block × ℕ)) (marks : List Bool) → AreInside limit links
+      → ((root : ℕ) → root < roots → FitsBelow limit (modes root))
       → IsMixedWork image modes links limit next pairs marks → length pairs ≤ next → AreReachedMixed image modes links limit pairs
   work_ends next pairs marks inside fit work past = record {
     each = λ b mode. (
@@ -158,7 +169,8 @@ module _ (image : Image) (modes : ℕ → Mode) (links : Links) (limit : ℕ) wh
     codes = λ b number here. let found = work.found.reached.each b number here in (found.mode, found.fits, found.code_is);
   }
 
-  pub work_inside : (next : ℕ) (pairs : List (Block × ℕ)) (marks : List Bool) → AreInside limit links → ((root : ℕ) → root < roots → FitsBelow limit (modes root))
+  pub work_inside : (next : ℕ) (pairs : List (Block × ℕ)) (marks : List Bool) → AreInside limit links
+      → ((root : ℕ) → root < roots → FitsBelow limit (modes root))
       → IsMixedWork image modes links limit next pairs marks → length pairs ≤ next → (at : ℕ) → IsOutsideMixed image modes links at → ⊥
   work_inside next pairs marks inside fit work past at outside =
       inside_all pairs inside fit work.roots_followed (all_followed next pairs marks work past) at outside.traced outside.outside

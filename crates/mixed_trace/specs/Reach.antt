@@ -1,4 +1,5 @@
--- What roots reach where each has a mode: the blocks of a kind through the links that a filter lists, those of no filter through every word that names a block.
+-- What roots reach where each has a mode: the blocks of a kind through the links that a filter lists, those of no
+-- filter through every word that names a block.
 use Rattle.std.specs.Prelude.{◌≡◌, ℕ, ◌+◌, ◌<◌, List, Contains, slice_index_or}
 use Rattle.heap_model.specs.declared.block.Block.{Block}
 use Rattle.heap_model.specs.Geometry.{roots, root_word}
@@ -17,7 +18,8 @@ abbrev pub FitsBelow : ℕ → Mode → Type 0
 FitsBelow limit (Kind kind) = kind < limit
 FitsBelow limit All = Unit {0}
 
--- The word at the position of the block, which has the first mode, counts as a link, and what it leads to has the second: of a block of a kind what the filter lists, of any other each word.
+-- The word at the position of the block, which has the first mode, counts as a link, and what it leads to has the
+-- second: of a block of a kind what the filter lists, of any other each word.
 abbrev pub CountsAs : Image → Links → Block → Mode → ℕ → Mode → Type 0
 CountsAs image links a (Kind from) position (Kind kind) = Contains (links from (words_in image a)) (position, kind)
 CountsAs image links a (Kind from) position All = ⊥
@@ -46,7 +48,8 @@ pub record IsReachedMixed (image : Image) (modes : ℕ → Mode) (links : Links)
   pub mode : Mode
   pub reach : ReachMixed image modes links b mode
 
--- the word at the index must be null or lead to a block: it is a root of a kind, or a word that the filter lists of a block that is reached as one of a kind
+-- the word at the index must be null or lead to a block: it is a root of a kind, or a word that the filter lists of a
+-- block that is reached as one of a kind
 pub data IsTracedMixed (image : Image) (modes : ℕ → Mode) (links : Links) : ℕ → Type 0 where
   is_root : (root kind at : ℕ) → root < roots → modes root ≡ Kind kind → at ≡ root_word root → IsTracedMixed image modes links at
   is_linked : (a : Block) (from position kind at : ℕ) → ReachMixed image modes links a (Kind from)

@@ -25,9 +25,11 @@ TellsOutsideHere image modes links (Header cause) = ⊥
 TellsOutsideHere image modes links (Outside at value) = IsOutsideMixed image modes links at × (value ≡ image at)
 TellsOutsideHere image modes links Memory = Unit {0}
 
--- The first cause, but of a kind, that makes the header of the words bad; or, where it is good, a word that is outside in the current words, and its value. Of want of memory nothing is said.
+-- The first cause, but of a kind, that makes the header of the words bad; or, where it is good, a word that is outside
+-- in the current words, and its value. Of want of memory nothing is said.
 abbrev pub TellsMixedFault : List ℕ → List ℕ → (ℕ → Mode) → Links → RecoverFault → Type 0
 TellsMixedFault words current modes links (Header cause) = header_fault None (8 * length words) (slice_index words) ≡ Some cause
 TellsMixedFault words current modes links (Outside at value) =
-    (header_fault None (8 * length words) (slice_index words) ≡ None) × IsOutsideMixed (slice_index current) modes links at × (value ≡ slice_index current at)
+    (header_fault None (8 * length words) (slice_index words) ≡ None) × IsOutsideMixed (slice_index current) modes links at
+    × (value ≡ slice_index current at)
 TellsMixedFault words current modes links Memory = Unit {0}

@@ -24,7 +24,8 @@ answers_push l pairs d index marked answer long before here = (length-append mar
     | inl inside ↦ subst (λ (b : Bool). IsTrue b ↔ IsReachedAt l pairs d i) (sym (get_or-append marked (answer ∷ []) false i inside)) (before i inside)
     | inr past ↦ let same : length marked ≡ i = omega (arith, length-append marked (answer ∷ [])) in
         let seam = subst (λ k. slice_index_or (marked ++ answer ∷ []) k false ≡ answer) same (get_or-append_seam marked answer [] false) in
-        subst (λ (b : Bool). IsTrue b ↔ IsReachedAt l pairs d i) (sym seam) (subst (λ k. IsTrue answer ↔ IsReachedAt l pairs d k) (sym long ∙ same) here)
+        subst (λ (b : Bool). IsTrue b ↔ IsReachedAt l pairs d i) (sym seam)
+        (subst (λ k. IsTrue answer ↔ IsReachedAt l pairs d k) (sym long ∙ same) here)
   ]
 
 -- what calls gave one after the other, each of which was Ok
@@ -33,14 +34,17 @@ record AreGiven (P : ℕ → List Bool → Type 0) (from n : ℕ) (all : List (V
   each : (d : ℕ) (other : Vec Bool Global) → d < length all → P (from + d) (slice_index_or all d other).items
 
 -- one more in front
-more : (P : ℕ → List Bool → Type 0) (from n : ℕ) (v : Vec Bool Global) (vs : List (Vec Bool Global)) → P from v.items → AreGiven P (from + 1) n vs → AreGiven P from (suc n) (v ∷ vs)
+more : (P : ℕ → List Bool → Type 0) (from n : ℕ) (v : Vec Bool Global) (vs : List (Vec Bool Global)) → P from v.items
+    → AreGiven P (from + 1) n vs → AreGiven P from (suc n) (v ∷ vs)
 more P from n v vs first rest = record { long = (let long = rest.long in omega arith); each = each } where
   each : (d : ℕ) (other : Vec Bool Global) → d < length (v ∷ vs) → P (from + d) (slice_index_or (v ∷ vs) d other).items
   each zero other below = let same : from ≡ from + 0 = omega arith in subst (λ k. P k v.items) same first
-  each (suc d) other below = let same : from + 1 + d ≡ from + suc d = omega arith in subst (λ k. P k (slice_index_or vs d other).items) same (rest.each d other (omega arith))
+  each (suc d) other below = let same : from + 1 + d ≡ from + suc d = omega arith in
+      subst (λ k. P k (slice_index_or vs d other).items) same (rest.each d other (omega arith))
 
 given : (P : ℕ → List Bool → Type 0) (from n : ℕ) (all : List (Vec Bool Global))
-    → AllZip (λ d (r : Result (Vec Bool Global) AllocError). IfOk r (λ marked. P d marked.items)) (range_with_len from n) (map Ok all) → AreGiven P from n all
+    → AllZip (λ d (r : Result (Vec Bool Global) AllocError). IfOk r (λ marked. P d marked.items)) (range_with_len from n) (map Ok all)
+    → AreGiven P from n all
 given P from zero [] each = record { long = refl; each = λ d other below. absurd (omega arith) }
 given P from zero (v ∷ vs) each = absurd each
 given P from (suc n) [] each = absurd each
@@ -60,5 +64,6 @@ all_given l pairs n places are calls each (Ok c) is =
     let found = given P 0 n is.0 (subst (λ rs. AllZip tells (range_with_len 0 n) rs) is.1 (subst (λ ds. AllZip tells ds calls) are each)) in
     subst (TellsAll l pairs n) (sym is.2) (record {
       long = found.long;
-      each = λ d other below. let same : 0 + d ≡ d = omega arith in subst (λ k. P k (slice_index_or is.0 d other).items) same (found.each d other (omega (arith, found.long)));
+      each = λ d other below. let same : 0 + d ≡ d = omega arith in subst (λ k. P k (slice_index_or is.0 d other).items) same
+          (found.each d other (omega (arith, found.long)));
     })

@@ -82,7 +82,8 @@ module _ {T : Type 0} where
   pub row_joined : (ps : List (PassView T)) (i : ℕ) (q : QueueView) (old new other : PassView T) → i < length ps → old ≡ get_or ps i old
       → IsPassOf q old → new.queue ≡ q.queue → new.account ≡ joined old.account other.account → set ps i new ≡ changed_at (having_joined other) i ps
   row_joined ps i q old new other inside at end same now =
-      is_changed (having_joined other) ps i old new inside (is_now q old new (joined old.account other.account) end same now ∙ ap (having_joined other) at)
+      is_changed (having_joined other) ps i old new inside (is_now q old new (joined old.account other.account) end same now
+      ∙ ap (having_joined other) at)
 
   -- the queue at a place is that of a pass of this place
   pub of_place : (qs : List QueueView) (i : ℕ) (q : QueueView) (p : PassView T) → IsOfPlace qs i p → q ≡ get_or qs i q → p.queue ≡ q.queue

@@ -1,4 +1,5 @@
--- Two images, of which the one leaves in the other what a trace of the dictionary looks at: they are traced alike, and their shards are the same maps.
+-- Two images, of which the one leaves in the other what a trace of the dictionary looks at: they are traced alike, and
+-- their shards are the same maps.
 use Rattle.std.proofs.Common.{◌≡◌, ℕ, ◌+◌, ◌<◌, ◌↔◌, inl, inr, List, Some, Contains, refl, ap, sym, subst, ◌∙◌, arith}
 use Rattle.heap_model.specs.declared.block.Block.{Block}
 use Rattle.heap_model.specs.Geometry.{roots, root_word, kind_word, magic_word, version_word, state_word, dirty}

@@ -158,7 +158,8 @@ module _ (old new other : Image) (kept : Block → Type 0) (held : List Block) (
   ]
 
 -- so both answers are one
-module _ (words : List ℕ) (kept : Block → Type 0) (quick other : Recovered) (is : IsReopenedAs words kept quick) (again : IsReopenedAs words kept other) where
+module _ (words : List ℕ) (kept : Block → Type 0) (quick other : Recovered) (is : IsReopenedAs words kept quick)
+    (again : IsReopenedAs words kept other) where
   pub one_held : other.heap.held ≡ quick.heap.held
   one_held = ascending_one (λ (b : Block). b.first_word) kept kept other.heap.held quick.heap.held (λ b h. h) (λ b h. h) again.held is.held
 

@@ -1,4 +1,5 @@
--- Worked examples: two blocks that roots lead to, shown by the anchors. In two more images the anchors tell as much, and wrongly: a block that a root leads to is freed, and one that no root leads to is held.
+-- Worked examples: two blocks that roots lead to, shown by the anchors. In two more images the anchors tell as much,
+-- and wrongly: a block that a root leads to is freed, and one that no root leads to is held.
 use Rattle.std.specs.Prelude.{◌≡◌, ◌≢◌, ℕ, zero, suc, ◌+◌, ◌*◌, ◌<◌, ◌≤◌, ◌⊎◌, cond, nat_eq, List, [], ◌∷◌, Contains, AllPairs, Some, refl}
 use Rattle.std.proofs.Common.{ap, arith, inl, inr, subst, sym, ◌∙◌}
 use Rattle.std.proofs.lemmas.Bool.{cond_both, eqb-true}

@@ -6,7 +6,8 @@ use Rattle.heap_at_rest.specs.Orderly.{IsOrderly, IsHeldByAnchors}
 use Rattle.dict_model.specs.Links.{kind_count}
 use Rattle.run_model.specs.Opened.{IsDictionary}
 
--- A closed image of this version, of so many bytes, that tells by its own anchors what it holds. Nothing in it is outside, each of its shards is a map, and exactly the blocks that its anchors hold are reached.
+-- A closed image of this version, of so many bytes, that tells by its own anchors what it holds. Nothing in it is
+-- outside, each of its shards is a map, and exactly the blocks that its anchors hold are reached.
 pub record IsOrderlyDictionary (bytes : ℕ) (image : Image) : Type 0 where
   pub formed : IsWellFormed bytes image
   pub orderly : IsOrderly (Some kind_count) bytes image

@@ -25,6 +25,7 @@ module _ (words others : List ℕ) (agree : AgreeButFull (slice_index words) (sl
       let beside = slice_index others in (
         ascending_one (λ (b : Block). b.first_word) (IsHeldByAnchors image) (IsHeldByAnchors beside) quick.heap.held other.heap.held
             (λ b. (held_both image beside agree formed.used b).0) (λ b. (held_both image beside agree formed.used b).1) is.held is_other.held,
-        ascending_one (λ d. d) (IsFreeSuperblock (layout_of image) (IsHeldByAnchors image)) (IsFreeSuperblock (layout_of beside) (IsHeldByAnchors beside)) quick.free.items other.free.items
+        ascending_one (λ d. d) (IsFreeSuperblock (layout_of image) (IsHeldByAnchors image))
+            (IsFreeSuperblock (layout_of beside) (IsHeldByAnchors beside)) quick.free.items other.free.items
             (λ d. (free_both image beside agree formed.used d).0) (λ d. (free_both image beside agree formed.used d).1) is.free is_other.free,
       )

@@ -28,7 +28,8 @@ after_push next from [] x = refl
 after_push next from (b ∷ bs) x = after_push next (next b) bs x
 
 -- a longer walk goes on from there
-walks_on : (next : ℕ → ℕ) (from : ℕ) (seen bs : List ℕ) → Walks next from seen → Walks next from bs → length seen < length bs → (rest : List ℕ) × (bs ≡ seen ++ (after next from seen ∷ rest))
+walks_on : (next : ℕ → ℕ) (from : ℕ) (seen bs : List ℕ) → Walks next from seen → Walks next from bs → length seen < length bs → (rest : List ℕ)
+    × (bs ≡ seen ++ (after next from seen ∷ rest))
 walks_on next from [] [] seen_walks walks less = absurd (omega arith)
 walks_on next from [] (b ∷ bs) seen_walks walks less = (bs, ap (λ x. x ∷ bs) (sym walks.0))
 walks_on next from (x ∷ seen) [] seen_walks walks less = absurd (omega arith)
@@ -39,7 +40,8 @@ walks_on next from (x ∷ seen) (b ∷ bs) seen_walks walks less =
 
 -- different numbers, and one more
 different_push : (xs : List ℕ) (x : ℕ) → AllPairs (λ a b. a ≢ b) xs → (Contains xs x → ⊥) → AllPairs (λ a b. a ≢ b) (xs ++ x ∷ [])
-different_push xs x old new = all_pairs_push (λ a b. a ≢ b) xs x old (λ k d below same. new (subst (λ y. Contains xs y) same (Contains-get_or xs k d below)))
+different_push xs x old new = all_pairs_push (λ a b. a ≢ b) xs x old
+    (λ k d below same. new (subst (λ y. Contains xs y) same (Contains-get_or xs k d below)))
 
 -- with one that stands before it they are not different
 not_different : (xs : List ℕ) (x : ℕ) (rest : List ℕ) → AllPairs (λ a b. a ≢ b) (xs ++ x ∷ rest) → Contains xs x → ⊥
@@ -60,7 +62,8 @@ one_index capacity class d m n is same = elim (cases_order m n) as (λ _. m ≡ 
 ]
 
 -- a block lies in the image
-pub block_inside : (words : List ℕ) (capacity used class d index : ℕ) → IsReadable words capacity used → IsClass class → d < capacity → index < blocks_of class
+pub block_inside : (words : List ℕ) (capacity used class d index : ℕ) → IsReadable words capacity used → IsClass class → d < capacity
+    → index < blocks_of class
     → (block_word capacity class d index < length words) × (block_word capacity class d index < 33589288)
 block_inside words capacity used class d index readable is less below =
     let step = block_step index (blocks_of class) (words_of_class class) below in
@@ -84,7 +87,8 @@ module _ (image : Image) (capacity class d from : ℕ) (is : IsClass class) wher
   }
 
   -- one more block
-  pub chain_push : (count to index next : ℕ) (marks new : List Bool) → IsChainTo image capacity class d from count to marks → index < blocks_of class → to ≡ block_word capacity class d index
+  pub chain_push : (count to index next : ℕ) (marks new : List Bool) → IsChainTo image capacity class d from count to marks
+      → index < blocks_of class → to ≡ block_word capacity class d index
       → get_or marks index false ≡ false → new ≡ set marks index true → next ≡ image to → IsChainTo image capacity class d from (count + 1) next new
   chain_push count to index next marks new old below here unmarked are next_is = record {
     seen = old.seen ++ block_word capacity class d index ∷ [];
@@ -98,7 +102,8 @@ module _ (image : Image) (capacity class d from : ℕ) (is : IsClass class) wher
       ];
       different = different_push old.seen (block_word capacity class d index) old.are.different (λ p. old.marked.unmarked index below unmarked p);
     };
-    marked = marks_push (block_word capacity class d) old.seen (blocks_of class) index marks new are below (λ m less same. one_index capacity class d index m is same) old.marked;
+    marked = marks_push (block_word capacity class d) old.seen (blocks_of class) index marks new are below
+        (λ m less same. one_index capacity class d index m is same) old.marked;
   }
 
   -- what a longer chain of different blocks has next: a block that it did not have before
@@ -115,18 +120,23 @@ module _ (image : Image) (capacity class d from : ℕ) (is : IsClass class) wher
     where
       unmarked : (index : ℕ) (mark : Bool) → get_or marks index false ≡ mark → index < blocks_of class → to ≡ block_word capacity class d index
           → (rest : List ℕ) → AllPairs (λ a b. a ≢ b) (old.seen ++ to ∷ rest) → get_or marks index false ≡ false
-      unmarked index true is_true below at rest pairs = absurd (not_different old.seen to rest pairs (subst (λ w. Contains old.seen w) (sym at) (old.marked.marked index below is_true)))
+      unmarked index true is_true below at rest pairs = absurd (not_different old.seen to rest pairs
+          (subst (λ w. Contains old.seen w) (sym at) (old.marked.marked index below is_true)))
       unmarked index false is_false below at rest pairs = is_false
 
   -- so there is none
-  pub chain_never : (first count to n : ℕ) (marks : List Bool) → from ≡ block_word capacity class d first → IsChainTo image capacity class d from count to marks → count < n
-      → ((index : ℕ) → index < blocks_of class → to ≡ block_word capacity class d index → get_or marks index false ≡ false → ⊥) → HasNoChain image capacity class d first n
+  pub chain_never : (first count to n : ℕ) (marks : List Bool) → from ≡ block_word capacity class d first
+      → IsChainTo image capacity class d from count to marks → count < n
+      → ((index : ℕ) → index < blocks_of class → to ≡ block_word capacity class d index → get_or marks index false ≡ false → ⊥)
+      → HasNoChain image capacity class d first n
   chain_never first count to n marks from_is old less none = record {
-    never = λ chain some not_all long walks are. chain_on count to n marks old less none chain long (subst (λ w. Walks image w chain) (sym from_is) walks) are;
+    never = λ chain some not_all long walks are. chain_on count to n marks old less none chain long
+        (subst (λ w. Walks image w chain) (sym from_is) walks) are;
   }
 
   -- all blocks of the chain
-  pub chain_end : (first count to n : ℕ) (marks : List Bool) → from ≡ block_word capacity class d first → IsChainTo image capacity class d from count to marks → count ≡ n → 1 ≤ n → n < blocks_of class
+  pub chain_end : (first count to n : ℕ) (marks : List Bool) → from ≡ block_word capacity class d first
+      → IsChainTo image capacity class d from count to marks → count ≡ n → 1 ≤ n → n < blocks_of class
       → HasChain image capacity class d first n marks
   chain_end first count to n marks from_is old all some not_all = record {
     chain = old.seen;
@@ -144,7 +154,8 @@ pub record HasWord (image : Image) (d state first count : ℕ) : Type 0 where
   pub first_is : anchor_first (image (anchor_word d)) ≡ first
   pub count_is : anchor_count (image (anchor_word d)) ≡ count
 
-module _ (image : Image) (capacity class d first count : ℕ) (same : capacity ≡ capacity_of image) (word : HasWord image d partial_state first count) where
+module _ (image : Image) (capacity class d first count : ℕ) (same : capacity ≡ capacity_of image)
+    (word : HasWord image d partial_state first count) where
   -- a chain that is there tells which blocks are free
   pub told_by_chain : (marks : List Bool) → HasChain image capacity class d first count marks → IsToldBy image class d marks
   told_by_chain marks has = by_chain has.chain (record {
@@ -153,8 +164,10 @@ module _ (image : Image) (capacity class d first count : ℕ) (same : capacity �
     some = let long = has.long in let some = has.some in omega arith;
     not_all = let long = has.long in let fewer = has.not_all in omega arith;
     linked = record {
-      walks = subst (λ k. Walks image (block_word (capacity_of image) class d k) has.chain) (sym word.first_is) (subst (λ c. Walks image (block_word c class d first) has.chain) same has.walks);
-      blocks = subst (λ c. (b : ℕ) → Contains has.chain b → (index : ℕ) × IsBlockOfClass c class d index (record { first_word = b; words = words_of_class class })) same has.are.blocks;
+      walks = subst (λ k. Walks image (block_word (capacity_of image) class d k) has.chain) (sym word.first_is)
+          (subst (λ c. Walks image (block_word c class d first) has.chain) same has.walks);
+      blocks = subst (λ c. (b : ℕ) → Contains has.chain b → (index : ℕ)
+          × IsBlockOfClass c class d index (record { first_word = b; words = words_of_class class })) same has.are.blocks;
     };
     different = has.are.different;
   }) (subst (λ c. AreMarks (block_word c class d) has.chain (blocks_of class) marks) same has.marked)
@@ -162,18 +175,22 @@ module _ (image : Image) (capacity class d first count : ℕ) (same : capacity �
   -- without one the anchor is none to rely on
   pub no_anchor : HasNoChain image capacity class d first count → HasOrderlyAnchor image class d → ⊥
   no_anchor none (all_free empty) = let state = word.state_is in omega arith
-  no_anchor none (none_free full) = let state = word.state_is in let two : anchor_state (image (anchor_word d)) ≡ 2 = ap anchor_state full in omega arith
+  no_anchor none (none_free full) = let state = word.state_is in let two : anchor_state (image (anchor_word d)) ≡ 2 = ap anchor_state full in
+      omega arith
   no_anchor none (some_free chain has) =
       let long : length chain ≡ count = sym has.count ∙ word.count_is in
       none.never chain (let some = has.some in omega arith) (let fewer = has.not_all in omega arith) long
-      (subst (λ c. Walks image (block_word c class d first) chain) (sym same) (subst (λ k. Walks image (block_word (capacity_of image) class d k) chain) word.first_is has.linked.walks))
+      (subst (λ c. Walks image (block_word c class d first) chain) (sym same)
+      (subst (λ k. Walks image (block_word (capacity_of image) class d k) chain) word.first_is has.linked.walks))
       (record {
-        blocks = subst (λ c. (b : ℕ) → Contains chain b → (index : ℕ) × IsBlockOfClass c class d index (record { first_word = b; words = words_of_class class })) (sym same) has.linked.blocks;
+        blocks = subst (λ c. (b : ℕ) → Contains chain b → (index : ℕ)
+            × IsBlockOfClass c class d index (record { first_word = b; words = words_of_class class })) (sym same) has.linked.blocks;
         different = has.different;
       })
 
 -- nor is an anchor of another state that is not the full one
-pub other_anchor : (image : Image) (class d : ℕ) → (anchor_state (image (anchor_word d)) ≡ empty_state → ⊥) → (anchor_state (image (anchor_word d)) ≡ partial_state → ⊥)
+pub other_anchor : (image : Image) (class d : ℕ) → (anchor_state (image (anchor_word d)) ≡ empty_state → ⊥)
+    → (anchor_state (image (anchor_word d)) ≡ partial_state → ⊥)
     → (image (anchor_word d) ≡ full_anchor → ⊥) → HasOrderlyAnchor image class d → ⊥
 other_anchor image class d no_empty no_partial no_full (all_free empty) = no_empty empty
 other_anchor image class d no_empty no_partial no_full (none_free full) = no_full full

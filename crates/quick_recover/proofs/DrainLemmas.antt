@@ -47,7 +47,8 @@ module _ (words : List ℕ) (links : Links) (traced : Recovered) (made : IsMadeO
       ↔ IsToDrain (capacity_of (slice_index words)) (slice_index traced.heap.words) traced.heap.held class b
   traced_drains class b = left_drains (slice_index words) (slice_index traced.heap.words) (IsReachedIn (slice_index words) links) traced.heap.held
       (recovered_places (slice_index words) (slice_index traced.heap.words) (IsReachedIn (slice_index words) links) made.recovered)
-      (λ a is. reached_block (slice_index words) (kinds_of (slice_index words)) links a is.kind is.reach) (λ a. (made.held.sound a, made.held.complete a)) b class
+      (λ a is. reached_block (slice_index words) (kinds_of (slice_index words)) links a is.kind is.reach)
+      (λ a. (made.held.sound a, made.held.complete a)) b class
 
   -- where the anchors hold what is reached, both give the same
   pub drains_alike : ((b : Block) → IsHeldByAnchors (slice_index words) b ↔ IsReachedIn (slice_index words) links b)
@@ -55,6 +56,8 @@ module _ (words : List ℕ) (links : Links) (traced : Recovered) (made : IsMadeO
       → IsToDrain (capacity_of (slice_index words)) (slice_index quick.heap.words) quick.heap.held class b
       ↔ IsToDrain (capacity_of (slice_index words)) (slice_index traced.heap.words) traced.heap.held class b
   drains_alike same quick opened class b = (
-    λ given. (traced_drains class b).0 (same_drained (layout_of (slice_index words)) (IsHeldByAnchors (slice_index words)) (IsReachedIn (slice_index words) links) same class b ((quick_drains words quick opened class b).1 given)),
-    λ given. (quick_drains words quick opened class b).0 (same_drained (layout_of (slice_index words)) (IsReachedIn (slice_index words) links) (IsHeldByAnchors (slice_index words)) (λ a. ((same a).1, (same a).0)) class b ((traced_drains class b).1 given)),
+    λ given. (traced_drains class b).0 (same_drained (layout_of (slice_index words)) (IsHeldByAnchors (slice_index words))
+        (IsReachedIn (slice_index words) links) same class b ((quick_drains words quick opened class b).1 given)),
+    λ given. (quick_drains words quick opened class b).0 (same_drained (layout_of (slice_index words)) (IsReachedIn (slice_index words) links)
+        (IsHeldByAnchors (slice_index words)) (λ a. ((same a).1, (same a).0)) class b ((traced_drains class b).1 given)),
   )

@@ -13,7 +13,8 @@ use Rattle.quick_recover.specs.Anchored.{IsDisorderly, IsInFreeList, HasFreeList
 use Rattle.quick_recover.proofs.MarkLemmas.{marks_none, marks_push, counted_none, counted_push, counted_low}
 
 -- one more descriptor
-leads_push : (link : ℕ → ℕ) (capacity from : ℕ) (seen : List ℕ) (d : ℕ) → Leads link capacity from seen (d + 1) → d < capacity → Leads link capacity from (seen ++ d ∷ []) (link d)
+leads_push : (link : ℕ → ℕ) (capacity from : ℕ) (seen : List ℕ) (d : ℕ) → Leads link capacity from seen (d + 1) → d < capacity
+    → Leads link capacity from (seen ++ d ∷ []) (link d)
 leads_push link capacity from [] d leads below = (leads, below, refl)
 leads_push link capacity from (x ∷ seen) d leads below = (leads.0, leads.1, leads_push link capacity (link x) seen d leads.2 below)
 
@@ -28,7 +29,8 @@ record GoesOn (link : ℕ → ℕ) (capacity to : ℕ) (seen ds : List ℕ) : Ty
   is : ds ≡ seen ++ rest
   follows : Follows link capacity to rest
 
-goes_on : (link : ℕ → ℕ) (capacity from to : ℕ) (seen ds : List ℕ) → Leads link capacity from seen to → Follows link capacity from ds → GoesOn link capacity to seen ds
+goes_on : (link : ℕ → ℕ) (capacity from to : ℕ) (seen ds : List ℕ) → Leads link capacity from seen to → Follows link capacity from ds
+    → GoesOn link capacity to seen ds
 goes_on link capacity from to [] ds leads follows = record { rest = ds; is = refl; follows = subst (λ x. Follows link capacity x ds) leads follows }
 goes_on link capacity from to (x ∷ seen) [] leads follows = absurd (let first = leads.0 in let none : from ≡ 0 = follows in omega arith)
 goes_on link capacity from to (x ∷ seen) (d ∷ ds) leads follows =
@@ -55,7 +57,8 @@ no_return link capacity from d (x ∷ xs) rest follows p = elim (head_or_rest x 
 ]
 
 -- nothing followed yet
-pub list_none : (image : Image) (marks : List Bool) → marks ≡ replicate (used_of image) false → (to : ℕ) → to ≡ image (head_word 0) % 16777216 → IsListTo image 0 to marks
+pub list_none : (image : Image) (marks : List Bool) → marks ≡ replicate (used_of image) false → (to : ℕ) → to ≡ image (head_word 0) % 16777216
+    → IsListTo image 0 to marks
 list_none image marks are to is = record {
   seen = [];
   leads = sym is;
@@ -65,8 +68,10 @@ list_none image marks are to is = record {
 }
 
 -- one more
-pub list_push : (image : Image) (count to d next : ℕ) (marks new : List Bool) → used_of image ≤ capacity_of image → IsListTo image count to marks → to ≡ d + 1 → d < used_of image
-    → anchor_state (image (anchor_word d)) ≡ empty_state → get_or marks d false ≡ false → new ≡ set marks d true → next ≡ image (link_word d) → IsListTo image (count + 1) next new
+pub list_push : (image : Image) (count to d next : ℕ) (marks new : List Bool) → used_of image ≤ capacity_of image
+    → IsListTo image count to marks → to ≡ d + 1 → d < used_of image
+    → anchor_state (image (anchor_word d)) ≡ empty_state → get_or marks d false ≡ false → new ≡ set marks d true → next ≡ image (link_word d)
+    → IsListTo image (count + 1) next new
 list_push image count to d next marks new fits old here below empty unmarked are next_is = record {
   seen = old.seen ++ d ∷ [];
   leads = subst (Leads (λ e. image (link_word e)) (capacity_of image) (image (head_word 0) % 16777216) (old.seen ++ d ∷ [])) (sym next_is)
@@ -84,7 +89,11 @@ list_push image count to d next marks new fits old here below empty unmarked are
 pub list_end : (image : Image) (count : ℕ) (marks : List Bool) → IsListTo image count 0 marks → HasFreeList image marks
 list_end image count marks old = record {
   free = old.seen;
-  is = record { listed = leads_end (λ e. image (link_word e)) (capacity_of image) (image (head_word 0) % 16777216) old.seen old.leads; each = old.each; marked = old.marked };
+  is = record {
+    listed = leads_end (λ e. image (link_word e)) (capacity_of image) (image (head_word 0) % 16777216) old.seen old.leads;
+    each = old.each;
+    marked = old.marked;
+  };
 }
 
 -- what comes next is in the free list of an orderly image, and was not there before
@@ -93,12 +102,15 @@ record IsNext (image : Image) (seen : List ℕ) (d : ℕ) : Type 0 where
   empty : anchor_state (image (anchor_word d)) ≡ empty_state
   new : Contains seen d → ⊥
 
-comes_next : (image : Image) (count d : ℕ) (marks : List Bool) (old : IsListTo image count (d + 1) marks) (limit : Option ℕ) (bytes : ℕ) → IsOrderly limit bytes image → IsNext image old.seen d
+comes_next : (image : Image) (count d : ℕ) (marks : List Bool) (old : IsListTo image count (d + 1) marks) (limit : Option ℕ) (bytes : ℕ)
+    → IsOrderly limit bytes image → IsNext image old.seen d
 comes_next image count d marks old limit bytes orderly =
-    let on = goes_on (λ e. image (link_word e)) (capacity_of image) (image (head_word 0) % 16777216) (d + 1) old.seen orderly.free old.leads orderly.listed in
+    let on = goes_on (λ e. image (link_word e)) (capacity_of image) (image (head_word 0) % 16777216)
+    (d + 1) old.seen orderly.free old.leads orderly.listed in
     in_rest on.rest on.follows on.is
   where
-    in_rest : (rest : List ℕ) → Follows (λ e. image (link_word e)) (capacity_of image) (d + 1) rest → orderly.free ≡ old.seen ++ rest → IsNext image old.seen d
+    in_rest : (rest : List ℕ) → Follows (λ e. image (link_word e)) (capacity_of image) (d + 1) rest → orderly.free ≡ old.seen ++ rest
+        → IsNext image old.seen d
     in_rest [] follows is = absurd (let none : d + 1 ≡ 0 = follows in omega arith)
     in_rest (e ∷ rest) follows is =
         let first = follows.0 in
@@ -108,7 +120,8 @@ comes_next image count d marks old limit bytes orderly =
         record {
           taken = are.0;
           empty = are.1;
-          new = no_return (λ x. image (link_word x)) (capacity_of image) (image (head_word 0) % 16777216) d old.seen rest (subst (Follows (λ x. image (link_word x)) (capacity_of image) (image (head_word 0) % 16777216)) whole orderly.listed);
+          new = no_return (λ x. image (link_word x)) (capacity_of image) (image (head_word 0) % 16777216) d old.seen rest
+              (subst (Follows (λ x. image (link_word x)) (capacity_of image) (image (head_word 0) % 16777216)) whole orderly.listed);
         }
 
 -- so an image whose list goes on otherwise is not orderly

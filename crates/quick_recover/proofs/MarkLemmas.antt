@@ -25,7 +25,8 @@ marks_push place xs count n marks new are below alone old = subst (AreMarks plac
     | inr other ↦ Contains-append_left xs (place n ∷ []) (place m) (old.marked m less (sym (get_or-set_other marks n m true false other) ∙ is))
   ];
   unmarked = λ m less is p. elim (cases_eq m n) as (λ _. ⊥) [
-    | inl same ↦ false≢true (sym is ∙ ap (λ k. get_or (set marks n true) k false) same ∙ get_or-set_same marks n true false (let long = old.long in omega arith))
+    | inl same ↦ false≢true (sym is ∙ ap (λ k. get_or (set marks n true) k false) same
+        ∙ get_or-set_same marks n true false (let long = old.long in omega arith))
     | inr other ↦ elim (Contains-push_cases xs (place n) (place m) p) as (λ _. ⊥) [
       | inl before ↦ old.unmarked m less (sym (get_or-set_other marks n m true false other) ∙ is) before
       | inr here ↦ other (sym (alone m less here))
@@ -35,18 +36,22 @@ marks_push place xs count n marks new are below alone old = subst (AreMarks plac
 
 -- how many marks there are
 pub counted_none : (count : ℕ) (marks : List Bool) → marks ≡ replicate count false → total one_if marks ≡ 0
-counted_none count marks are = none_of marks (λ k below. ap (λ (ms : List Bool). get_or ms k false) are ∙ get_or-replicate count k false false (let long = ap length are in let repeated = length-replicate count false in omega arith)) where
-  none_of : (ms : List Bool) → ((k : ℕ) → k < length ms → get_or ms k false ≡ false) → total one_if ms ≡ 0
-  none_of [] each = refl
-  none_of (m ∷ ms) each = let first : one_if m ≡ 0 = ap one_if (each 0 (omega arith)) in let rest = none_of ms (λ k below. each (suc k) (omega arith)) in omega arith
+counted_none count marks are = none_of marks (λ k below. ap (λ (ms : List Bool). get_or ms k false) are
+    ∙ get_or-replicate count k false false (let long = ap length are in let repeated = length-replicate count false in omega arith)) where
+      none_of : (ms : List Bool) → ((k : ℕ) → k < length ms → get_or ms k false ≡ false) → total one_if ms ≡ 0
+      none_of [] each = refl
+      none_of (m ∷ ms) each = let first : one_if m ≡ 0 = ap one_if (each 0 (omega arith)) in
+          let rest = none_of ms (λ k below. each (suc k) (omega arith)) in omega arith
 
 counted_set : (n : ℕ) (marks : List Bool) → n < length marks → get_or marks n false ≡ false → total one_if (set marks n true) ≡ total one_if marks + 1
 counted_set n [] below is = absurd (omega arith)
 counted_set zero (mark ∷ marks) below is = let none : one_if mark ≡ 0 = ap one_if is in omega arith
 counted_set (suc n) (mark ∷ marks) below is = let rest = counted_set n marks (omega arith) is in omega arith
 
-pub counted_push : (n count : ℕ) (marks new : List Bool) → new ≡ set marks n true → n < length marks → get_or marks n false ≡ false → total one_if marks ≡ count → total one_if new ≡ count + 1
-counted_push n count marks new are below is counted = ap (λ (ms : List Bool). total one_if ms) are ∙ counted_set n marks below is ∙ ap (λ k. k + 1) counted
+pub counted_push : (n count : ℕ) (marks new : List Bool) → new ≡ set marks n true → n < length marks → get_or marks n false ≡ false
+    → total one_if marks ≡ count → total one_if new ≡ count + 1
+counted_push n count marks new are below is counted = ap (λ (ms : List Bool). total one_if ms) are ∙ counted_set n marks below is
+    ∙ ap (λ k. k + 1) counted
 
 -- no more than there are numbers
 pub counted_low : (marks : List Bool) → total one_if marks ≤ length marks

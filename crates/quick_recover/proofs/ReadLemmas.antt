@@ -31,11 +31,14 @@ use Rattle.quick_recover.proofs.HoldLemmas.{keeps, HeldPart, full_part, partial_
 
 -- a block that begins in a superblock has a part there
 begins_part : (image : Image) (d : ℕ) (b : Block) → IsKeptIn (capacity_of image) (IsHeldByAnchors image) d b → HasPartIn (capacity_of image) b d
-begins_part image d b is = let some = block_words (layout_of image) b ((keeps image).each b is.is_kept) in let from = is.from in record { begins = is.until; ends = omega arith }
+begins_part image d b is = let some = block_words (layout_of image) b ((keeps image).each b is.is_kept) in let from = is.from in
+    record { begins = is.until; ends = omega arith }
 
 -- the anchor fits the role that the parts give
-fits_parts : (image : Image) (free : List ℕ) (class : SizeClass) (d : ℕ) (marks : List Bool) (held : List Block) (spares chained : List ℕ) (role : Role) → IsOutsideFreeList image free d
-    → image (info_word d) ≡ class.number → IsToldBy image class.number d marks → AreParted (IsHeldByAnchors image) (capacity_of image) class.number d (blocks_of class.number) held spares
+fits_parts : (image : Image) (free : List ℕ) (class : SizeClass) (d : ℕ) (marks : List Bool) (held : List Block) (spares chained : List ℕ)
+    (role : Role) → IsOutsideFreeList image free d
+    → image (info_word d) ≡ class.number → IsToldBy image class.number d marks
+    → AreParted (IsHeldByAnchors image) (capacity_of image) class.number d (blocks_of class.number) held spares
     → RoleOfParts class held spares role chained → FitsAnchor image d chained role
 fits_parts image free class d marks held spares _ _ out info told parted (none_held empty) = tt
 fits_parts image free class d marks held spares _ _ out info (by_full anchor are) parted (none_spare some empty) = anchor
@@ -49,7 +52,8 @@ fits_parts image free class d marks held spares _ _ out info (by_chain chain has
       is_block = block.1;
       among = block.1.below;
       first = refl;
-      unkept = λ kept. chained_free image class.number d block.0 chain (record { first_word = w; words = words_of_class class.number }) class.is info has block.1 p kept;
+      unkept = λ kept. chained_free image class.number d block.0 chain
+          (record { first_word = w; words = words_of_class class.number }) class.is info has block.1 p kept;
     })))
 fits_parts image free class d marks held spares _ _ out info (by_full anchor are) parted (some_of_both some_held some_spare) =
     let w = get_or spares 0 0 in
@@ -65,12 +69,15 @@ fits_parts image free class d marks held spares _ _ out info (by_chain chain has
     is_block = block.1;
     among = block.1.below;
     first = refl;
-    unkept = λ kept. chained_free image class.number d block.0 chain (record { first_word = w; words = words_of_class class.number }) class.is info has block.1 p kept;
+    unkept = λ kept. chained_free image class.number d block.0 chain
+        (record { first_word = w; words = words_of_class class.number }) class.is info has block.1 p kept;
   });
 } where
-  in_chain : (w : ℕ) (spare : IsSpareAmong (IsHeldByAnchors image) (capacity_of image) class.number d (blocks_of class.number) w) (mark : Bool) → get_or marks spare.index false ≡ mark → Contains chain w
+  in_chain : (w : ℕ) (spare : IsSpareAmong (IsHeldByAnchors image) (capacity_of image) class.number d (blocks_of class.number) w) (mark : Bool)
+      → get_or marks spare.index false ≡ mark → Contains chain w
   in_chain w spare true is = subst (λ x. Contains chain x) (sym spare.is_block.at ∙ spare.first) (are.marked spare.index spare.is_block.below is)
-  in_chain w spare false is = absurd (spare.unkept (unmarked_held image free class.number d marks out class.is info spare.index spare.block spare.is_block (by_chain chain has are) is))
+  in_chain w spare false is = absurd (spare.unkept (unmarked_held image free class.number d marks out class.is info spare.index spare.block
+      spare.is_block (by_chain chain has are) is))
 
 -- the anchor is orderly
 told_orderly : (image : Image) (class d : ℕ) (marks : List Bool) → IsToldBy image class d marks → HasOrderlyAnchor image class d
@@ -79,17 +86,20 @@ told_orderly image class d marks (by_chain chain has are) = some_free chain has
 
 module _ (image : Image) (d end : ℕ) (goes_on : GoOnTo (layout_of image) (IsHeldByAnchors image) d end) where
   -- a superblock of a class, by its blocks
-  pub read_parts : (class : SizeClass) (marks : List Bool) (held : List Block) (spares : List ℕ) (survey : Survey) → IsNotFreed image d → image (info_word d) ≡ class.number
+  pub read_parts : (class : SizeClass) (marks : List Bool) (held : List Block) (spares : List ℕ) (survey : Survey) → IsNotFreed image d
+      → image (info_word d) ≡ class.number
       → IsToldBy image class.number d marks → AreParted (IsHeldByAnchors image) (capacity_of image) class.number d (blocks_of class.number) held spares
       → RoleOfParts class held spares survey.role survey.spares.items → survey.held.items ≡ held → survey.end ≡ end → IsReadAs image d survey
   read_parts class marks held spares survey not_freed info told parted role same ends = record {
-    surveyed = class_survey (layout_of image) (IsHeldByAnchors image) (keeps image) d end class not_freed.is.taken info goes_on held spares parted survey role same ends;
+    surveyed = class_survey (layout_of image) (IsHeldByAnchors image)
+        (keeps image) d end class not_freed.is.taken info goes_on held spares parted survey role same ends;
     fits = fits_parts image not_freed.free class d marks held spares survey.spares.items survey.role not_freed.is info told parted role;
     orderly = λ free listed outside. of_class class.number class.is info (told_orderly image class.number d marks told);
   }
 
   -- one of a class with an empty anchor
-  pub read_empty : (class : SizeClass) (survey : Survey) → d < used_of image → image (info_word d) ≡ class.number → anchor_state (image (anchor_word d)) ≡ empty_state
+  pub read_empty : (class : SizeClass) (survey : Survey) → d < used_of image → image (info_word d) ≡ class.number
+      → anchor_state (image (anchor_word d)) ≡ empty_state
       → survey.role ≡ Free → survey.held.items ≡ [] → survey.spares.items ≡ [] → survey.end ≡ end → IsReadAs image d survey
   read_empty class survey taken info empty role held spares ends = record {
     surveyed = free_survey (layout_of image) (IsHeldByAnchors image) (keeps image) d end taken
@@ -104,7 +114,8 @@ module _ (image : Image) (d end : ℕ) (goes_on : GoOnTo (layout_of image) (IsHe
     one_list other listed = one_following (λ e. image (link_word e)) (capacity_of image) _ list.free other list.is.listed listed
 
     -- one of the free list
-    pub read_freed : (survey : Survey) → get_or marks d false ≡ true → survey.role ≡ Free → survey.held.items ≡ [] → survey.spares.items ≡ [] → survey.end ≡ end → IsReadAs image d survey
+    pub read_freed : (survey : Survey) → get_or marks d false ≡ true → survey.role ≡ Free → survey.held.items ≡ [] → survey.spares.items ≡ []
+        → survey.end ≡ end → IsReadAs image d survey
     read_freed survey marked role held spares ends = record {
       surveyed = free_survey (layout_of image) (IsHeldByAnchors image) (keeps image) d end taken past goes_on
           (λ b is_b. freed_holds_none image list.free d list.is.listed freed b is_b.is_kept (begins_part image d b is_b)) survey role held spares ends;
@@ -116,7 +127,8 @@ module _ (image : Image) (d end : ℕ) (goes_on : GoOnTo (layout_of image) (IsHe
 
       past : end ≤ d
       past = elim (cases_lt d end) as (λ _. end ≤ d) [
-        | inl inside ↦ let holds = (goes_on.inside d (omega arith) inside).holds in absurd (freed_holds_none image list.free d list.is.listed freed holds.block holds.is_kept holds.part)
+        | inl inside ↦ let holds = (goes_on.inside d (omega arith) inside).holds in
+            absurd (freed_holds_none image list.free d list.is.listed freed holds.block holds.is_kept holds.part)
         | inr beyond ↦ beyond
       ]
 
@@ -142,25 +154,30 @@ module _ (image : Image) (d end : ℕ) (goes_on : GoOnTo (layout_of image) (IsHe
         by_part : (free : List ℕ) → IsListOf image 0 free → HeldPart image holds.block d → IsOrderlyOutside image free d
         by_part free listed (full_part other c i out is_c info_c anchor of_c) = absurd (no_class (subst IsClass (sym info_c) is_c))
         by_part free listed (partial_part other chain c i out is_c info_c has of_c unchained) = absurd (no_class (subst IsClass (sym info_c) is_c))
-        by_part free listed (large_part other listed' large) = of_large holds.block (subst (λ ds. IsLargeOutside image ds holds.block) (sym (one_list other listed') ∙ one_list free listed) large) holds.part
+        by_part free listed (large_part other listed' large) = of_large holds.block
+            (subst (λ ds. IsLargeOutside image ds holds.block) (sym (one_list other listed') ∙ one_list free listed) large) holds.part
 
       -- what an orderly image has there
       use_of : (limit : Option ℕ) (bytes : ℕ) (orderly : IsOrderly limit bytes image) → IsOrderlyOutside image orderly.free d
       use_of limit bytes orderly = orderly.others d taken (outside_list orderly.free orderly.listed)
 
       -- a large block of it begins there, where none goes on
-      large_begins : (free : List ℕ) (b : Block) → IsListOf image 0 free → end ≤ d → IsLargeOutside image free b → HasPartIn (capacity_of image) b d → IsKeptIn (capacity_of image) (IsHeldByAnchors image) d b
-      large_begins free b listed past large part = elim (cases_lt b.first_word (start_word (capacity_of image) d)) as (λ _. IsKeptIn (capacity_of image) (IsHeldByAnchors image) d b) [
-        | inl lower ↦ absurd (let ends = goes_on.ends b d (as_large free listed large) lower (omega arith) past in let beyond = part.ends in omega arith)
-        | inr here ↦ record { is_kept = as_large free listed large; from = here; until = part.begins }
-      ]
+      large_begins : (free : List ℕ) (b : Block) → IsListOf image 0 free → end ≤ d → IsLargeOutside image free b
+          → HasPartIn (capacity_of image) b d → IsKeptIn (capacity_of image) (IsHeldByAnchors image) d b
+      large_begins free b listed past large part = elim (cases_lt b.first_word (start_word (capacity_of image) d)) as
+          (λ _. IsKeptIn (capacity_of image) (IsHeldByAnchors image) d b) [
+            | inl lower ↦ absurd (let ends = goes_on.ends b d (as_large free listed large) lower (omega arith) past in let beyond = part.ends in
+                omega arith)
+            | inr here ↦ record { is_kept = as_large free listed large; from = here; until = part.begins }
+          ]
 
       -- with a superblock that begins nothing, and is in no large block, it is not orderly
       pub no_use : end ≤ d → (IsClass (image (info_word d)) → ⊥) → ((w n : ℕ) → Begins (layout_of image) d w n → ⊥) → IsDisorderly image
       no_use past no_class nothing = record { never = λ limit bytes orderly. by_use orderly.free orderly.listed (use_of limit bytes orderly) } where
         by_use : (free : List ℕ) → IsListOf image 0 free → IsOrderlyOutside image free d → ⊥
         by_use free listed (of_class class is info anchor) = no_class (subst IsClass (sym info) is)
-        by_use free listed (of_large b large part) = none_begun (layout_of image) (IsHeldByAnchors image) (keeps image) d nothing b (large_begins free b listed past large part)
+        by_use free listed (of_large b large part) = none_begun (layout_of image) (IsHeldByAnchors image) (keeps image) d nothing b
+            (large_begins free b listed past large part)
 
       -- nor with one of a class whose anchor is none to rely on
       pub bad_anchor : (class : ℕ) → IsClass class → image (info_word d) ≡ class → (HasOrderlyAnchor image class d → ⊥) → IsDisorderly image
@@ -174,12 +191,15 @@ module _ (image : Image) (d end : ℕ) (goes_on : GoOnTo (layout_of image) (IsHe
         past_end = ends_here (layout_of image) (IsHeldByAnchors image) (keeps image) d end goes_on (omega arith)
 
         -- one that begins a large block
-        pub read_large : (survey : Survey) (block : Block) → IsWhole image marks d count → block.first_word ≡ start_word (capacity_of image) d → block.words ≡ superblock_words * count
+        pub read_large : (survey : Survey) (block : Block) → IsWhole image marks d count → block.first_word ≡ start_word (capacity_of image) d
+            → block.words ≡ superblock_words * count
             → survey.role ≡ Large → survey.held.items ≡ block ∷ [] → survey.spares.items ≡ [] → survey.end ≡ d + count → IsReadAs image d survey
         read_large survey block whole first words role held spares ends = record {
-          surveyed = large_survey (layout_of image) (IsHeldByAnchors image) (keeps image) d count taken some info end goes_on block first words (as_large list.free list.is.listed large) survey role held spares ends;
+          surveyed = large_survey (layout_of image) (IsHeldByAnchors image) (keeps image) d count taken some info end goes_on block first words
+              (as_large list.free list.is.listed large) survey role held spares ends;
           fits = subst (FitsAnchor image d survey.spares.items) (sym role) tt;
-          orderly = λ free listed outside. of_large block (subst (λ ds. IsLargeOutside image ds block) (one_list free listed) large) (record { begins = omega arith; ends = omega arith });
+          orderly = λ free listed outside. of_large block (subst (λ ds. IsLargeOutside image ds block) (one_list free listed) large)
+              (record { begins = omega arith; ends = omega arith });
         } where
           is_block : IsBlock (layout_of image) block
           is_block = record {
@@ -213,21 +233,29 @@ module _ (image : Image) (d end : ℕ) (goes_on : GoOnTo (layout_of image) (IsHe
         pub not_whole : (IsWhole image marks d count → ⊥) → IsDisorderly image
         not_whole none = record { never = λ limit bytes orderly. by_use orderly.free orderly.listed (use_of limit bytes orderly) } where
           by_use : (free : List ℕ) → IsListOf image 0 free → IsOrderlyOutside image free d → ⊥
-          by_use free listed (of_class class is info_c anchor) = let last = is.last in let same : large_info count ≡ class = sym info ∙ info_c in omega arith
+          by_use free listed (of_class class is info_c anchor) = let last = is.last in
+              let same : large_info count ≡ class = sym info ∙ info_c in omega arith
           by_use free listed (of_large b large part) =
-              let begun = large_begun (layout_of image) (IsHeldByAnchors image) (keeps image) d count taken some info b (large_begins free b listed past_end large part) in
+              let begun = large_begun (layout_of image) (IsHeldByAnchors image) (keeps image) d count taken some info b
+              (large_begins free b listed past_end large part) in
               let first = begun.0 in
               let words = begun.1 in
               let inside = block_inside (layout_of image) b large.block in
               let ends = inside.1 in
               none (record {
                 fits = omega arith;
-                each = λ e low high. (begun.2 e low high, unmarked_at free listed b large e (record { begins = omega arith; ends = omega arith }) (get_or marks e false) refl);
+                each = λ e low high. (
+                  begun.2 e low high,
+                  unmarked_at free listed b large e
+                      (record { begins = omega arith; ends = omega arith }) (get_or marks e false) refl,
+                );
               })
             where
-              unmarked_at : (free : List ℕ) → IsListOf image 0 free → (b : Block) → IsLargeOutside image free b → (e : ℕ) → HasPartIn (capacity_of image) b e → (mark : Bool) → get_or marks e false ≡ mark → get_or marks e false ≡ false
+              unmarked_at : (free : List ℕ) → IsListOf image 0 free → (b : Block) → IsLargeOutside image free b → (e : ℕ)
+                  → HasPartIn (capacity_of image) b e → (mark : Bool) → get_or marks e false ≡ mark → get_or marks e false ≡ false
               unmarked_at free listed b large e part true is = absurd (large.outside e part (subst (λ ds. Contains ds e) (one_list free listed)
-                  (list.is.marked.marked e (let inside = block_inside (layout_of image) b large.block in let ends = inside.1 in let part_ends = part.ends in let part_begins = part.begins in omega arith) is)))
+                  (list.is.marked.marked e (let inside = block_inside (layout_of image) b large.block in let ends = inside.1 in
+                  let part_ends = part.ends in let part_begins = part.begins in omega arith) is)))
               unmarked_at free listed b large e part false is = is
 
 -- what is told of a superblock of a class is told of the image

@@ -24,7 +24,11 @@ use Rattle.quick_recover.specs.Written.{IsWritten, AreWritten}
 
 -- the roles that anchors give are roles for the blocks that they hold
 roles_by_anchors : (old : Image) (roles : List Role) → HaveRoles old roles → AreRoles (layout_of old) (IsHeldByAnchors old) roles
-roles_by_anchors old roles have = record { long = have.long; each = λ d taken. let here = have.each d taken in record { spares = here.spares; is = here.has_role } }
+roles_by_anchors old roles have = record {
+  long = have.long;
+  each = λ d taken. let here = have.each d taken in
+      record { spares = here.spares; is = here.has_role };
+}
 
 module _ (old written listed new : Image) (roles : List Role) (fits : used_of old ≤ capacity_of old) (have : HaveRoles old roles)
     (are_written : AreWritten old written roles (capacity_of old)) (are_listed : AreListed written listed (capacity_of old) roles lists)
@@ -33,7 +37,14 @@ module _ (old written listed new : Image) (roles : List Role) (fits : used_of ol
   kept = IsHeldByAnchors old
 
   linked : AreLinked old written new (IsHeldByAnchors old) roles
-  linked = record { fits = fits; roles_are = roles_by_anchors old roles have; listed = listed; are_listed = are_listed; state = state_is; others = others }
+  linked = record {
+    fits = fits;
+    roles_are = roles_by_anchors old roles have;
+    listed = listed;
+    are_listed = are_listed;
+    state = state_is;
+    others = others;
+  }
 
   -- the role of a superblock, however it is looked up
   same_role : (d : ℕ) → d < used_of old → slice_index_or roles d Free ≡ slice_index_or roles d Large
@@ -44,21 +55,34 @@ module _ (old written listed new : Image) (roles : List Role) (fits : used_of ol
 
   -- info and anchor, by the role
   words_free : (d : ℕ) → IsWritten old written d Free → HasInfoAndAnchor new d 0 0
-  words_free d is = record { info_is = info_left old written new kept roles linked d ∙ is.info; anchor_is = anchor_left old written new kept roles linked d ∙ is.anchor }
+  words_free d is = record {
+    info_is = info_left old written new kept roles linked d ∙ is.info;
+    anchor_is = anchor_left old written new kept roles linked d ∙ is.anchor;
+  }
 
   settled_as : (d : ℕ) (role : Role) → IsWritten old written d role → IsSettled old new d role
   settled_as d Free is = words_free d is
   settled_as d (Partial class) is = tt
-  settled_as d (Full class) is = record { info_is = info_left old written new kept roles linked d ∙ is.info; anchor_is = anchor_left old written new kept roles linked d ∙ is.anchor }
-  settled_as d Large is = record { info_is = info_left old written new kept roles linked d ∙ is.info; anchor_is = anchor_left old written new kept roles linked d ∙ is.anchor }
+  settled_as d (Full class) is = record {
+    info_is = info_left old written new kept roles linked d ∙ is.info;
+    anchor_is = anchor_left old written new kept roles linked d ∙ is.anchor;
+  }
+  settled_as d Large is = record {
+    info_is = info_left old written new kept roles linked d ∙ is.info;
+    anchor_is = anchor_left old written new kept roles linked d ∙ is.anchor;
+  }
 
   settled : (d : ℕ) → d < used_of old → IsSettled old new d (slice_index_or roles d Large)
   settled d below = settled_as d (slice_index_or roles d Large) (is_written d below)
 
   partial_left : (class d : ℕ) → IsClass class → IsPartial (layout_of old) kept class d → HasInfoAndAnchor new d class (old (anchor_word d))
   partial_left class d is part = let here = have.each d part.taken in
-      let left = subst (IsWritten old written d) (partial_role (layout_of old) kept d (record { number = class; is = is }) (slice_index_or roles d Large) here.spares here.has_role part).0 (is_written d part.taken) in
-      record { info_is = info_left old written new kept roles linked d ∙ left.info ∙ part.info_is; anchor_is = anchor_left old written new kept roles linked d ∙ left.anchor }
+      let left = subst (IsWritten old written d) (partial_role (layout_of old) kept d (record { number = class; is = is })
+      (slice_index_or roles d Large) here.spares here.has_role part).0 (is_written d part.taken) in
+      record {
+        info_is = info_left old written new kept roles linked d ∙ left.info ∙ part.info_is;
+        anchor_is = anchor_left old written new kept roles linked d ∙ left.anchor;
+      }
 
   no_role : (d : ℕ) (rs : List Role) → length rs ≤ d → slice_index_or rs d Free ≡ Free
   no_role d [] past = refl
@@ -66,7 +90,8 @@ module _ (old written listed new : Image) (roles : List Role) (fits : used_of ol
   no_role (suc d) (r ∷ rs) past = no_role d rs (omega arith)
 
   untaken_words : (d : ℕ) → used_of old ≤ d → d < capacity_of old → HasInfoAndAnchor new d 0 0
-  untaken_words d past below = words_free d (subst (IsWritten old written d) (no_role d roles (let long = have.long in omega arith)) (are_written.each d below))
+  untaken_words d past below = words_free d (subst (IsWritten old written d) (no_role d roles (let long = have.long in omega arith))
+      (are_written.each d below))
 
   pub reopened : IsReopened old new (IsHeldByAnchors old)
   reopened = record {
@@ -95,7 +120,8 @@ module _ (old written listed new : Image) (roles : List Role) (fits : used_of ol
 
 -- which superblocks are free
 pub free_of : (old : Image) (roles : List Role) → HaveRoles old roles → (d : ℕ)
-    → (IsMember roles 0 d → IsFreeSuperblock (layout_of old) (IsHeldByAnchors old) d) × (IsFreeSuperblock (layout_of old) (IsHeldByAnchors old) d → IsMember roles 0 d)
+    → (IsMember roles 0 d → IsFreeSuperblock (layout_of old) (IsHeldByAnchors old) d)
+    × (IsFreeSuperblock (layout_of old) (IsHeldByAnchors old) d → IsMember roles 0 d)
 free_of old roles have d = (
   member_listed (layout_of old) (IsHeldByAnchors old) roles (roles_by_anchors old roles have) 0 d,
   listed_member (layout_of old) (IsHeldByAnchors old) roles (roles_by_anchors old roles have) 0 d (omega arith),

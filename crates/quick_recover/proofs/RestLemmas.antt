@@ -59,7 +59,8 @@ record HasChained (image : Image) (class d : ℕ) (ws : List ℕ) : Type 0 where
   spares : HasSpares (layout_of image) (IsHeldByAnchors image) class d ws
   has : HasPartialChain image class d ws
 
-chained : (image : Image) (class d : ℕ) (role : Role) (spares : List ℕ) (has_role : IsRole (layout_of image) (IsHeldByAnchors image) d role spares) (fits : FitsAnchor image d spares role)
+chained : (image : Image) (class d : ℕ) (role : Role) (spares : List ℕ)
+    (has_role : IsRole (layout_of image) (IsHeldByAnchors image) d role spares) (fits : FitsAnchor image d spares role)
     → IsClass class → IsPartial (layout_of image) (IsHeldByAnchors image) class d → HasChained image class d (chain_of image d spares role fits)
 chained image class d _ _ (is_free free) fits is part = absurd (not_free (layout_of image) (IsHeldByAnchors image) d part.holds free)
 chained image class d _ _ (is_partial c spares part' in_order) fits is part =
@@ -79,26 +80,34 @@ module _ (old new : Image) (roles : List Role) (have : HaveRoles old roles) (lef
   abbrev chain_at : (d : ℕ) → (d < used_of old) ⊎ (used_of old ≤ d) → List ℕ
   chain_at = list_below (used_of old) (λ d taken. let here = have.each d taken in chain_of old d here.spares (slice_index_or roles d Large) here.fits)
 
-  chained_at : (class d : ℕ) (which : (d < used_of old) ⊎ (used_of old ≤ d)) → IsClass class → IsPartial (layout_of old) (IsHeldByAnchors old) class d → HasChained old class d (chain_at d which)
-  chained_at class d (inl taken) is part = let here = have.each d taken in chained old class d (slice_index_or roles d Large) here.spares here.has_role here.fits is part
+  chained_at : (class d : ℕ) (which : (d < used_of old) ⊎ (used_of old ≤ d)) → IsClass class
+      → IsPartial (layout_of old) (IsHeldByAnchors old) class d → HasChained old class d (chain_at d which)
+  chained_at class d (inl taken) is part = let here = have.each d taken in
+      chained old class d (slice_index_or roles d Large) here.spares here.has_role here.fits is part
   chained_at class d (inr past) is part = absurd (let taken = part.taken in omega arith)
 
   -- the anchor of a partial superblock is that of its chain
-  anchored : (class d : ℕ) (ws : List ℕ) → IsClass class → IsPartial (layout_of old) (IsHeldByAnchors old) class d → HasChained old class d ws → IsAnchored new class d ws
+  anchored : (class d : ℕ) (ws : List ℕ) → IsClass class → IsPartial (layout_of old) (IsHeldByAnchors old) class d → HasChained old class d ws
+      → IsAnchored new class d ws
   anchored class d ws is part chain =
       let anchor = (left.partial class d is part).anchor_is in
       let has = chain.has in
       let state : anchor_state (new (anchor_word d)) ≡ 1 = ap anchor_state anchor ∙ has.state in
       record {
-        linked = subst (λ c. IsChain new c class d (start_word c d + anchor_first (new (anchor_word d)) * words_of_class class) ws) (sym (same_capacity old new left.same))
-            (subst (λ a. IsChain new (capacity_of old) class d (start_word (capacity_of old) d + anchor_first a * words_of_class class) ws) (sym anchor) (record {
+        linked = subst (λ c. IsChain new c class d (start_word c d + anchor_first (new (anchor_word d)) * words_of_class class) ws)
+            (sym (same_capacity old new left.same))
+            (subst (λ a. IsChain new (capacity_of old) class d (start_word (capacity_of old) d + anchor_first a * words_of_class class) ws)
+            (sym anchor) (record {
               walks = walks_same old new (start_word (capacity_of old) d + anchor_first (old (anchor_word d)) * words_of_class class) ws
                   (λ b p. left.inside b (let at = (has.linked.blocks b p).1.at in omega arith)) has.linked.walks;
               blocks = has.linked.blocks;
             }));
         count = ap anchor_count anchor ∙ has.count;
         empty = (λ none. absurd (omega arith), λ all. absurd (let fewer = has.not_all in omega arith));
-        full = (λ is_full. absurd (let wrong : anchor_state (new (anchor_word d)) ≡ 2 = ap anchor_state is_full in omega arith), λ none. absurd (let some = has.some in omega arith));
+        full = (
+          λ is_full. absurd (let wrong : anchor_state (new (anchor_word d)) ≡ 2 = ap anchor_state is_full in omega arith),
+          λ none. absurd (let some = has.some in omega arith),
+        );
         partial = λ some fewer. state;
       }
 
@@ -114,15 +123,20 @@ module _ (old new : Image) (roles : List Role) (have : HaveRoles old roles) (lef
     links = left.links;
     unlisted = left.unlisted;
     free = left.free;
-    partial = λ class d is part. ((left.partial class d is part).info_is, anchored class d (chain_at d (cases_lt d (used_of old))) is part (chained_at class d (cases_lt d (used_of old)) is part));
+    partial = λ class d is part. (
+      (left.partial class d is part).info_is,
+      anchored class d (chain_at d (cases_lt d (used_of old))) is part (chained_at class d (cases_lt d (used_of old)) is part),
+    );
     full = left.full;
     in_large = left.in_large;
     untaken = left.untaken;
   }
 
 -- so it is a heap at rest
-pub reopened_ready : (old new : List ℕ) (held : List Block) (roles : List Role) → IsWellFormed (8 * length old) (slice_index old) → length new ≡ length old
+pub reopened_ready : (old new : List ℕ) (held : List Block) (roles : List Role) → IsWellFormed (8 * length old) (slice_index old)
+    → length new ≡ length old
     → HaveRoles (slice_index old) roles → AreAscending (λ (b : Block). b.first_word) (IsHeldByAnchors (slice_index old)) held
     → IsReopened (slice_index old) (slice_index new) (IsHeldByAnchors (slice_index old)) → IsReady new held
 reopened_ready old new held roles formed long have in_order left =
-    left_ready old new (IsHeldByAnchors (slice_index old)) held formed long (held_block (slice_index old)) in_order (heap_left (slice_index old) (slice_index new) roles have left)
+    left_ready old new (IsHeldByAnchors (slice_index old)) held formed long (held_block (slice_index old)) in_order
+    (heap_left (slice_index old) (slice_index new) roles have left)

@@ -13,7 +13,8 @@ pub written_none : (old : Image) (roles : List Role) → AreWritten old old role
 written_none old roles = record { each = λ e less. absurd (omega arith); others = λ word outside. refl }
 
 -- the next one is
-pub written_next : (old mid new : Image) (roles : List Role) (d : ℕ) (role : Role) (anchor : ℕ) → AreWritten old mid roles d → role ≡ slice_index_or roles d Free
+pub written_next : (old mid new : Image) (roles : List Role) (d : ℕ) (role : Role) (anchor : ℕ) → AreWritten old mid roles d
+    → role ≡ slice_index_or roles d Free
     → anchor ≡ anchor_after (mid (anchor_word d)) role → IsWrittenAs mid new d role anchor → AreWritten old new roles (d + 1)
 written_next old mid new roles d role anchor before role_is anchor_is here = record { each = each; others = others } where
   fresh : (word : ℕ) → IsNoWordBelow d word → mid word ≡ old word

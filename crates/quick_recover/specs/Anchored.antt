@@ -148,7 +148,8 @@ pub record AreRead (image : Image) (d end : ℕ) (held : List Block) (roles : Li
   pub in_order : AreAscending (λ (b : Block). b.first_word) (IsKeptBelow (capacity_of image) (IsHeldByAnchors image) d) held
   pub goes_on : GoOnTo (layout_of image) (IsHeldByAnchors image) d end
 
--- superblock d may begin a large block of so many superblocks: these have been taken, and those behind the first have no info, and are not marked as free
+-- superblock d may begin a large block of so many superblocks: these have been taken, and those behind the first have
+-- no info, and are not marked as free
 pub record IsWhole (image : Image) (free : List Bool) (d count : ℕ) : Type 0 where
   pub fits : d + count ≤ used_of image
   pub each : (e : ℕ) → d < e → e < d + count → (image (info_word e) ≡ 0) × (get_or free e false ≡ false)

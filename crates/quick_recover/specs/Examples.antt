@@ -90,7 +90,8 @@ untaken_has_an_info : IsReopened empty (put opened_empty 1064 20) (IsHeldByAncho
 untaken_has_an_info is = let info : ◌≡◌ {A = ℕ} 20 0 = (is.untaken 0 (omega arith) (omega arith)).info_is in omega arith
 
 untaken_has_a_link : IsReopened empty (put opened_empty 1066 1) (IsHeldByAnchors empty) → ⊥
-untaken_has_a_link is = let link : ◌≡◌ {A = ℕ} 1 0 = is.unlisted 0 (omega arith) (λ list few p. none_listed list 0 ((is.listed list few).sound 0 p)) in omega arith
+untaken_has_a_link is = let link : ◌≡◌ {A = ℕ} 1 0 = is.unlisted 0 (omega arith)
+    (λ list few p. none_listed list 0 ((is.listed list few).sound 0 p)) in omega arith
 
 word_inside_changes : IsReopened empty (put opened_empty 1072 5) (IsHeldByAnchors empty) → ⊥
 word_inside_changes is = let word : ◌≡◌ {A = ℕ} 5 0 = is.inside 1072 (omega arith) in omega arith
@@ -111,7 +112,8 @@ some_are_free = record {
 -- it is in no other list
 is_listed : (list d : ℕ) → IsListed (layout_of with_chain) (IsHeldByAnchors with_chain) list d → (list ≡ 20) × (d ≡ 0)
 unfolding with_chain
-is_listed zero d free = absurd (free.empty (quarter 2) third_is_held (let taken = free.taken in let first : d ≡ 0 = omega arith in subst (HasPartIn 1 (quarter 2)) (sym first) (record { begins = omega arith; ends = omega arith })))
+is_listed zero d free = absurd (free.empty (quarter 2) third_is_held (let taken = free.taken in let first : d ≡ 0 = omega arith in
+    subst (HasPartIn 1 (quarter 2)) (sym first) (record { begins = omega arith; ends = omega arith })))
 is_listed (suc c) d part =
     let taken = part.taken in
     let first : d ≡ 0 = omega arith in
@@ -140,7 +142,8 @@ chain_head list few other =
     ∙ with_at_other (put (put four 3 clean) 2 1) 1 version word (λ same. omega arith)
     ∙ with_at_other (put four 3 clean) 2 1 word (λ same. omega arith) ∙ with_at_other four 3 clean word (λ same. omega arith)
     ∙ with_at_other three 8 1 word (λ same. omega arith) ∙ with_at_other two 1064 20 word (λ same. omega arith)
-    ∙ with_at_other one 1065 (anchor_of partial_state 1 2) word (λ same. omega arith) ∙ with_at_other (image_with []) 2864 6448 word (λ same. omega arith)
+    ∙ with_at_other one 1065 (anchor_of partial_state 1 2) word (λ same. omega arith)
+    ∙ with_at_other (image_with []) 2864 6448 word (λ same. omega arith)
 
 same_inside : (word : ℕ) → word ≢ 3 → word ≢ 36 → opened_chain word ≡ with_chain word
 same_inside word no_state no_head = with_at_other (put with_chain 3 dirty) 36 1 word no_head ∙ with_at_other with_chain 3 dirty word no_state
@@ -151,10 +154,12 @@ chain_is_reopened = record {
   descriptors = in_class;
   listed = λ list few. record {
     sound = λ d p. elim (which_class list) [
-      | inl here ↦ elim (head_or_rest 0 d [] (subst (λ ds. Contains ds d) here.1 p)) as (λ _. IsListed (layout_of with_chain) (IsHeldByAnchors with_chain) list d) [
-        | inl first ↦ subst (IsListed (layout_of with_chain) (IsHeldByAnchors with_chain) list) first (subst (λ l. IsListed (layout_of with_chain) (IsHeldByAnchors with_chain) l 0) (sym here.0) some_are_free)
-        | inr later ↦ absurd (in_none d later)
-      ]
+      | inl here ↦ elim (head_or_rest 0 d [] (subst (λ ds. Contains ds d) here.1 p)) as
+          (λ _. IsListed (layout_of with_chain) (IsHeldByAnchors with_chain) list d) [
+            | inl first ↦ subst (IsListed (layout_of with_chain) (IsHeldByAnchors with_chain) list) first
+                (subst (λ l. IsListed (layout_of with_chain) (IsHeldByAnchors with_chain) l 0) (sym here.0) some_are_free)
+            | inr later ↦ absurd (in_none d later)
+          ]
       | inr other ↦ absurd (in_none d (subst (λ ds. Contains ds d) other.1 p))
     ];
     complete = λ d is.
@@ -175,18 +180,23 @@ chain_is_reopened = record {
     | inl here ↦ subst (λ ds. Follows (λ d. opened_chain (link_word d)) 1 (first_number ds) ds) (sym here.1) (refl, omega arith, refl)
     | inr other ↦ subst (λ ds. Follows (λ d. opened_chain (link_word d)) 1 (first_number ds) ds) (sym other.1) refl
   ];
-  unlisted = λ d below away. absurd (away 20 (omega arith) (let first : d ≡ 0 = omega arith in subst (λ e. Contains (0 ∷ []) e) (sym first) (in_head 0 [])));
+  unlisted = λ d below away. absurd (away 20 (omega arith) (let first : d ≡ 0 = omega arith in
+      subst (λ e. Contains (0 ∷ []) e) (sym first) (in_head 0 [])));
   free = λ d free. absurd (let zeroth = (is_listed 0 d free).0 in omega arith);
   partial = λ class d is part.
       let taken = part.taken in
       let first : d ≡ 0 = omega arith in
       let info : 20 ≡ class = subst (λ e. with_chain (1064 + 8 * e) ≡ class) first part.info_is in
-      record { info_is = subst (λ e. opened_chain (1064 + 8 * e) ≡ class) (sym first) info; anchor_is = subst (λ e. opened_chain (1065 + 8 * e) ≡ with_chain (1065 + 8 * e)) (sym first) refl };
+      record {
+        info_is = subst (λ e. opened_chain (1064 + 8 * e) ≡ class) (sym first) info;
+        anchor_is = subst (λ e. opened_chain (1065 + 8 * e) ≡ with_chain (1065 + 8 * e)) (sym first) refl;
+      };
   full = λ class d is full.
       let taken = full.taken in
       let first : d ≡ 0 = omega arith in
       let info : class ≡ 20 = sym full.info_is ∙ subst (λ e. with_chain (1064 + 8 * e) ≡ 20) (sym first) refl in
-      absurd (chained_is_not_held (full.all 1 (quarter 1) (subst (λ c. IsBlockOfClass 1 c d 1 (quarter 1)) (sym info) (subst (λ e. IsBlockOfClass 1 20 e 1 (quarter 1)) (sym first) (is_quarter 1 (omega arith))))));
+      absurd (chained_is_not_held (full.all 1 (quarter 1) (subst (λ c. IsBlockOfClass 1 c d 1 (quarter 1)) (sym info)
+      (subst (λ e. IsBlockOfClass 1 20 e 1 (quarter 1)) (sym first) (is_quarter 1 (omega arith))))));
   in_large = λ d large.
       let taken = large.taken in
       let first : d ≡ 0 = omega arith in

@@ -89,7 +89,8 @@ current_same limit words kinds count good = by_version (λ ws. HasSameHeap (slic
 
 pub current_kinds : (words kinds : List ℕ) → length kinds ≡ roots → IsOldWellFormed (8 * length words) (slice_index words) → (i : ℕ) → i < roots
     → kinds_of (slice_index (current_words words kinds)) i ≡ slice_index kinds i
-current_kinds words kinds count old i less = subst (λ ws. kinds_of (slice_index ws) i ≡ slice_index kinds i) (sym (current_of_old words kinds old.version_is))
+current_kinds words kinds count old i less = subst (λ ws. kinds_of (slice_index ws) i ≡ slice_index kinds i)
+    (sym (current_of_old words kinds old.version_is))
     (sym (stored_kinds words kinds count old i less))
 
 pub current_below : (limit : Option ℕ) (words kinds : List ℕ) → length kinds ≡ roots → HasGoodHeader limit (8 * length words) (slice_index words)

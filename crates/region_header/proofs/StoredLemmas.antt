@@ -31,14 +31,16 @@ new_formed header bytes image none is new = by_form (good_header None bytes imag
   by_form (inr (formed, any)) = formed
 
 -- the kinds of an image in words
-pub stored_words : (words : List ℕ) (from : ℕ) (header : Header) → from ≡ kind_word header.capacity 0 → header_fault None (8 * length words) (slice_index words) ≡ None → IsHeaderOf header (slice_index words)
+pub stored_words : (words : List ℕ) (from : ℕ) (header : Header) → from ≡ kind_word header.capacity 0
+    → header_fault None (8 * length words) (slice_index words) ≡ None → IsHeaderOf header (slice_index words)
     → header.version ≢ old_version → HasStored header (take (length words - from) (drop from words)) (8 * length words) (slice_index words)
 stored_words words from header place none is new =
     let formed = new_formed header (8 * length words) (slice_index words) none is new in
     let long = formed.length_is in
     let capacity = is.capacity_is in
     let rest = length-drop from words in
-    let whole : take (length words - from) (drop from words) ≡ drop from words = take_all (length words - from) (drop from words) (omega arith) in record {
+    let whole : take (length words - from) (drop from words) ≡ drop from words =
+    take_all (length words - from) (drop from words) (omega arith) in record {
       formed = formed;
       header_is = is;
       count = ap length whole ∙ omega arith;
@@ -50,11 +52,14 @@ pub told_of_bytes : (bytes words : List ℕ) (header : Header) → length words 
     → None ≡ header_fault None (length bytes) (slice_index words) → IsHeaderOf header (slice_index words)
     → (header_fault None (length bytes) (image_of_bytes bytes) ≡ None) × IsHeaderOf header (image_of_bytes bytes)
 told_of_bytes bytes words header nine read none is =
-    let same = front_is bytes words nine read in
-    (sym (none ∙ same_fault (length bytes) (slice_index words) (image_of_bytes bytes) same), same_header header (slice_index words) (image_of_bytes bytes) same is)
+    let same = front_is bytes words nine read in (
+      sym (none ∙ same_fault (length bytes) (slice_index words) (image_of_bytes bytes) same),
+      same_header header (slice_index words) (image_of_bytes bytes) same is,
+    )
 
 -- the kinds of an image in bytes
-pub stored_bytes : (bytes stored : List ℕ) (from : ℕ) (header : Header) → from ≡ 8 * kind_word header.capacity 0 → header_fault None (length bytes) (image_of_bytes bytes) ≡ None
+pub stored_bytes : (bytes stored : List ℕ) (from : ℕ) (header : Header) → from ≡ 8 * kind_word header.capacity 0
+    → header_fault None (length bytes) (image_of_bytes bytes) ≡ None
     → IsHeaderOf header (image_of_bytes bytes) → header.version ≢ old_version → length stored ≡ roots
     → IsRead little_number 8 (take (length bytes - from) (drop from bytes)) stored → HasStored header stored (length bytes) (image_of_bytes bytes)
 stored_bytes bytes stored from header place none is new count read = record {
@@ -65,5 +70,6 @@ stored_bytes bytes stored from header place none is new count read = record {
       let capacity = is.capacity_is in
       let rest = length-drop from bytes in
       let whole : take (length bytes - from) (drop from bytes) ≡ drop from bytes = take_all (length bytes - from) (drop from bytes) (omega arith) in
-      read i (omega arith) ∙ ap (λ xs. little_number 8 (drop (8 * i) xs)) whole ∙ ap (little_number 8) (drop-drop (8 * i) from bytes ∙ ap (λ n. drop n bytes) (omega arith));
+      read i (omega arith) ∙ ap (λ xs. little_number 8 (drop (8 * i) xs)) whole
+      ∙ ap (little_number 8) (drop-drop (8 * i) from bytes ∙ ap (λ n. drop n bytes) (omega arith));
 }

@@ -29,7 +29,8 @@ no_more found found' labels labels' same_found same_labels = record {
   long = ap (λ (ls : List ℕ). length ls) same_labels;
 }
 
-pub more_and_more : (found found' found'' : List Finding) (labels labels' labels'' : List ℕ) → Grows found found' labels labels' → Grows found' found'' labels' labels''
+pub more_and_more : (found found' found'' : List Finding) (labels labels' labels'' : List ℕ) → Grows found found' labels labels'
+    → Grows found' found'' labels' labels''
     → Grows found found'' labels labels''
 more_and_more found found' found'' labels labels' labels'' one two = record {
   more = one.more ++ two.more;
@@ -38,7 +39,8 @@ more_and_more found found' found'' labels labels' labels'' one two = record {
   long = two.long ∙ one.long;
 }
 
-pub kept : (found found' : List Finding) (labels labels' : List ℕ) (f : Finding) → Grows found found' labels labels' → Contains found f → Contains found' f
+pub kept : (found found' : List Finding) (labels labels' : List ℕ) (f : Finding) → Grows found found' labels labels' → Contains found f
+    → Contains found' f
 kept found found' labels labels' f grown here = subst (λ fs. Contains fs f) (sym grown.is) (Contains-append_left found grown.more f here)
 
 module _ (image : Image) (kinds : ℕ → ℕ) (links : Links) (count : ℕ) where
@@ -49,14 +51,16 @@ module _ (image : Image) (kinds : ℕ → ℕ) (links : Links) (count : ℕ) whe
     here = λ b leads. ((was.here b leads).0, grown.still (mark_of count b kind) o (was.here b leads).1);
   }
 
-  pub all_still : (found found' : List Finding) (labels labels' : List ℕ) (a : Block) (o : Origin) (upto : List (ℕ × ℕ)) → Grows found found' labels labels'
+  pub all_still : (found found' : List Finding) (labels labels' : List ℕ) (a : Block) (o : Origin) (upto : List (ℕ × ℕ))
+      → Grows found found' labels labels'
       → ArePropagated image count labels a o upto → ArePropagated image count labels' a o upto
   all_still found found' labels labels' a o upto grown was = record {
     each = λ position kind here. still_followed found found' labels labels' (a.first_word + position) kind o grown (was.each position kind here);
   }
 
   -- a label is there
-  label_inside : (found : List Finding) (labels : List ℕ) (b : Block) (kind : ℕ) → HasLabels (layout_of image) count labels → IsBlock (layout_of image) b → kind < count
+  label_inside : (found : List Finding) (labels : List ℕ) (b : Block) (kind : ℕ) → HasLabels (layout_of image) count labels
+      → IsBlock (layout_of image) b → kind < count
       → mark_of count b kind < length labels
   label_inside found labels b kind room is below = let each = room.each b is in omega arith
 
@@ -74,11 +78,13 @@ module _ (image : Image) (kinds : ℕ → ℕ) (links : Links) (count : ℕ) whe
 
   -- what is told where an origin joins is so
   tells_joined : (found : List Finding) (labels : List ℕ) (b : Block) (kind : ℕ) (o joined : Origin) → AreFindings image kinds links count found labels
-      → IsBlock (layout_of image) b → kind < count → Tells image kinds links b kind o → Joins (origin_at count labels b kind) o joined → Tells image kinds links b kind joined
+      → IsBlock (layout_of image) b → kind < count → Tells image kinds links b kind o → Joins (origin_at count labels b kind) o joined
+      → Tells image kinds links b kind joined
   tells_joined found labels b kind o joined so_far is below tells (first none are) = subst (λ x. Tells image kinds links b kind x) (sym are) tells
   tells_joined found labels b kind o joined so_far is below tells (both root one apart are) =
       subst (λ x. Tells image kinds links b kind x) (sym are)
-      (two_roots b kind root o apart (so_far.sound (record { block = b; kind = kind; origin = One root }) (so_far.told b kind (One root) is below one)).1 tells)
+      (two_roots b kind root o apart (so_far.sound (record { block = b; kind = kind; origin = One root })
+      (so_far.told b kind (One root) is below one)).1 tells)
 
   -- the label of a pair after it was set, and that of another pair
   set_label : (labels : List ℕ) (b : Block) (kind : ℕ) (o : Origin) → mark_of count b kind < length labels
@@ -122,13 +128,16 @@ module _ (image : Image) (kinds : ℕ → ℕ) (links : Links) (count : ℕ) whe
 
   added_found : (found : List Finding) (labels : List ℕ) (b : Block) (kind : ℕ) (o joined : Origin) → AreFindings image kinds links count found labels
       → IsBlock (layout_of image) b → kind < count → Tells image kinds links b kind o → Joins (origin_at count labels b kind) o joined
-      → AreFindings image kinds links count (found ++ record { block = b; kind = kind; origin = joined } ∷ []) (set labels (mark_of count b kind) (label_of joined))
+      → AreFindings image kinds links count (found ++ record { block = b; kind = kind; origin = joined } ∷ [])
+      (set labels (mark_of count b kind) (label_of joined))
   added_found found labels b kind o joined so_far is below tells joins =
       let inside = label_inside found labels b kind so_far.room is below in
-      let long : length (set labels (mark_of count b kind) (label_of joined)) ≡ length labels = length-set labels (mark_of count b kind) (label_of joined) in
+      let long : length (set labels (mark_of count b kind) (label_of joined)) ≡ length labels =
+      length-set labels (mark_of count b kind) (label_of joined) in
       record {
         room = record { each = λ c is_c. let each = so_far.room.each c is_c in omega arith };
-        sound = sound_more found labels (record { block = b; kind = kind; origin = joined }) so_far below (tells_joined found labels b kind o joined so_far is below tells joins);
+        sound = sound_more found labels (record { block = b; kind = kind; origin = joined }) so_far below
+            (tells_joined found labels b kind o joined so_far is below tells joins);
         told = told_more found labels b kind joined so_far is below;
         few = let few = so_far.few in
             let up = rank_up (slice_index labels (mark_of count b kind)) o joined joins in
@@ -138,16 +147,20 @@ module _ (image : Image) (kinds : ℕ → ℕ) (links : Links) (count : ℕ) whe
       }
 
   -- what adding an origin leaves
-  pub add_found : (found found' : List Finding) (labels labels' : List ℕ) (b : Block) (kind : ℕ) (o : Origin) → AreFindings image kinds links count found labels
-      → IsBlock (layout_of image) b → kind < count → Tells image kinds links b kind o → AddsOrigin count b kind o found found' labels labels' → AreFindings image kinds links count found' labels'
+  pub add_found : (found found' : List Finding) (labels labels' : List ℕ) (b : Block) (kind : ℕ) (o : Origin)
+      → AreFindings image kinds links count found labels
+      → IsBlock (layout_of image) b → kind < count → Tells image kinds links b kind o → AddsOrigin count b kind o found found' labels labels'
+      → AreFindings image kinds links count found' labels'
   add_found found found' labels labels' b kind o so_far is below tells (present covers same_found same_labels) =
-      subst (λ fs. AreFindings image kinds links count fs labels') (sym same_found) (subst (λ ls. AreFindings image kinds links count found ls) (sym same_labels) so_far)
+      subst (λ fs. AreFindings image kinds links count fs labels') (sym same_found)
+      (subst (λ ls. AreFindings image kinds links count found ls) (sym same_labels) so_far)
   add_found found found' labels labels' b kind o so_far is below tells (added joined joins new_found new_labels) =
       subst (λ fs. AreFindings image kinds links count fs labels') (sym new_found)
       (subst (λ ls. AreFindings image kinds links count (found ++ record { block = b; kind = kind; origin = joined } ∷ []) ls) (sym new_labels)
       (added_found found labels b kind o joined so_far is below tells joins))
 
-  added_still : (labels : List ℕ) (b : Block) (kind : ℕ) (o joined : Origin) → mark_of count b kind < length labels → Joins (origin_at count labels b kind) o joined
+  added_still : (labels : List ℕ) (b : Block) (kind : ℕ) (o joined : Origin) → mark_of count b kind < length labels
+      → Joins (origin_at count labels b kind) o joined
       → (i : ℕ) (p : Origin) → Covers (origin_in (slice_index labels i)) p
       → Covers (origin_in (slice_index (set labels (mark_of count b kind) (label_of joined)) i)) p
   added_still labels b kind o joined inside joins i p was =
@@ -160,11 +173,13 @@ module _ (image : Image) (kinds : ℕ → ℕ) (links : Links) (count : ℕ) whe
 
   pub add_grows : (found found' : List Finding) (labels labels' : List ℕ) (b : Block) (kind : ℕ) (o : Origin) → mark_of count b kind < length labels
       → AddsOrigin count b kind o found found' labels labels' → Grows found found' labels labels'
-  add_grows found found' labels labels' b kind o inside (present covers same_found same_labels) = no_more found found' labels labels' same_found same_labels
+  add_grows found found' labels labels' b kind o inside (present covers same_found same_labels) =
+      no_more found found' labels labels' same_found same_labels
   add_grows found found' labels labels' b kind o inside (added joined joins new_found new_labels) = record {
     more = record { block = b; kind = kind; origin = joined } ∷ [];
     is = new_found;
-    still = λ i p was. subst (λ (ls : List ℕ). Covers (origin_in (slice_index ls i)) p) (sym new_labels) (added_still labels b kind o joined inside joins i p was);
+    still = λ i p was. subst (λ (ls : List ℕ). Covers (origin_in (slice_index ls i)) p) (sym new_labels)
+        (added_still labels b kind o joined inside joins i p was);
     long = ap (λ (ls : List ℕ). length ls) new_labels ∙ length-set labels (mark_of count b kind) (label_of joined);
   }
 
@@ -177,23 +192,29 @@ module _ (image : Image) (kinds : ℕ → ℕ) (links : Links) (count : ℕ) whe
       (subst (λ x. Covers x o) (sym (set_label labels b kind joined inside)) (joins_covers (origin_at count labels b kind) o joined joins))
 
   -- what following a word leaves
-  pub follow_found : (found found' : List Finding) (labels labels' : List ℕ) (at kind : ℕ) (o : Origin) → AreFindings image kinds links count found labels → kind < count
+  pub follow_found : (found found' : List Finding) (labels labels' : List ℕ) (at kind : ℕ) (o : Origin)
+      → AreFindings image kinds links count found labels → kind < count
       → ((b : Block) → Leads image (image at) b → Tells image kinds links b kind o) → Propagates image count at kind o found found' labels labels'
       → AreFindings image kinds links count found' labels'
   follow_found found found' labels labels' at kind o so_far below tells (nowhere none same_found same_labels) =
-      subst (λ fs. AreFindings image kinds links count fs labels') (sym same_found) (subst (λ ls. AreFindings image kinds links count found ls) (sym same_labels) so_far)
+      subst (λ fs. AreFindings image kinds links count fs labels') (sym same_found)
+      (subst (λ ls. AreFindings image kinds links count found ls) (sym same_labels) so_far)
   follow_found found found' labels labels' at kind o so_far below tells (lead b leads adds) =
       add_found found found' labels labels' b kind o so_far leads.names.block below (tells b leads) adds
 
-  pub follow_grows : (found found' : List Finding) (labels labels' : List ℕ) (at kind : ℕ) (o : Origin) → HasLabels (layout_of image) count labels → kind < count
+  pub follow_grows : (found found' : List Finding) (labels labels' : List ℕ) (at kind : ℕ) (o : Origin)
+      → HasLabels (layout_of image) count labels → kind < count
       → Propagates image count at kind o found found' labels labels' → Grows found found' labels labels'
-  follow_grows found found' labels labels' at kind o room below (nowhere none same_found same_labels) = no_more found found' labels labels' same_found same_labels
+  follow_grows found found' labels labels' at kind o room below (nowhere none same_found same_labels) =
+      no_more found found' labels labels' same_found same_labels
   follow_grows found found' labels labels' at kind o room below (lead b leads adds) =
       add_grows found found' labels labels' b kind o (label_inside found labels b kind room leads.names.block below) adds
 
-  pub follow_followed : (found found' : List Finding) (labels labels' : List ℕ) (at kind : ℕ) (o : Origin) → HasLabels (layout_of image) count labels → kind < count
+  pub follow_followed : (found found' : List Finding) (labels labels' : List ℕ) (at kind : ℕ) (o : Origin)
+      → HasLabels (layout_of image) count labels → kind < count
       → Propagates image count at kind o found found' labels labels' → IsPropagated image count labels' at kind o
-  follow_followed found found' labels labels' at kind o room below (nowhere none same_found same_labels) = record { here = λ b leads. absurd (none b leads) }
+  follow_followed found found' labels labels' at kind o room below (nowhere none same_found same_labels) =
+      record { here = λ b leads. absurd (none b leads) }
   follow_followed found found' labels labels' at kind o room below (lead b leads adds) = record {
     here = λ c to_c. (
       below,

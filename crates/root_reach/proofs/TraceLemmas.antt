@@ -34,7 +34,8 @@ small_rank (suc (suc root)) = omega arith
 
 module _ (image : Image) (kinds : ℕ → ℕ) (links : Links) (count : ℕ) where
   -- nothing has been found, and no label tells anything
-  pub nothing_found : (n : ℕ) (labels : List ℕ) → n ≡ start_word (capacity_of image) (used_of image) → length labels ≡ n * count → All (λ label. label ≡ 0) labels
+  pub nothing_found : (n : ℕ) (labels : List ℕ) → n ≡ start_word (capacity_of image) (used_of image) → length labels ≡ n * count
+      → All (λ label. label ≡ 0) labels
       → AreFindings image kinds links count [] labels
   nothing_found n labels end long clear =
       let fits : (b : Block) → IsBlock (layout_of image) b → b.first_word * count + count ≤ length labels =
@@ -53,9 +54,14 @@ module _ (image : Image) (kinds : ℕ → ℕ) (links : Links) (count : ℕ) whe
 
   -- what a root leads to, and what the links of a told block lead to, is reached
   pub tells_root : (root : ℕ) → root < roots → (b : Block) → Leads image (image (root_word root)) b → Tells image kinds links b (kinds root) (One root)
-  tells_root root below b leads = (below, by_start b (kinds root) (record { root = root; below = below; is_chosen = refl; kind_is = refl; leads = leads }))
+  tells_root root below b leads = (
+    below,
+    by_start b (kinds root)
+        (record { root = root; below = below; is_chosen = refl; kind_is = refl; leads = leads }),
+  )
 
-  pub tells_link : (a : Block) (from position kind : ℕ) (o : Origin) → Tells image kinds links a from o → Contains (links from (words_in image a)) (position, kind)
+  pub tells_link : (a : Block) (from position kind : ℕ) (o : Origin) → Tells image kinds links a from o
+      → Contains (links from (words_in image a)) (position, kind)
       → (b : Block) → Leads image (image (a.first_word + position)) b → Tells image kinds links b kind o
   tells_link a from position kind (One root) tells listed b leads =
       (tells.0, by_link a b from kind tells.1 (record { position = position; listed = listed; leads = leads }))
@@ -72,12 +78,15 @@ module _ (image : Image) (kinds : ℕ → ℕ) (links : Links) (count : ℕ) whe
   tells_block b kind Several tells = reached_block image kinds links b kind tells.from_one
 
   -- one more root
-  pub roots_step : (n : ℕ) (found found' : List Finding) (labels labels' : List ℕ) → PropagatesRoots image kinds links count n found labels → n < roots → kinds n < count
-      → Propagates image count (root_word n) (kinds n) (One n) found found' labels labels' → PropagatesRoots image kinds links count (n + 1) found' labels'
+  pub roots_step : (n : ℕ) (found found' : List Finding) (labels labels' : List ℕ) → PropagatesRoots image kinds links count n found labels
+      → n < roots → kinds n < count
+      → Propagates image count (root_word n) (kinds n) (One n) found found' labels labels'
+      → PropagatesRoots image kinds links count (n + 1) found' labels'
   roots_step n found found' labels labels' was below kind follows =
       let grown = follow_grows image kinds links count found found' labels labels' (root_word n) (kinds n) (One n) was.so_far.room kind follows in
       record {
-        so_far = follow_found image kinds links count found found' labels labels' (root_word n) (kinds n) (One n) was.so_far kind (tells_root n below) follows;
+        so_far = follow_found image kinds links count found found' labels labels' (root_word n) (kinds n) (One n) was.so_far kind
+            (tells_root n below) follows;
         followed = below_more (λ i. IsPropagated image count labels' (root_word i) (kinds i) (One i)) n
             (λ i low. still_followed image kinds links count found found' labels labels' (root_word i) (kinds i) (One i) grown (was.followed i low))
             (follow_followed image kinds links count found found' labels labels' (root_word n) (kinds n) (One n) was.so_far.room kind follows);
@@ -92,7 +101,8 @@ module _ (image : Image) (kinds : ℕ → ℕ) (links : Links) (count : ℕ) whe
   }
 
   -- one more link
-  pub links_step : (a : Block) (from : ℕ) (o : Origin) (upto : List (ℕ × ℕ)) (position kind : ℕ) (found found' found'' : List Finding) (labels labels' labels'' : List ℕ)
+  pub links_step : (a : Block) (from : ℕ) (o : Origin) (upto : List (ℕ × ℕ)) (position kind : ℕ) (found found' found'' : List Finding)
+      (labels labels' labels'' : List ℕ)
       → PropagatesLinks image kinds links count a o upto found found' labels labels' → Tells image kinds links a from o
       → Contains (links from (words_in image a)) (position, kind) → kind < count
       → Propagates image count (a.first_word + position) kind o found' found'' labels' labels''
@@ -102,18 +112,21 @@ module _ (image : Image) (kinds : ℕ → ℕ) (links : Links) (count : ℕ) whe
       let grown = follow_grows image kinds links count found' found'' labels' labels'' at kind o was.so_far.room below follows in
       let here = follow_followed image kinds links count found' found'' labels' labels'' at kind o was.so_far.room below follows in
       record {
-        so_far = follow_found image kinds links count found' found'' labels' labels'' at kind o was.so_far below (tells_link a from position kind o tells listed) follows;
+        so_far = follow_found image kinds links count found' found'' labels' labels'' at kind o was.so_far below
+            (tells_link a from position kind o tells listed) follows;
         grown = more_and_more found found' found'' labels labels' labels'' was.grown grown;
         followed = record {
-          each = λ p k in_upto. elim (Contains-push_cases upto (position, kind) (p, k) in_upto) as (λ _. IsPropagated image count labels'' (a.first_word + p) k o) [
-            | inl old ↦ still_followed image kinds links count found' found'' labels' labels'' (a.first_word + p) k o grown (was.followed.each p k old)
-            | inr one ↦ subst (λ (l : ℕ × ℕ). IsPropagated image count labels'' (a.first_word + l.0) l.1 o) one here
-          ];
+          each = λ p k in_upto. elim (Contains-push_cases upto (position, kind) (p, k) in_upto) as
+              (λ _. IsPropagated image count labels'' (a.first_word + p) k o) [
+                | inl old ↦ still_followed image kinds links count found' found'' labels' labels'' (a.first_word + p) k o grown (was.followed.each p k old)
+                | inr one ↦ subst (λ (l : ℕ × ℕ). IsPropagated image count labels'' (a.first_word + l.0) l.1 o) one here
+              ];
         };
       }
 
   -- when the roots have been followed, nothing that was found has been
-  pub work_begins : (found : List Finding) (labels : List ℕ) → PropagatesRoots image kinds links count roots found labels → IsWorklist image kinds links count 0 found labels
+  pub work_begins : (found : List Finding) (labels : List ℕ) → PropagatesRoots image kinds links count roots found labels
+      → IsWorklist image kinds links count 0 found labels
   work_begins found labels done = record {
     so_far = done.so_far;
     roots_followed = done.followed;
@@ -122,8 +135,10 @@ module _ (image : Image) (kinds : ℕ → ℕ) (links : Links) (count : ℕ) whe
   }
 
   -- one more finding
-  pub work_step : (next : ℕ) (f : Finding) (found found' : List Finding) (labels labels' : List ℕ) → IsWorklist image kinds links count next found labels → next < length found
-      → get_or found next f ≡ f → PropagatesLinks image kinds links count f.block f.origin (links f.kind (words_in image f.block)) found found' labels labels'
+  pub work_step : (next : ℕ) (f : Finding) (found found' : List Finding) (labels labels' : List ℕ)
+      → IsWorklist image kinds links count next found labels → next < length found
+      → get_or found next f ≡ f → PropagatesLinks image kinds links count f.block f.origin
+      (links f.kind (words_in image f.block)) found found' labels labels'
       → IsWorklist image kinds links count (next + 1) found' labels'
   work_step next f found found' labels labels' work below read follows =
       let grown = follows.grown in
@@ -135,11 +150,14 @@ module _ (image : Image) (kinds : ℕ → ℕ) (links : Links) (count : ℕ) whe
       ∙ ap (λ (x : Finding). take next found ++ x ∷ []) read in
       record {
         so_far = follows.so_far;
-        roots_followed = λ i low. still_followed image kinds links count found found' labels labels' (root_word i) (kinds i) (One i) grown (work.roots_followed i low);
-        links_followed = λ g here. elim (Contains-push_cases (take next found) f g (subst (λ fs. Contains fs g) front here)) as (λ _. HasPropagated image links count labels' g) [
-          | inl old ↦ all_still image kinds links count found found' labels labels' g.block g.origin (links g.kind (words_in image g.block)) grown (work.links_followed g old)
-          | inr one ↦ subst (λ (x : Finding). HasPropagated image links count labels' x) one follows.followed
-        ];
+        roots_followed = λ i low. still_followed image kinds links count found found' labels labels' (root_word i) (kinds i) (One i) grown
+            (work.roots_followed i low);
+        links_followed = λ g here. elim (Contains-push_cases (take next found) f g (subst (λ fs. Contains fs g) front here)) as
+            (λ _. HasPropagated image links count labels' g) [
+              | inl old ↦ all_still image kinds links count found found' labels labels' g.block g.origin
+                  (links g.kind (words_in image g.block)) grown (work.links_followed g old)
+              | inr one ↦ subst (λ (x : Finding). HasPropagated image links count labels' x) one follows.followed
+            ];
         within = omega arith;
       }
 
@@ -150,7 +168,8 @@ module _ (image : Image) (kinds : ℕ → ℕ) (links : Links) (count : ℕ) whe
       let most = sum_by-le rank 2 labels (λ k d below. small_rank (get_or labels k d)) in omega arith
 
   -- what is told of a block covers the root, where it covers it of what leads there
-  handed_on : (told : Option Origin) (root : ℕ) (P : Type 0) → Covers told (One root) → ((o : Origin) → told ≡ Some o → Covers (Some o) (One root) → P) → P
+  handed_on : (told : Option Origin) (root : ℕ) (P : Type 0) → Covers told (One root)
+      → ((o : Origin) → told ≡ Some o → Covers (Some o) (One root) → P) → P
   handed_on told root P (same is) use_it = use_it (One root) is (same refl)
   handed_on told root P (several is) use_it = use_it Several is (several refl)
 
@@ -161,10 +180,12 @@ module _ (image : Image) (kinds : ℕ → ℕ) (links : Links) (count : ℕ) whe
   complete : (found : List Finding) (labels : List ℕ) → AreFindings image kinds links count found labels
       → ((i : ℕ) → i < roots → IsPropagated image count labels (root_word i) (kinds i) (One i))
       → ((f : Finding) → Contains found f → HasPropagated image links count labels f)
-      → (root : ℕ) (b : Block) (kind : ℕ) → ReachesFrom image kinds links root b kind → (kind < count) × Covers (origin_at count labels b kind) (One root)
+      → (root : ℕ) (b : Block) (kind : ℕ) → ReachesFrom image kinds links root b kind → (kind < count)
+      × Covers (origin_at count labels b kind) (One root)
   complete found labels so_far from_roots from_links root = closure_least (λ b kind. (kind < count) × Covers (origin_at count labels b kind) (One root))
       (λ b kind start. subst (λ k. (k < count) × Covers (origin_at count labels b k) (One root)) (sym start.kind_is)
-      (subst (λ r. (kinds start.root < count) × Covers (origin_at count labels b (kinds start.root)) (One r)) start.is_chosen ((from_roots start.root start.below).here b start.leads)))
+      (subst (λ r. (kinds start.root < count) × Covers (origin_at count labels b (kinds start.root)) (One r)) start.is_chosen
+      ((from_roots start.root start.below).here b start.leads)))
       (λ a b from kind reached told link.
       handed_on (origin_at count labels a from) root ((kind < count) × Covers (origin_at count labels b kind) (One root)) told.1
       (λ o is covers.
@@ -173,7 +194,8 @@ module _ (image : Image) (kinds : ℕ → ℕ) (links : Links) (count : ℕ) whe
       (followed.0, covers_on (origin_at count labels b kind) o root followed.1 covers)))
 
   -- when all that was found has been followed, the labels tell which roots reach each block
-  pub work_ends : (next : ℕ) (found : List Finding) (origins : Origins) → origins.kinds ≡ count → IsWorklist image kinds links count next found origins.labels.items
+  pub work_ends : (next : ℕ) (found : List Finding) (origins : Origins) → origins.kinds ≡ count
+      → IsWorklist image kinds links count next found origins.labels.items
       → length found ≤ next → AreOrigins image kinds links origins
   work_ends next found origins is work past =
       let labels : List ℕ = origins.labels.items in
@@ -181,9 +203,12 @@ module _ (image : Image) (kinds : ℕ → ℕ) (links : Links) (count : ℕ) whe
       subst (λ fs. (f : Finding) → Contains fs f → HasPropagated image links count labels f) (take_all next found past) work.links_followed in
       record {
         room = subst (λ n. HasLabels (layout_of image) n labels) (sym is) work.so_far.room;
-        sound = subst (λ n. (b : Block) (kind : ℕ) (o : Origin) → IsBlock (layout_of image) b → kind < n → origin_at n labels b kind ≡ Some o → Tells image kinds links b kind o) (sym is)
-            (λ b kind o block below tells. (work.so_far.sound (record { block = b; kind = kind; origin = o }) (work.so_far.told b kind o block below tells)).1);
-        complete = subst (λ n. (b : Block) (kind root : ℕ) → ReachesFrom image kinds links root b kind → (kind < n) × Covers (origin_at n labels b kind) (One root)) (sym is)
+        sound = subst (λ n. (b : Block) (kind : ℕ) (o : Origin) → IsBlock (layout_of image) b → kind < n → origin_at n labels b kind ≡ Some o
+            → Tells image kinds links b kind o) (sym is)
+            (λ b kind o block below tells. (work.so_far.sound (record { block = b; kind = kind; origin = o })
+            (work.so_far.told b kind o block below tells)).1);
+        complete = subst (λ n. (b : Block) (kind root : ℕ) → ReachesFrom image kinds links root b kind → (kind < n)
+            × Covers (origin_at n labels b kind) (One root)) (sym is)
             (λ b kind root reached. complete found labels work.so_far work.roots_followed all root b kind reached);
       }
 
@@ -191,11 +216,17 @@ module _ (image : Image) (kinds : ℕ → ℕ) (links : Links) (count : ℕ) whe
 one_of_many : (image : Image) (chosen : ℕ → Type 0) (kinds : ℕ → ℕ) (links : Links) (b : Block) (kind : ℕ) → ReachFrom image chosen kinds links b kind
     → (root : ℕ) × chosen root × ReachesFrom image kinds links root b kind
 one_of_many image chosen kinds links = closure_least (λ b kind. (root : ℕ) × chosen root × ReachesFrom image kinds links root b kind)
-    (λ b kind start. (start.root, start.is_chosen, by_start b kind (record { root = start.root; below = start.below; is_chosen = refl; kind_is = start.kind_is; leads = start.leads })))
+    (λ b kind start. (
+      start.root,
+      start.is_chosen,
+      by_start b kind
+          (record { root = start.root; below = start.below; is_chosen = refl; kind_is = start.kind_is; leads = start.leads }),
+    ))
     (λ a b from kind reached was link. (was.0, was.1, by_link a b from kind was.2 link))
 
 -- what is told of a block beside a root
-beside_reached : (image : Image) (kinds : ℕ → ℕ) (links : Links) (b : Block) (kind root : ℕ) (o : Origin) → Tells image kinds links b kind o → o ≢ One root
+beside_reached : (image : Image) (kinds : ℕ → ℕ) (links : Links) (b : Block) (kind root : ℕ) (o : Origin) → Tells image kinds links b kind o
+    → o ≢ One root
     → IsReachedBeside image kinds links root b
 beside_reached image kinds links b kind root (One other) tells apart = record {
   kind = kind;
@@ -209,9 +240,12 @@ beside_reached image kinds links b kind root Several tells apart = elim (cases_e
   | inr other ↦ record { kind = kind; reached = more_roots image kinds links (λ i e i_is_root. other (sym e ∙ i_is_root)) b kind tells.from_one }
 ]
 
-pub beside_yes : (image : Image) (kinds : ℕ → ℕ) (links : Links) (origins : Origins) (b : Block) (kind root : ℕ) (o : Origin) → AreOrigins image kinds links origins
-    → IsBlock (layout_of image) b → kind < origins.kinds → origin_at origins.kinds origins.labels.items b kind ≡ Some o → o ≢ One root → IsReachedBeside image kinds links root b
-beside_yes image kinds links origins b kind root o are is below told apart = beside_reached image kinds links b kind root o (are.sound b kind o is below told) apart
+pub beside_yes : (image : Image) (kinds : ℕ → ℕ) (links : Links) (origins : Origins) (b : Block) (kind root : ℕ) (o : Origin)
+    → AreOrigins image kinds links origins
+    → IsBlock (layout_of image) b → kind < origins.kinds → origin_at origins.kinds origins.labels.items b kind ≡ Some o → o ≢ One root
+    → IsReachedBeside image kinds links root b
+beside_yes image kinds links origins b kind root o are is below told apart =
+    beside_reached image kinds links b kind root o (are.sound b kind o is below told) apart
 
 covers_one : (told : Option Origin) (root other : ℕ) → ((o : Origin) → told ≡ Some o → o ≡ One root) → Covers told (One other) → other ≡ root
 covers_one told root other only (same is) = one_root other root (only (One other) is)
@@ -227,7 +261,8 @@ beside_no image kinds links origins b root are only reached =
 
 tells_same : (image : Image) (kinds kinds' : ℕ → ℕ) (links : Links) (b : Block) (kind : ℕ) (o : Origin) → ((i : ℕ) → i < roots → kinds' i ≡ kinds i)
     → Tells image kinds links b kind o → Tells image kinds' links b kind o
-tells_same image kinds kinds' links b kind (One root) alike tells = (tells.0, reach_by_kinds {chosen = λ i. i ≡ root} image kinds kinds' links (λ i below. sym (alike i below)) b kind tells.1)
+tells_same image kinds kinds' links b kind (One root) alike tells =
+    (tells.0, reach_by_kinds {chosen = λ i. i ≡ root} image kinds kinds' links (λ i below. sym (alike i below)) b kind tells.1)
 tells_same image kinds kinds' links b kind Several alike tells = record {
   one = tells.one;
   other = tells.other;

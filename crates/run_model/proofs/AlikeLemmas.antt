@@ -41,7 +41,8 @@ same_pair r s first second = ap (λ q. (q, s.1)) first ∙ ap (λ a. (r.0, a)) s
 abbrev told : List (Request × Reply) → Replies
 told rs = map (λ r. Some r.1) rs
 
-one_answer : (whole : Map) (rs ss : List (Request × Reply)) → map (λ r. r.0) rs ≡ map (λ r. r.0) ss → AreReplies whole rs → AreReplies whole ss → NoneIsFull (told rs) → NoneIsFull (told ss) → ss ≡ rs
+one_answer : (whole : Map) (rs ss : List (Request × Reply)) → map (λ r. r.0) rs ≡ map (λ r. r.0) ss → AreReplies whole rs → AreReplies whole ss
+    → NoneIsFull (told rs) → NoneIsFull (told ss) → ss ≡ rs
 one_answer whole [] [] same right also some too = refl
 one_answer whole [] (s ∷ ss) same right also some too = absurd (cc)
 one_answer whole (r ∷ rs) [] same right also some too = absurd (cc)
@@ -49,19 +50,23 @@ one_answer whole (r ∷ rs) (s ∷ ss) same right also some too =
     let first : s.0 ≡ r.0 = cc in
     let later : map (λ r. r.0) rs ≡ map (λ r. r.0) ss = cc in
     let reply : s.1 ≡ r.1 = one_reply whole r.0 r.1 s.1 right.0 (subst (λ q. IsReply whole q s.1) first also.0)
-    (λ e. some (subst (λ a. Contains (told (r ∷ rs)) (Some a)) e (in_head (Some r.1) (told rs)))) (λ e. too (subst (λ a. Contains (told (s ∷ ss)) (Some a)) e (in_head (Some s.1) (told ss)))) in
+    (λ e. some (subst (λ a. Contains (told (r ∷ rs)) (Some a)) e (in_head (Some r.1) (told rs))))
+    (λ e. too (subst (λ a. Contains (told (s ∷ ss)) (Some a)) e (in_head (Some s.1) (told ss)))) in
     let both : s ≡ r = same_pair r s first reply in
-    let rest = one_answer (after_one whole r.0 r.1) rs ss later right.1 (subst (λ (x : Request × Reply). AreReplies (after_one whole x.0 x.1) ss) both also.1)
+    let rest = one_answer (after_one whole r.0 r.1) rs ss later right.1
+    (subst (λ (x : Request × Reply). AreReplies (after_one whole x.0 x.1) ss) both also.1)
     (λ h. some (in_rest (Some r.1) (Some full) (told rs) h)) (λ h. too (in_rest (Some s.1) (Some full) (told ss) h)) in
     ap (λ x. x ∷ ss) both ∙ ap (λ xs. r ∷ xs) rest
 
-module _ (image left other : Image) (requests : List Request) (a b : Replies) (one : IsAsOneThread image requests a left) (two : IsAsOneThread image requests b other) where
+module _ (image left other : Image) (requests : List Request) (a b : Replies) (one : IsAsOneThread image requests a left)
+    (two : IsAsOneThread image requests b other) where
   same_whole : two.whole ≡ one.whole
   same_whole = λ i key. one_whole image two.whole one.whole two.begins one.begins key i
 
   same_answers : answered requests b ≡ answered requests a
   same_answers = one_answer one.whole (answered requests a) (answered requests b) (sym one.requests_are ∙ two.requests_are) one.right
-      (subst (λ m. AreReplies m (answered requests b)) same_whole two.right) (subst NoneIsFull one.replies_are one.none_full) (subst NoneIsFull two.replies_are two.none_full)
+      (subst (λ m. AreReplies m (answered requests b)) same_whole two.right) (subst NoneIsFull one.replies_are one.none_full)
+      (subst NoneIsFull two.replies_are two.none_full)
 
   pub same_replies : b ≡ a
   same_replies = two.replies_are ∙ ap told same_answers ∙ sym one.replies_are

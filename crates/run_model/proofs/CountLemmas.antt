@@ -22,7 +22,8 @@ count_rises p q (x ∷ xs) more =
     let rest = count_rises p q xs (λ y h. more y (in_rest x y xs h)) in
     omega arith
 
-pub count_gains : (p q : ℕ → Bool) (xs : List ℕ) (z : ℕ) → Contains xs z → p z ≡ false → q z ≡ true → ((x : ℕ) → Contains xs x → p x ≡ true → q x ≡ true)
+pub count_gains : (p q : ℕ → Bool) (xs : List ℕ) (z : ℕ) → Contains xs z → p z ≡ false → q z ≡ true
+    → ((x : ℕ) → Contains xs x → p x ≡ true → q x ≡ true)
     → count_by p xs + 1 ≤ count_by q xs
 count_gains p q [] z h was now more = absurd (in_none z h)
 count_gains p q (x ∷ xs) z h was now more =

@@ -1,4 +1,5 @@
--- Worked examples of replies that workers may have given, and of such that they may not; of runs that are as one thread's, and of such that aren't; and of the room for a get.
+-- Worked examples of replies that workers may have given, and of such that they may not; of runs that are as one
+-- thread's, and of such that aren't; and of the room for a get.
 use Rattle.std.proofs.Common.{◌≡◌, ℕ, zero, suc, ◌+◌, ◌<◌, ◌≤◌, List, [], ◌∷◌, length, None, Some, inl, inr, refl, subst, sym, ◌∙◌, arith}
 use Rattle.std.specs.Prelude.{cond, nat_lt}
 use Rattle.std.proofs.Math.Nat.{mod-lt}

@@ -60,7 +60,8 @@ all_fit (r ∷ rs) =
     let asked = sum_by-cons span_asked r rs in
     omega arith
 
-before_fits : (before later : List (Request × Reply)) (x : Request × Reply) → sum_by span_taken before + node_span x.0 ≤ sum_by span_asked (before ++ (x ∷ later))
+before_fits : (before later : List (Request × Reply)) (x : Request × Reply)
+    → sum_by span_taken before + node_span x.0 ≤ sum_by span_asked (before ++ (x ∷ later))
 before_fits before later x =
     let few = all_fit before in
     let both = sum_by-append span_asked before (x ∷ later) in
@@ -68,7 +69,8 @@ before_fits before later x =
     omega arith
 
 -- the first of the unanswered requests takes no more than all of them
-first_fits : (requests : List Request) (replies : Replies) → sum_by span_asked (answered requests replies) + first_span (unanswered requests replies) ≤ sum_by node_span requests
+first_fits : (requests : List Request) (replies : Replies) → sum_by span_asked (answered requests replies) + first_span
+    (unanswered requests replies) ≤ sum_by node_span requests
 first_fits [] replies = let all : 0 + 0 ≤ 0 = omega arith in all
 first_fits (q ∷ qs) [] =
     let more = sum_by-cons node_span q qs in
@@ -84,33 +86,38 @@ first_fits (q ∷ qs) (Some r ∷ rs) =
     let all : sum_by span_asked ((q, r) ∷ answered qs rs) + first_span (unanswered qs rs) ≤ sum_by node_span (q ∷ qs) = omega arith in all
 
 -- so a worker's part takes no more than its requests' nodes
-span_fits : (workers worker : ℕ) (requests : List Request) (replies : Replies) → worker_span workers worker requests replies ≤ sum_by node_span (worker_requests workers worker requests)
+span_fits : (workers worker : ℕ) (requests : List Request) (replies : Replies)
+    → worker_span workers worker requests replies ≤ sum_by node_span (worker_requests workers worker requests)
 span_fits workers worker requests replies =
     let all = all_fit (worker_answered workers worker requests replies) in
     let first = first_fits (worker_requests workers worker requests) (worker_replies workers worker requests replies) in
     omega arith
 
 -- an answered request is one that its worker answered
-answered_of : (workers worker : ℕ) (requests : List Request) (replies : Replies) (x : Request × Reply) → is_of_worker workers worker x.0 ≡ true → Contains (answered requests replies) x
+answered_of : (workers worker : ℕ) (requests : List Request) (replies : Replies) (x : Request × Reply) → is_of_worker workers worker x.0 ≡ true
+    → Contains (answered requests replies) x
     → Contains (worker_answered workers worker requests replies) x
 answered_of workers worker [] replies x mine h = absurd (in_none x h)
 answered_of workers worker (q ∷ qs) [] x mine h = absurd (in_none x h)
 answered_of workers worker (q ∷ qs) (None ∷ rs) x mine h = by_case (is_of_worker workers worker q) (answered_of workers worker qs rs x mine h) where
   by_case : (b : Bool) → Contains (worker_answered workers worker qs rs) x
-      → Contains (answered (cond b (q ∷ worker_requests workers worker qs) (worker_requests workers worker qs)) (cond b (None ∷ worker_replies workers worker qs rs) (worker_replies workers worker qs rs))) x
+      → Contains (answered (cond b (q ∷ worker_requests workers worker qs) (worker_requests workers worker qs))
+      (cond b (None ∷ worker_replies workers worker qs rs) (worker_replies workers worker qs rs))) x
   by_case true later = later
   by_case false later = later
-answered_of workers worker (q ∷ qs) (Some r ∷ rs) x mine h = by_case (answered_of workers worker qs rs x mine) (is_of_worker workers worker q) refl where
-  by_case : (Contains (answered qs rs) x → Contains (worker_answered workers worker qs rs) x) → (b : Bool) → is_of_worker workers worker q ≡ b
-      → Contains (answered (cond b (q ∷ worker_requests workers worker qs) (worker_requests workers worker qs)) (cond b (Some r ∷ worker_replies workers worker qs rs) (worker_replies workers worker qs rs))) x
-  by_case behind true is = elim (head_or_rest (q, r) x (answered qs rs) h) as (λ _. Contains ((q, r) ∷ worker_answered workers worker qs rs) x) [
-    | inl same ↦ subst (Contains ((q, r) ∷ worker_answered workers worker qs rs)) same (in_head (q, r) (worker_answered workers worker qs rs))
-    | inr later ↦ in_rest (q, r) x (worker_answered workers worker qs rs) (behind later)
-  ]
-  by_case behind false is = elim (head_or_rest (q, r) x (answered qs rs) h) as (λ _. Contains (worker_answered workers worker qs rs) x) [
-    | inl same ↦ let e : true ≡ false = sym mine ∙ subst (λ (y : Request × Reply). is_of_worker workers worker y.0 ≡ false) same is in absurd (cc)
-    | inr later ↦ behind later
-  ]
+answered_of workers worker (q ∷ qs) (Some r ∷ rs) x mine h = by_case (answered_of workers worker qs rs x mine)
+    (is_of_worker workers worker q) refl where
+      by_case : (Contains (answered qs rs) x → Contains (worker_answered workers worker qs rs) x) → (b : Bool) → is_of_worker workers worker q ≡ b
+          → Contains (answered (cond b (q ∷ worker_requests workers worker qs) (worker_requests workers worker qs))
+          (cond b (Some r ∷ worker_replies workers worker qs rs) (worker_replies workers worker qs rs))) x
+      by_case behind true is = elim (head_or_rest (q, r) x (answered qs rs) h) as (λ _. Contains ((q, r) ∷ worker_answered workers worker qs rs) x) [
+        | inl same ↦ subst (Contains ((q, r) ∷ worker_answered workers worker qs rs)) same (in_head (q, r) (worker_answered workers worker qs rs))
+        | inr later ↦ in_rest (q, r) x (worker_answered workers worker qs rs) (behind later)
+      ]
+      by_case behind false is = elim (head_or_rest (q, r) x (answered qs rs) h) as (λ _. Contains (worker_answered workers worker qs rs) x) [
+        | inl same ↦ let e : true ≡ false = sym mine ∙ subst (λ (y : Request × Reply). is_of_worker workers worker y.0 ≡ false) same is in absurd (cc)
+        | inr later ↦ behind later
+      ]
 
 -- what is in a list stands between two parts of it
 pub between : {X : Type 0} (xs : List X) (x : X) → Contains xs x → (before : List X) × (later : List X) × (xs ≡ before ++ (x ∷ later))
@@ -121,7 +128,8 @@ between (y ∷ ys) x h = elim (head_or_rest y x ys h) as (λ _. (before : List _
 ]
 
 -- where the superblocks that the trace needs are left, no put is told that there is no room
-pub never_full : (image : Image) (workers : ℕ) (requests : List Request) (replies : Replies) → 1 ≤ workers → IsFullRightly image workers requests replies
+pub never_full : (image : Image) (workers : ℕ) (requests : List Request) (replies : Replies) → 1 ≤ workers
+    → IsFullRightly image workers requests replies
     → used_of image + superblocks_needed requests ≤ capacity_of image
     → (before later : List (Request × Reply)) (key : ℕ) (value : List ℕ) → answered requests replies ≡ before ++ ((put key value, full) ∷ later) → ⊥
 never_full image workers requests replies some is enough before later key value at =
@@ -129,14 +137,17 @@ never_full image workers requests replies some is enough before later key value 
     let worker = worker_of workers (shard_asked q) in
     let small : worker < workers = mod-lt (shard_asked q) some in
     let h = subst (λ xs. Contains xs (q, full)) (sym at) (Contains-append_right before ((q, full) ∷ later) (q, full) (in_head (q, full) later)) in
-    let parts = between (worker_answered workers worker requests replies) (q, full) (answered_of workers worker requests replies (q, full) (eq-eqb worker worker refl) h) in
+    let parts = between (worker_answered workers worker requests replies) (q, full)
+    (answered_of workers worker requests replies (q, full) (eq-eqb worker worker refl) h) in
     let past = is.cause worker small parts.0 parts.1 key value parts.2 in
     let asked = asked_fits (worker_requests workers worker requests) (worker_replies workers worker requests replies) in
     let first = before_fits parts.0 parts.1 (q, full) in
     let is_put : node_span q + sum_by span_taken parts.0 ≤ sum_by span_asked (parts.0 ++ ((q, full) ∷ parts.1)) = omega arith in
-    let same : sum_by span_asked (worker_answered workers worker requests replies) ≡ sum_by span_asked (parts.0 ++ ((q, full) ∷ parts.1)) = ap (sum_by span_asked) parts.2 in
+    let same : sum_by span_asked (worker_answered workers worker requests replies) ≡ sum_by span_asked (parts.0 ++ ((q, full) ∷ parts.1)) =
+    ap (sum_by span_asked) parts.2 in
     let mine : node_span q + sum_by span_taken parts.0 ≤ sum_by node_span (worker_requests workers worker requests) = omega arith in
-    let all = beside_fits workers worker (λ other. sum_by node_span (worker_requests workers other requests)) (λ other. worker_span workers other requests replies) (node_span q + sum_by span_taken parts.0) small mine
+    let all = beside_fits workers worker (λ other. sum_by node_span (worker_requests workers other requests))
+    (λ other. worker_span workers other requests replies) (node_span q + sum_by span_taken parts.0) small mine
     (λ other. span_fits workers other requests replies) in
     let whole = workers_sum workers node_span requests in
     omega arith
@@ -149,7 +160,8 @@ behind (del key) qs there = there
 behind (move key to) qs there = refl
 
 -- an answered move is one of the trace
-pub moves_in : (requests : List Request) (replies : Replies) (key to : ℕ) (a : Reply) → Contains (answered requests replies) (move key to, a) → has_move requests ≡ true
+pub moves_in : (requests : List Request) (replies : Replies) (key to : ℕ) (a : Reply) → Contains (answered requests replies) (move key to, a)
+    → has_move requests ≡ true
 moves_in [] replies key to a h = absurd (in_none (move key to, a) h)
 moves_in (q ∷ qs) [] key to a h = absurd (in_none (move key to, a) h)
 moves_in (q ∷ qs) (None ∷ rs) key to a h = behind q qs (moves_in qs rs key to a h)
@@ -159,7 +171,8 @@ moves_in (q ∷ qs) (Some r ∷ rs) key to a h = elim (head_or_rest (q, r) (move
 ]
 
 -- where the superblocks that the trace needs are left, no move is told so either
-pub never_full_moved : (image : Image) (workers : ℕ) (requests : List Request) (replies : Replies) → 1 ≤ workers → IsFullRightly image workers requests replies
+pub never_full_moved : (image : Image) (workers : ℕ) (requests : List Request) (replies : Replies) → 1 ≤ workers
+    → IsFullRightly image workers requests replies
     → used_of image + superblocks_needed requests ≤ capacity_of image
     → (before later : List (Request × Reply)) (key to : ℕ) → answered requests replies ≡ before ++ ((move key to, full) ∷ later) → ⊥
 never_full_moved image workers requests replies some is enough before later key to at =
@@ -167,11 +180,13 @@ never_full_moved image workers requests replies some is enough before later key 
     let worker = worker_of workers (shard_asked q) in
     let small : worker < workers = mod-lt (shard_asked q) some in
     let h = subst (λ xs. Contains xs (q, full)) (sym at) (Contains-append_right before ((q, full) ∷ later) (q, full) (in_head (q, full) later)) in
-    let parts = between (worker_answered workers worker requests replies) (q, full) (answered_of workers worker requests replies (q, full) (eq-eqb worker worker refl) h) in
+    let parts = between (worker_answered workers worker requests replies) (q, full)
+    (answered_of workers worker requests replies (q, full) (eq-eqb worker worker refl) h) in
     let past = is.move_cause worker small parts.0 parts.1 key to parts.2 in
     let target = worker_of workers (shard_of to) in
     let none : 0 ≤ sum_by node_span (worker_requests workers target requests) = omega arith in
-    let others = beside_fits workers target (λ other. sum_by node_span (worker_requests workers other requests)) (λ other. worker_span workers other requests replies) 0
+    let others = beside_fits workers target (λ other. sum_by node_span (worker_requests workers other requests))
+    (λ other. worker_span workers other requests replies) 0
     (mod-lt (shard_of to) some) none (λ other. span_fits workers other requests replies) in
     let whole = workers_sum workers node_span requests in
     let one : cond {A = ℕ} (has_move requests) 1 0 ≡ 1 = ap (λ b. cond {A = ℕ} b 1 0) (moves_in requests replies key to full h) in

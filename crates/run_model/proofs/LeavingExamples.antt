@@ -1,4 +1,5 @@
--- Worked examples of what a run may not tell or leave: a refusal where there is room, a stop with enough budget, a reply that isn't right, a shard without its answered requests or with another one, and other words that are to stay.
+-- Worked examples of what a run may not tell or leave: a refusal where there is room, a stop with enough budget, a
+-- reply that isn't right, a shard without its answered requests or with another one, and other words that are to stay.
 use Rattle.std.proofs.Common.{◌≡◌, ◌≢◌, ℕ, zero, suc, ◌+◌, ◌<◌, ◌≤◌, inl, inr, List, [], ◌∷◌, ◌++◌, map, take, None, Some, true, false, refl, subst, sym, ◌∙◌, arith}
 use Rattle.std.specs.Prelude.{nat_lt}
 use Rattle.std.proofs.Math.Seq.{take-nil}
@@ -92,20 +93,24 @@ answered_is_left leaves = elim (leaves.each no_keys no_keys_at_all 5 no_keys (om
   | inl as_answered ↦ not_in_bare one_put refl (nothing_came bare ((put 5 [], done) ∷ []) (leaves.arrived 0) as_answered)
   | inr more ↦
       let same : put 13 [] ≡ more.1.request = let first = more.1.first in cc in
-      let is = subst (λ q. MapOf bare 5 (after_one (after no_keys (of_shard 5 ((put 5 [], done) ∷ take (leaves.arrived 0) []))) q done)) (sym same) more.1.map_is in
+      let is = subst (λ q. MapOf bare 5 (after_one (after no_keys (of_shard 5 ((put 5 [], done) ∷ take (leaves.arrived 0) []))) q done))
+      (sym same) more.1.map_is in
       not_in_bare (after_one one_put (put 13 []) done) refl
-      (subst (λ xs. MapOf bare 5 (after_one (after no_keys (of_shard 5 ((put 5 [], done) ∷ xs))) (put 13 []) done)) (take-nil {A = Request × Reply} (leaves.arrived 0)) is)
+      (subst (λ xs. MapOf bare 5 (after_one (after no_keys (of_shard 5 ((put 5 [], done) ∷ xs))) (put 13 []) done))
+      (take-nil {A = Request × Reply} (leaves.arrived 0)) is)
 ]
 
 -- and of what was not, the worker's first request alone may have been done
 pub no_other_is_done : (left : Image) (m : Map) → MapOf left 5 m → m 13 ≡ Some [] → m 5 ≡ None
     → LeavesMaps bare 1 (put 5 [] ∷ put 13 [] ∷ []) (None ∷ None ∷ []) true left → ⊥
 no_other_is_done left m is there none leaves = elim (leaves.each no_keys no_keys_at_all 5 no_keys (omega arith) (no_keys_in 5 (omega arith))) [
-  | inl as_answered ↦ let e : Some [] ≡ None = sym there ∙ one_map_of left 5 m no_keys is (nothing_came left [] (leaves.arrived 0) as_answered) 13 in absurd (cc)
+  | inl as_answered ↦ let e : Some [] ≡ None = sym there ∙ one_map_of left 5 m no_keys is
+      (nothing_came left [] (leaves.arrived 0) as_answered) 13 in absurd (cc)
   | inr more ↦
       let same : put 5 [] ≡ more.1.request = let first = more.1.first in cc in
       let as_first = subst (λ q. MapOf left 5 (after_one (after no_keys (of_shard 5 (take (leaves.arrived 0) []))) q done)) (sym same) more.1.map_is in
-      let done_first = subst (λ xs. MapOf left 5 (after_one (after no_keys (of_shard 5 xs)) (put 5 []) done)) (take-nil {A = Request × Reply} (leaves.arrived 0)) as_first in
+      let done_first = subst (λ xs. MapOf left 5 (after_one (after no_keys (of_shard 5 xs)) (put 5 []) done))
+      (take-nil {A = Request × Reply} (leaves.arrived 0)) as_first in
       let e : Some [] ≡ None = sym there ∙ one_map_of left 5 m (after_one no_keys (put 5 []) done) is done_first 13 in absurd (cc)
 ]
 
@@ -165,7 +170,8 @@ move_not_full_with_table image some is = some (is.no_table 5 6 (in_head (move 5 
 
 pub moves_not_apart : (image : Image) → IsFullRightly image 1 (move 5 6 ∷ move 7 14 ∷ []) (Some full ∷ Some done ∷ []) → ⊥
 moves_not_apart image is =
-    is.alike 5 6 7 14 refl (in_head (move 5 6, full) ((move 7 14, done) ∷ [])) (in_rest (move 5 6, full) (move 7 14, done) ((move 7 14, done) ∷ []) (in_head (move 7 14, done) []))
+    is.alike 5 6 7 14 refl (in_head (move 5 6, full) ((move 7 14, done) ∷ []))
+    (in_rest (move 5 6, full) (move 7 14, done) ((move 7 14, done) ∷ []) (in_head (move 7 14, done) []))
 
 -- nor is a key of another shard
 not_in_one : (m : Map) (value : List ℕ) → m 9 ≡ Some value → MapOf bare 1 m → ⊥
@@ -188,7 +194,8 @@ pub all_arrive : (arrived : ℕ → ℕ) → HaveArrived bare 1 (put 5 [] ∷ mo
 all_arrive arrived is = is.all refl no_keys no_keys_at_all 0 (omega arith)
 
 -- and nothing where the worker has a request left; the other one may have brought all in
-pub none_arrives : (arrived : ℕ → ℕ) → HaveArrived bare 2 (put 5 [] ∷ move 5 2 ∷ get 6 ∷ []) (Some done ∷ Some done ∷ None ∷ []) true arrived → arrived 0 ≡ 0
+pub none_arrives : (arrived : ℕ → ℕ) → HaveArrived bare 2 (put 5 [] ∷ move 5 2 ∷ get 6 ∷ []) (Some done ∷ Some done ∷ None ∷ []) true arrived
+    → arrived 0 ≡ 0
 none_arrives arrived is = is.none 0 (omega arith) (λ e. absurd (cc))
 
 pub other_arrives : HaveArrived bare 2 (put 5 [] ∷ move 5 1 ∷ get 6 ∷ []) (Some done ∷ Some done ∷ None ∷ []) true (λ worker. worker)

@@ -72,13 +72,16 @@ one_beside whole (move k to) none key other = refl
 one_beside whole (move k to) (found v) key other = refl
 
 -- so a part goes on by a request to its shard, and stays over one to another
-part_goes_on : (shard : ℕ) (part whole : Map) (q : Request) (a : Reply) → IsPartOf shard part whole → IsPartOf shard (after_one part q a) (after_one whole q a)
+part_goes_on : (shard : ℕ) (part whole : Map) (q : Request) (a : Reply) → IsPartOf shard part whole
+    → IsPartOf shard (after_one part q a) (after_one whole q a)
 part_goes_on shard part whole q a is = record { same = λ key of. one_alike part whole q a key (is.same key of) }
 
-part_stays : (shard : ℕ) (part whole : Map) (q : Request) (a : Reply) → shard_asked q ≢ shard → IsPartOf shard part whole → IsPartOf shard part (after_one whole q a)
+part_stays : (shard : ℕ) (part whole : Map) (q : Request) (a : Reply) → shard_asked q ≢ shard → IsPartOf shard part whole
+    → IsPartOf shard part (after_one whole q a)
 part_stays shard part whole q a other is = record { same = λ key of. is.same key of ∙ sym (one_beside whole q a key (λ e. other (ap shard_of e ∙ of))) }
 
-part_after : (shard : ℕ) (part whole : Map) (rs : List (Request × Reply)) → IsPartOf shard part whole → IsPartOf shard (after part (of_shard shard rs)) (after whole rs)
+part_after : (shard : ℕ) (part whole : Map) (rs : List (Request × Reply)) → IsPartOf shard part whole
+    → IsPartOf shard (after part (of_shard shard rs)) (after whole rs)
 part_after shard part whole [] is = is
 part_after shard part whole (r ∷ rs) is = by_case (is_to shard r.0) refl
     (λ p agrees. part_after shard p (after_one whole r.0 r.1) rs agrees) where
@@ -86,7 +89,8 @@ part_after shard part whole (r ∷ rs) is = by_case (is_to shard r.0) refl
           → ((p : Map) → IsPartOf shard p (after_one whole r.0 r.1) → IsPartOf shard (after p (of_shard shard rs)) (after (after_one whole r.0 r.1) rs))
           → IsPartOf shard (after part (cond b (r ∷ of_shard shard rs) (of_shard shard rs))) (after (after_one whole r.0 r.1) rs)
       by_case true to later = later (after_one part r.0 r.1) (part_goes_on shard part whole r.0 r.1 is)
-      by_case false to later = later part (part_stays shard part whole r.0 r.1 (λ e. let no : true ≡ false = sym (eq-eqb (shard_asked r.0) shard e) ∙ to in absurd (cc)) is)
+      by_case false to later = later part (part_stays shard part whole r.0 r.1
+          (λ e. let no : true ≡ false = sym (eq-eqb (shard_asked r.0) shard e) ∙ to in absurd (cc)) is)
 
 -- the replies to each shard are right for its part
 abbrev InEachShard : Map → List (Request × Reply) → Type 0
@@ -101,7 +105,8 @@ own_first whole r rs each =
 
 others_later : (whole : Map) (r : Request × Reply) (rs : List (Request × Reply)) → InEachShard whole (r ∷ rs) → InEachShard (after_one whole r.0 r.1) rs
 others_later whole r rs each shard below = let own = each shard below in by_case own.0 own.1 (is_to shard r.0) refl own.2 where
-  by_case : (part : Map) → IsPartOf shard part whole → (b : Bool) → is_to shard r.0 ≡ b → AreReplies part (cond b (r ∷ of_shard shard rs) (of_shard shard rs))
+  by_case : (part : Map) → IsPartOf shard part whole → (b : Bool) → is_to shard r.0 ≡ b
+      → AreReplies part (cond b (r ∷ of_shard shard rs) (of_shard shard rs))
       → (part : Map) × IsPartOf shard part (after_one whole r.0 r.1) × AreReplies part (of_shard shard rs)
   by_case part is true to right = (after_one part r.0 r.1, part_goes_on shard part whole r.0 r.1 is, right.1)
   by_case part is false to right =
@@ -133,7 +138,8 @@ part_of image whole is shard part map_is = record {
 }
 
 -- after some requests each key has in the whole map what it has in that of its shard
-pub whole_after : (image : Image) (whole : Map) → IsWholeMap image whole → (shard : ℕ) (part : Map) → MapOf image shard part → (rs : List (Request × Reply)) (key : ℕ) → shard_of key ≡ shard
+pub whole_after : (image : Image) (whole : Map) → IsWholeMap image whole → (shard : ℕ) (part : Map) → MapOf image shard part
+    → (rs : List (Request × Reply)) (key : ℕ) → shard_of key ≡ shard
     → after part (of_shard shard rs) key ≡ after whole rs key
 whole_after image whole is shard part map_is rs key of = (part_after shard part whole rs (part_of image whole is shard part map_is)).same key of
 
@@ -149,7 +155,8 @@ arrived_of workers shard [] (x ∷ xs) =
           → of_shard shard (cond of (x ∷ rest) rest) ≡ cond to (x ∷ of_shard shard xs) (of_shard shard xs)
       by_case rest same true is true mine = ap (λ b. cond b (x ∷ of_shard shard rest) (of_shard shard rest)) is ∙ ap (λ ys. x ∷ ys) same
       by_case rest same true is false other =
-          let e : true ≡ false = sym (eq-eqb (worker_of workers (shard_asked x.0)) (worker_of workers shard) (ap (worker_of workers) (eqb-true (shard_asked x.0) shard is))) ∙ other in
+          let e : true ≡ false = sym (eq-eqb (worker_of workers (shard_asked x.0)) (worker_of workers shard)
+          (ap (worker_of workers) (eqb-true (shard_asked x.0) shard is))) ∙ other in
           absurd (cc)
       by_case rest same false is true mine = ap (λ b. cond b (x ∷ of_shard shard rest) (of_shard shard rest)) is ∙ same
       by_case rest same false is false other = same
@@ -193,8 +200,10 @@ all_answered (q ∷ qs) (Some a ∷ told) long none_left =
     let rest = all_answered qs told (omega (arith, long)) none_left in
     (ap (λ xs. q ∷ xs) rest.0, ap (λ xs. Some a ∷ xs) rest.1)
 
-pub as_one_thread : (image left : Image) (workers budget : ℕ) (requests : List Request) (replies : Replies) → HasMaps image → AnswerInOrder workers requests replies
-    → StopsRightly image workers requests budget replies false → RepliesRightly image requests replies → LeavesMaps image workers requests replies false left
+pub as_one_thread : (image left : Image) (workers budget : ℕ) (requests : List Request) (replies : Replies) → HasMaps image
+    → AnswerInOrder workers requests replies
+    → StopsRightly image workers requests budget replies false → RepliesRightly image requests replies
+    → LeavesMaps image workers requests replies false left
     → NoneIsFull replies → IsAsOneThread image requests replies left
 as_one_thread image left workers budget requests replies have answers stops right leaves none_full =
     let of = whole_map image have in
@@ -234,13 +243,16 @@ told_to (q ∷ qs) (None ∷ bs) a long h = elim (head_or_rest None (Some a) bs 
   | inl same ↦ absurd (cc)
   | inr later ↦ told_to qs bs a (omega (arith, long)) later
 ]
-told_to (q ∷ qs) (Some b ∷ bs) a long h = elim (head_or_rest (Some b) (Some a) bs h) as (λ _. (p : Request) × Contains ((q, b) ∷ answered qs bs) (p, a)) [
-  | inl same ↦ let one : b ≡ a = cc in (q, subst (λ x. Contains ((q, b) ∷ answered qs bs) (q, x)) one (in_head (q, b) (answered qs bs)))
-  | inr later ↦ let rest = told_to qs bs a (omega (arith, long)) later in (rest.0, in_rest (q, b) (rest.0, a) (answered qs bs) rest.1)
-]
+told_to (q ∷ qs) (Some b ∷ bs) a long h = elim (head_or_rest (Some b) (Some a) bs h) as (λ _. (p : Request)
+    × Contains ((q, b) ∷ answered qs bs) (p, a)) [
+      | inl same ↦ let one : b ≡ a = cc in (q, subst (λ x. Contains ((q, b) ∷ answered qs bs) (q, x)) one (in_head (q, b) (answered qs bs)))
+      | inr later ↦ let rest = told_to qs bs a (omega (arith, long)) later in (rest.0, in_rest (q, b) (rest.0, a) (answered qs bs) rest.1)
+    ]
 
-pub room_for_all : (image : Image) (workers : ℕ) (requests : List Request) (replies : Replies) → 1 ≤ workers → HasMaps image → AnswerInOrder workers requests replies
-    → RepliesRightly image requests replies → IsFullRightly image workers requests replies → used_of image + superblocks_needed requests ≤ capacity_of image → NoneIsFull replies
+pub room_for_all : (image : Image) (workers : ℕ) (requests : List Request) (replies : Replies) → 1 ≤ workers → HasMaps image
+    → AnswerInOrder workers requests replies
+    → RepliesRightly image requests replies → IsFullRightly image workers requests replies
+    → used_of image + superblocks_needed requests ≤ capacity_of image → NoneIsFull replies
 room_for_all image workers requests replies some have answers right full_right enough h =
     let of = whole_map image have in
     let told = told_to requests replies full answers.long h in
@@ -249,6 +261,8 @@ room_for_all image workers requests replies some have answers right full_right e
     let at : (q : Request) → told.0 ≡ q → answered requests replies ≡ parts.0 ++ ((q, full) ∷ parts.1) =
     λ q e. parts.2 ∙ ap (λ x. parts.0 ++ ((x, full) ∷ parts.1)) e in
     elim to [
-      | inl of_put ↦ never_full image workers requests replies some full_right enough parts.0 parts.1 of_put.0 of_put.1 (at (put of_put.0 of_put.1) of_put.2)
-      | inr of_move ↦ never_full_moved image workers requests replies some full_right enough parts.0 parts.1 of_move.0 of_move.1 (at (move of_move.0 of_move.1) of_move.2)
+      | inl of_put ↦ never_full image workers requests replies some full_right enough parts.0 parts.1 of_put.0 of_put.1
+          (at (put of_put.0 of_put.1) of_put.2)
+      | inr of_move ↦ never_full_moved image workers requests replies some full_right enough parts.0 parts.1 of_move.0 of_move.1
+          (at (move of_move.0 of_move.1) of_move.2)
     ]

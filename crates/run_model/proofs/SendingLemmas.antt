@@ -24,7 +24,8 @@ one_arrives whole number (move key to) full = refl
 one_arrives whole number (move key to) none = refl
 one_arrives whole number (move key to) (found v) = refl
 
-pub all_arrive : (whole : Map) (number : ℕ) (qs : List Request) (told : Replies) → puts_of (all_sent whole (numbered number qs) told) ≡ arrivals whole (answered qs told)
+pub all_arrive : (whole : Map) (number : ℕ) (qs : List Request) (told : Replies)
+    → puts_of (all_sent whole (numbered number qs) told) ≡ arrivals whole (answered qs told)
 all_arrive whole number [] told = refl
 all_arrive whole number (q ∷ qs) [] = refl
 all_arrive whole number (q ∷ qs) (None ∷ told) = all_arrive whole (number + 1) qs told
@@ -46,7 +47,8 @@ puts_there workers worker (x ∷ xs) =
       by_case true some puts same = ap (λ ys. put_of x ∷ ys) same
       by_case false some puts same = same
 
-pub all_come : (workers worker : ℕ) (whole : Map) (qs : List Request) (told : Replies) → puts_of (coming workers worker whole qs told) ≡ worker_arrivals workers worker whole (answered qs told)
+pub all_come : (workers worker : ℕ) (whole : Map) (qs : List Request) (told : Replies)
+    → puts_of (coming workers worker whole qs told) ≡ worker_arrivals workers worker whole (answered qs told)
 all_come workers worker whole qs told =
     puts_there workers worker (all_sent whole (numbered 0 qs) told) ∙ ap (filter (λ r. is_of_worker workers worker r.0)) (all_arrive whole 0 qs told)
 
@@ -71,7 +73,8 @@ way_rises : (o : Option (List ℕ)) (number to : ℕ) (later : List Sent) → Ri
 way_rises None number to later rise = rise_lower number (number + 1) later (omega arith) rise
 way_rises (Some value) number to later rise = (omega arith, rise)
 
-one_rises : (whole : Map) (number : ℕ) (q : Request) (a : Reply) (later : List Sent) → Rise (number + 1) later → Rise number (sends whole number q a ++ later)
+one_rises : (whole : Map) (number : ℕ) (q : Request) (a : Reply) (later : List Sent) → Rise (number + 1) later
+    → Rise number (sends whole number q a ++ later)
 one_rises whole number (put key value) a later rise = rise_lower number (number + 1) later (omega arith) rise
 one_rises whole number (get key) a later rise = rise_lower number (number + 1) later (omega arith) rise
 one_rises whole number (del key) a later rise = rise_lower number (number + 1) later (omega arith) rise
@@ -92,13 +95,15 @@ all_rise whole number (q ∷ qs) (Some a ∷ told) =
 abbrev numbers_of : List Sent → List ℕ
 numbers_of xs = map (λ s. s.number) xs
 
-next_above : (low : ℕ) (xs : List Sent) (k : ℕ) → Rise low xs → suc k < length (numbers_of xs) → get_or (numbers_of xs) k 0 < get_or (numbers_of xs) (suc k) 0
+next_above : (low : ℕ) (xs : List Sent) (k : ℕ) → Rise low xs → suc k < length (numbers_of xs)
+    → get_or (numbers_of xs) k 0 < get_or (numbers_of xs) (suc k) 0
 next_above low [] k rise below = absurd (omega (arith, below))
 next_above low (x ∷ []) k rise below = absurd (omega (arith, below))
 next_above low (x ∷ y ∷ xs) zero rise below = let above = rise.1.0 in omega (arith, above)
 next_above low (x ∷ y ∷ xs) (suc k) rise below = next_above (x.number + 1) (y ∷ xs) k rise.1 (omega (arith, below))
 
-pub in_order : (workers worker : ℕ) (whole : Map) (qs : List Request) (told : Replies) → IsStrictlyIncreasing (numbers_of (coming workers worker whole qs told))
+pub in_order : (workers worker : ℕ) (whole : Map) (qs : List Request) (told : Replies)
+    → IsStrictlyIncreasing (numbers_of (coming workers worker whole qs told))
 in_order workers worker whole qs told k below =
     let all = all_sent whole (numbered 0 qs) told in
     let rise = rise_filter (λ s. nat_eq (worker_of workers (shard_of s.key)) worker) 0 all (all_rise whole 0 qs told) in

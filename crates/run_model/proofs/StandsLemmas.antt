@@ -66,10 +66,12 @@ module _ (image : Image) (v : View) (kinds : StoresKinds v image) (has : HasOthe
 
   -- a seat with the same roots that keeps their blocks and words has them
   others_kept : (w : View) → w.roots ≡ v.roots → ((root : ℕ) → IsOwnOther v root → KeepsWord v w (root_word root))
-      → ((b : Block) (kind : ℕ) → ReachFrom image (IsOwnOther v) (kinds_of image) dict_links b kind → Contains w.held b × ((word : ℕ) → IsIn b word → KeepsWord v w word))
+      → ((b : Block) (kind : ℕ) → ReachFrom image (IsOwnOther v) (kinds_of image) dict_links b kind → Contains w.held b
+      × ((word : ℕ) → IsIn b word → KeepsWord v w word))
       → HasOthers image w
   others_kept w same root_words blocks = record {
-    root_words = λ root own. settled_stays v w (root_word root) (image (root_word root)) (root_words root (before root own)) (has.root_words root (before root own));
+    root_words = λ root own. settled_stays v w (root_word root) (image (root_word root)) (root_words root (before root own))
+        (has.root_words root (before root own));
     blocks = λ b kind reach. (blocks b kind (reach_before b kind reach)).0;
     words = λ b kind word reach inside.
         let was = reach_before b kind reach in
@@ -78,20 +80,22 @@ module _ (image : Image) (v : View) (kinds : StoresKinds v image) (has : HasOthe
     before : (root : ℕ) → IsOwnOther w root → IsOwnOther v root
     before root own = (own.0, subst (λ (ns : List ℕ). Contains ns root) same own.1)
 
-    reach_before : (b : Block) (kind : ℕ) → ReachFrom image (IsOwnOther w) (kinds_of image) dict_links b kind → ReachFrom image (IsOwnOther v) (kinds_of image) dict_links b kind
+    reach_before : (b : Block) (kind : ℕ) → ReachFrom image (IsOwnOther w) (kinds_of image) dict_links b kind
+        → ReachFrom image (IsOwnOther v) (kinds_of image) dict_links b kind
     reach_before = more_roots {chosen = IsOwnOther w} {chosen' = IsOwnOther v} image (kinds_of image) dict_links before
 
   -- a request to a shard leaves them
   pub others_stay : (w : View) (shard : ℕ) → shard < shards → ReachesOnlyHeld v → KeepsOtherShards shard v w → HasOthers image w
-  others_stay w shard small only keeps = others_kept w keeps.roots (λ root own. keeps.root_words root own.1 (differs root own.0)) (λ b kind reach. keeps.blocks b (has.blocks b kind reach) (unreached b kind reach)) where
-    differs : (root : ℕ) → IsOtherRoot root → root ≢ shard
-    differs root other e = omega arith
+  others_stay w shard small only keeps = others_kept w keeps.roots (λ root own. keeps.root_words root own.1 (differs root own.0))
+      (λ b kind reach. keeps.blocks b (has.blocks b kind reach) (unreached b kind reach)) where
+        differs : (root : ℕ) → IsOtherRoot root → root ≢ shard
+        differs root other e = omega arith
 
-    unreached : (b : Block) (kind : ℕ) → ReachFrom image (IsOwnOther v) (kinds_of image) dict_links b kind → (other : ℕ) → MayReach v shard b other → ⊥
-    unreached b kind reach other reached =
-        let both = others_both b kind reach in
-        let chosen = both.1.is_chosen in
-        only.alone shard both.1.root b other kind small (λ e. omega arith) reached both.1.reached
+        unreached : (b : Block) (kind : ℕ) → ReachFrom image (IsOwnOther v) (kinds_of image) dict_links b kind → (other : ℕ) → MayReach v shard b other → ⊥
+        unreached b kind reach other reached =
+            let both = others_both b kind reach in
+            let chosen = both.1.is_chosen in
+            only.alone shard both.1.root b other kind small (λ e. omega arith) reached both.1.reached
 
   -- and so does what stores to no own word
   pub others_still : (w : View) → KeepsOwn v w → HasOthers image w
@@ -100,7 +104,8 @@ module _ (image : Image) (v : View) (kinds : StoresKinds v image) (has : HasOthe
       let h = has.blocks b kind reach in
       (subst (λ (bs : List Block). Contains bs b) (sym keeps.held) h, λ word inside. keeps.words word (in_block b word h inside)))
 
-  -- each image that may be left reaches from other roots what the image reaches from those of the seat: the blocks are named there, and the words that lead to them are the same
+  -- each image that may be left reaches from other roots what the image reaches from those of the seat: the blocks are
+  -- named there, and the words that lead to them are the same
   module _ (left : Image) (mixes : MixesOwn v left) (named : NamesAll left v.held) (stored : StoresKinds v left) where
     leads_left : (word : ℕ) (b : Block) → left word ≡ image word → Contains v.held b → Leads image (image word) b → Leads left (left word) b
     leads_left word b same held leads = record {
@@ -108,7 +113,8 @@ module _ (image : Image) (v : View) (kinds : StoresKinds v image) (has : HasOthe
       names = named b held;
     }
 
-    pub reached_left : (b : Block) (kind : ℕ) → ReachFrom image (IsOwnOther v) (kinds_of image) dict_links b kind → ReachFrom left IsOtherRoot (kinds_of left) dict_links b kind
+    pub reached_left : (b : Block) (kind : ℕ) → ReachFrom image (IsOwnOther v) (kinds_of image) dict_links b kind
+        → ReachFrom left IsOtherRoot (kinds_of left) dict_links b kind
     reached_left = closure_included
         (λ b kind start.
         let at = root_word start.root in
@@ -133,20 +139,30 @@ module _ (image : Image) (v : View) (kinds : StoresKinds v image) (has : HasOthe
 
   -- where the seat has all roots, each image that may be left has them
   module _ (all : HasAllRoots v) (left : Image) (mixes : MixesOwn v left) where
-    own_other : (b : Block) (kind : ℕ) → ReachFrom image IsOtherRoot (kinds_of image) dict_links b kind → ReachFrom image (IsOwnOther v) (kinds_of image) dict_links b kind
+    own_other : (b : Block) (kind : ℕ) → ReachFrom image IsOtherRoot (kinds_of image) dict_links b kind
+        → ReachFrom image (IsOwnOther v) (kinds_of image) dict_links b kind
     own_other = closure_included
-        (λ b kind start. record { root = start.root; below = start.below; is_chosen = (start.is_chosen, all.each start.root start.below); kind_is = start.kind_is; leads = start.leads })
+        (λ b kind start. record {
+          root = start.root;
+          below = start.below;
+          is_chosen = (start.is_chosen, all.each start.root start.below);
+          kind_is = start.kind_is;
+          leads = start.leads;
+        })
         (λ a b from kind reached link. link)
 
     pub root_in_left : (root : ℕ) → IsOtherRoot root → root < roots → left (root_word root) ≡ image (root_word root)
     root_in_left root other below =
-        settled_in v left mixes (root_word root) (image (root_word root)) (in_root root (root_word root) (all.each root below) refl) (has.root_words root (other, all.each root below))
+        settled_in v left mixes (root_word root) (image (root_word root)) (in_root root (root_word root) (all.each root below) refl)
+        (has.root_words root (other, all.each root below))
 
-    pub block_in_left : (b : Block) (kind word : ℕ) → ReachFrom image IsOtherRoot (kinds_of image) dict_links b kind → IsIn b word → left word ≡ image word
+    pub block_in_left : (b : Block) (kind word : ℕ) → ReachFrom image IsOtherRoot (kinds_of image) dict_links b kind → IsIn b word
+        → left word ≡ image word
     block_in_left b kind word reach inside =
         let own = own_other b kind reach in
         settled_in v left mixes word (image word) (in_block b word (has.blocks b kind own) inside) (has.words b kind word own inside)
 
-    pub reach_in_left : NamesAll left v.held → StoresKinds v left → (b : Block) (kind : ℕ) → ReachFrom image IsOtherRoot (kinds_of image) dict_links b kind
+    pub reach_in_left : NamesAll left v.held → StoresKinds v left → (b : Block) (kind : ℕ)
+        → ReachFrom image IsOtherRoot (kinds_of image) dict_links b kind
         → ReachFrom left IsOtherRoot (kinds_of left) dict_links b kind
     reach_in_left named stored b kind reach = reached_left left mixes named stored b kind (own_other b kind reach)

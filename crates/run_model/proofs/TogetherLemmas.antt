@@ -49,17 +49,21 @@ front_of_other owner xs f i other = ap (λ b. cond b xs [] ++ f i) (ne_eqb owner
 front_of_one : (owner : ℕ) (xs : List Sent) (f : ℕ → List Sent) (from count : ℕ) → from ≤ owner → owner < from + count
     → IsPermutation (all_of (with_front owner xs f) from count) (xs ++ all_of f from count)
 front_of_one owner xs f from zero low high = absurd (omega arith)
-front_of_one owner xs f from (suc count) low high = elim (cases_eq owner from) as (λ _. IsPermutation (all_of (with_front owner xs f) from (suc count)) (xs ++ all_of f from (suc count))) [
-  | inl same ↦
-      from_equal (ap (λ ys. ys ++ all_of (with_front owner xs f) (from + 1) count) (ap (λ b. cond b xs [] ++ f from) (eq-eqb owner from same))
-      ∙ ap (λ ys. (xs ++ f from) ++ ys) (all_same (with_front owner xs f) f (from + 1) count (λ i above below. front_of_other owner xs f i (λ e. omega arith)))
-      ∙ append_assoc xs (f from) (all_of f (from + 1) count)) (IsPermutation-refl (xs ++ all_of f from (suc count)))
-  | inr other ↦
-      from_equal (ap (λ ys. ys ++ all_of (with_front owner xs f) (from + 1) count) (front_of_other owner xs f from other))
-      (IsPermutation-trans (f from ++ all_of (with_front owner xs f) (from + 1) count) (f from ++ (xs ++ all_of f (from + 1) count)) (xs ++ (f from ++ all_of f (from + 1) count))
-      (IsPermutation-append_right (f from) (all_of (with_front owner xs f) (from + 1) count) (xs ++ all_of f (from + 1) count) (front_of_one owner xs f (from + 1) count (omega arith) (omega arith)))
-      (change_places (f from) xs (all_of f (from + 1) count)))
-]
+front_of_one owner xs f from (suc count) low high = elim (cases_eq owner from) as
+    (λ _. IsPermutation (all_of (with_front owner xs f) from (suc count)) (xs ++ all_of f from (suc count))) [
+      | inl same ↦
+          from_equal (ap (λ ys. ys ++ all_of (with_front owner xs f) (from + 1) count) (ap (λ b. cond b xs [] ++ f from) (eq-eqb owner from same))
+          ∙ ap (λ ys. (xs ++ f from) ++ ys) (all_same (with_front owner xs f) f (from + 1) count
+          (λ i above below. front_of_other owner xs f i (λ e. omega arith)))
+          ∙ append_assoc xs (f from) (all_of f (from + 1) count)) (IsPermutation-refl (xs ++ all_of f from (suc count)))
+      | inr other ↦
+          from_equal (ap (λ ys. ys ++ all_of (with_front owner xs f) (from + 1) count) (front_of_other owner xs f from other))
+          (IsPermutation-trans (f from ++ all_of (with_front owner xs f) (from + 1) count) (f from ++ (xs ++ all_of f (from + 1) count))
+          (xs ++ (f from ++ all_of f (from + 1) count))
+          (IsPermutation-append_right (f from) (all_of (with_front owner xs f) (from + 1) count) (xs ++ all_of f (from + 1) count)
+          (front_of_one owner xs f (from + 1) count (omega arith) (omega arith)))
+          (change_places (f from) xs (all_of f (from + 1) count)))
+    ]
 
 -- what a worker sends, by the map of the whole trace
 abbrev sent_by : ℕ → ℕ → Map → ℕ → List Request → Replies → List Sent
@@ -71,7 +75,8 @@ sent_by workers worker whole number (q ∷ qs) (Some a ∷ replies) =
 
 -- all of them together, of what passes a test
 together : (p : Sent → Bool) (workers : ℕ) (whole : Map) (number : ℕ) (qs : List Request) (replies : Replies) → 1 ≤ workers
-    → IsPermutation (all_of (λ worker. filter p (sent_by workers worker whole number qs replies)) 0 workers) (filter p (all_sent whole (numbered number qs) replies))
+    → IsPermutation (all_of (λ worker. filter p (sent_by workers worker whole number qs replies)) 0 workers)
+    (filter p (all_sent whole (numbered number qs) replies))
 together p workers whole number [] replies some = from_equal (all_none 0 workers) (IsPermutation-refl [])
 together p workers whole number (q ∷ qs) [] some = from_equal (all_none 0 workers) (IsPermutation-refl [])
 together p workers whole number (q ∷ qs) (None ∷ replies) some = together p workers whole (number + 1) qs replies some
@@ -79,12 +84,16 @@ together p workers whole number (q ∷ qs) (Some a ∷ replies) some =
     let owner = worker_of workers (shard_asked q) in
     let first = sends whole number q a in
     let later = all_sent (after_one whole q a) (numbered (number + 1) qs) replies in
-    from_equal (all_same (λ worker. filter p (sent_by workers worker whole number (q ∷ qs) (Some a ∷ replies))) (with_front owner (filter p first) own) 0 workers
-    (λ worker low high. filter-append p (cond (is_of_worker workers worker q) first []) (sent_by workers worker (after_one whole q a) (number + 1) qs replies)
+    from_equal (all_same (λ worker. filter p (sent_by workers worker whole number (q ∷ qs) (Some a ∷ replies)))
+    (with_front owner (filter p first) own) 0 workers
+    (λ worker low high. filter-append p (cond (is_of_worker workers worker q) first [])
+    (sent_by workers worker (after_one whole q a) (number + 1) qs replies)
     ∙ ap (λ xs. xs ++ own worker) (passes first (is_of_worker workers worker q))))
     (IsPermutation-trans (all_of (with_front owner (filter p first) own) 0 workers) (filter p first ++ all_of own 0 workers) (filter p (first ++ later))
-    (front_of_one owner (filter p first) own 0 workers (omega arith) (let small : owner < workers = mod-lt (shard_asked q) some in omega (arith, small)))
-    (to_equal (IsPermutation-append_right (filter p first) (all_of own 0 workers) (filter p later) (together p workers (after_one whole q a) (number + 1) qs replies some))
+    (front_of_one owner (filter p first) own 0 workers (omega arith) (let small : owner < workers = mod-lt (shard_asked q) some in
+    omega (arith, small)))
+    (to_equal (IsPermutation-append_right (filter p first) (all_of own 0 workers) (filter p later)
+    (together p workers (after_one whole q a) (number + 1) qs replies some))
     (sym (filter-append p first later)))) where
       own : ℕ → List Sent
       own worker = filter p (sent_by workers worker (after_one whole q a) (number + 1) qs replies)
@@ -98,7 +107,8 @@ record IsFor (workers worker : ℕ) (part whole : Map) : Type 0 where
   same : (key : ℕ) → worker_of workers (shard_of key) ≡ worker → part key ≡ whole key
 
 -- where the key asked has the same, the same is sent
-sends_alike : (part whole : Map) (number : ℕ) (q : Request) (a : Reply) → part (key_of q) ≡ whole (key_of q) → sends part number q a ≡ sends whole number q a
+sends_alike : (part whole : Map) (number : ℕ) (q : Request) (a : Reply) → part (key_of q) ≡ whole (key_of q)
+    → sends part number q a ≡ sends whole number q a
 sends_alike part whole number (put key value) a same = refl
 sends_alike part whole number (get key) a same = refl
 sends_alike part whole number (del key) a same = refl
@@ -113,7 +123,8 @@ none_told part (n ∷ ns) = refl
 
 -- so a worker sends the same by its own requests alone
 sent_alone : (workers worker number : ℕ) (part whole : Map) (qs : List Request) (replies : Replies) → IsFor workers worker part whole
-    → all_sent part (filter (λ n. is_of_worker workers worker n.1) (numbered number qs)) (worker_replies workers worker qs replies) ≡ sent_by workers worker whole number qs replies
+    → all_sent part (filter (λ n. is_of_worker workers worker n.1) (numbered number qs))
+    (worker_replies workers worker qs replies) ≡ sent_by workers worker whole number qs replies
 sent_alone workers worker number part whole [] replies is = refl
 sent_alone workers worker number part whole (q ∷ qs) [] is = none_told part (filter (λ n. is_of_worker workers worker n.1) (numbered number (q ∷ qs)))
 sent_alone workers worker number part whole (q ∷ qs) (None ∷ replies) is =
@@ -139,12 +150,18 @@ sent_alone workers worker number part whole (q ∷ qs) (Some a ∷ replies) is =
       sent_later : List Sent
       sent_later = sent_by workers worker (after_one whole q a) (number + 1) qs replies
 
-      by_case : (b : Bool) → is_of_worker workers worker q ≡ b → ((p : Map) → IsFor workers worker p (after_one whole q a) → all_sent p ns rest ≡ sent_later)
+      by_case : (b : Bool) → is_of_worker workers worker q ≡ b → ((p : Map) → IsFor workers worker p (after_one whole q a)
+          → all_sent p ns rest ≡ sent_later)
           → all_sent part (cond b ((number, q) ∷ ns) ns) (cond b (Some a ∷ rest) rest) ≡ cond b (sends whole number q a) [] ++ sent_later
       by_case true own later =
-          ap (λ xs. xs ++ all_sent (after_one part q a) ns rest) (sends_alike part whole number q a (is.same (key_of q) (eqb-true (worker_of workers (shard_asked q)) worker own)))
-          ∙ ap (λ xs. sends whole number q a ++ xs) (later (after_one part q a) (record { same = λ key of. one_alike part whole q a key (is.same key of) }))
-      by_case false other later = later part (record { same = λ key of. is.same key of ∙ sym (one_beside whole q a key (λ e. not_own (ap (λ k. worker_of workers (shard_of k)) e ∙ of))) }) where
+          ap (λ xs. xs ++ all_sent (after_one part q a) ns rest) (sends_alike part whole number q a
+          (is.same (key_of q) (eqb-true (worker_of workers (shard_asked q)) worker own)))
+          ∙ ap (λ xs. sends whole number q a ++ xs) (later (after_one part q a)
+          (record { same = λ key of. one_alike part whole q a key (is.same key of) }))
+      by_case false other later = later part (record {
+        same = λ key of. is.same key of
+            ∙ sym (one_beside whole q a key (λ e. not_own (ap (λ k. worker_of workers (shard_of k)) e ∙ of)));
+      }) where
         not_own : worker_of workers (shard_asked q) ≢ worker
         not_own e = let no : true ≡ false = sym (eq-eqb (worker_of workers (shard_asked q)) worker e) ∙ other in absurd (cc)
 
@@ -154,7 +171,8 @@ blanks_send_none part ns zero = none_told part ns
 blanks_send_none part [] (suc count) = refl
 blanks_send_none part (n ∷ ns) (suc count) = blanks_send_none part ns count
 
-before_blanks : (part : Map) (ns : List (ℕ × Request)) (told : Replies) (count : ℕ) → all_sent part ns (told ++ replicate count None) ≡ all_sent part ns told
+before_blanks : (part : Map) (ns : List (ℕ × Request)) (told : Replies) (count : ℕ)
+    → all_sent part ns (told ++ replicate count None) ≡ all_sent part ns told
 before_blanks part ns [] count = blanks_send_none part ns count ∙ sym (none_told part ns)
 before_blanks part [] (a ∷ told) count = refl
 before_blanks part (n ∷ ns) (None ∷ told) count = before_blanks part ns told count
@@ -163,16 +181,20 @@ before_blanks part (n ∷ ns) (Some a ∷ told) count = ap (λ xs. sends part n.
 module _ (workers : ℕ) (whole : Map) (requests : List Request) (replies : Replies) (told : ℕ → Replies) (some : 1 ≤ workers)
     (each : (worker : ℕ) → worker < workers → worker_replies workers worker requests replies
     ≡ told worker ++ replicate (length (worker_requests workers worker requests) - length (told worker)) None) where
-  told_alone : (worker : ℕ) → worker < workers → all_sent whole (worker_numbered workers worker requests) (told worker) ≡ sent_by workers worker whole 0 requests replies
+  told_alone : (worker : ℕ) → worker < workers → all_sent whole (worker_numbered workers worker requests)
+      (told worker) ≡ sent_by workers worker whole 0 requests replies
   told_alone worker below =
-      sym (before_blanks whole (worker_numbered workers worker requests) (told worker) (length (worker_requests workers worker requests) - length (told worker)))
+      sym (before_blanks whole (worker_numbered workers worker requests) (told worker)
+      (length (worker_requests workers worker requests) - length (told worker)))
       ∙ ap (all_sent whole (worker_numbered workers worker requests)) (sym (each worker below))
       ∙ sent_alone workers worker 0 whole whole requests replies (record { same = λ key of. refl })
 
-  pub filtered_together : (p : Sent → Bool) → IsPermutation (flat_map (λ worker. filter p (all_sent whole (worker_numbered workers worker requests) (told worker))) (worker_numbers workers))
+  pub filtered_together : (p : Sent → Bool) → IsPermutation (flat_map
+      (λ worker. filter p (all_sent whole (worker_numbered workers worker requests) (told worker))) (worker_numbers workers))
       (filter p (all_sent whole (numbered 0 requests) replies))
   filtered_together p = from_equal
-      (all_same (λ worker. filter p (all_sent whole (worker_numbered workers worker requests) (told worker))) (λ worker. filter p (sent_by workers worker whole 0 requests replies)) 0 workers
+      (all_same (λ worker. filter p (all_sent whole (worker_numbered workers worker requests) (told worker)))
+      (λ worker. filter p (sent_by workers worker whole 0 requests replies)) 0 workers
       (λ worker low high. ap (filter p) (told_alone worker (omega (arith, high)))))
       (together p workers whole 0 requests replies some)
 
@@ -180,9 +202,11 @@ module _ (workers : ℕ) (whole : Map) (requests : List Request) (replies : Repl
   all_pass [] = refl
   all_pass (x ∷ xs) = ap (λ ys. x ∷ ys) (all_pass xs)
 
-  pub all_together : IsPermutation (flat_map (λ worker. all_sent whole (worker_numbered workers worker requests) (told worker)) (worker_numbers workers))
+  pub all_together : IsPermutation (flat_map (λ worker. all_sent whole (worker_numbered workers worker requests) (told worker))
+      (worker_numbers workers))
       (all_sent whole (numbered 0 requests) replies)
   all_together = from_equal
-      (all_same (λ worker. all_sent whole (worker_numbered workers worker requests) (told worker)) (λ worker. filter (λ s. true) (all_sent whole (worker_numbered workers worker requests) (told worker))) 0 workers
+      (all_same (λ worker. all_sent whole (worker_numbered workers worker requests) (told worker))
+      (λ worker. filter (λ s. true) (all_sent whole (worker_numbered workers worker requests) (told worker))) 0 workers
       (λ worker low high. sym (all_pass (all_sent whole (worker_numbered workers worker requests) (told worker)))))
       (to_equal (filtered_together (λ s. true)) (all_pass (all_sent whole (numbered 0 requests) replies)))

@@ -12,7 +12,8 @@ use Rattle.run_model.specs.Needs.{is_to, put_into, is_brought_to, brings, has_mo
 use Rattle.run_model.specs.Runs.{answered}
 use Rattle.run_model.specs.Workers.{Replies, is_of_worker}
 
-pub nothing_arrives : (map : Map) (requests : List Request) (replies : Replies) → has_move requests ≡ false → arrivals map (answered requests replies) ≡ []
+pub nothing_arrives : (map : Map) (requests : List Request) (replies : Replies) → has_move requests ≡ false
+    → arrivals map (answered requests replies) ≡ []
 nothing_arrives map [] replies unmoved = refl
 nothing_arrives map (q ∷ qs) [] unmoved = refl
 nothing_arrives map (put key value ∷ qs) (None ∷ rs) unmoved = nothing_arrives map qs rs unmoved
@@ -27,7 +28,8 @@ nothing_arrives map (move key to ∷ qs) (Some r ∷ rs) unmoved = absurd (cc)
 -- so at no worker
 pub none_comes : (workers worker : ℕ) (map : Map) (requests : List Request) (replies : Replies) → has_move requests ≡ false
     → worker_arrivals workers worker map (answered requests replies) ≡ []
-none_comes workers worker map requests replies unmoved = ap (filter (λ r. is_of_worker workers worker r.0)) (nothing_arrives map requests replies unmoved)
+none_comes workers worker map requests replies unmoved = ap (filter (λ r. is_of_worker workers worker r.0))
+    (nothing_arrives map requests replies unmoved)
 
 -- a part of the trace has none
 pub none_of_part : (test : Request → Bool) (requests : List Request) → has_move requests ≡ false → has_move (filter test requests) ≡ false
@@ -49,10 +51,11 @@ none_of_part test (move key to ∷ qs) unmoved = absurd (cc)
 -- a shard that is put into is brought a value
 pub put_is_brought : (requests : List Request) (shard : ℕ) → put_into requests shard ≡ true → is_brought_to requests shard ≡ true
 put_is_brought [] shard is = is
-put_is_brought (put key value ∷ qs) shard is = elim (or_cases (is_to shard (put key value)) (put_into qs shard) is) as (λ _. is_brought_to (put key value ∷ qs) shard ≡ true) [
-  | inl first ↦ or_left (brings shard (put key value)) (is_brought_to qs shard) first
-  | inr later ↦ or_right (brings shard (put key value)) (is_brought_to qs shard) (put_is_brought qs shard later)
-]
+put_is_brought (put key value ∷ qs) shard is = elim (or_cases (is_to shard (put key value)) (put_into qs shard) is) as
+    (λ _. is_brought_to (put key value ∷ qs) shard ≡ true) [
+      | inl first ↦ or_left (brings shard (put key value)) (is_brought_to qs shard) first
+      | inr later ↦ or_right (brings shard (put key value)) (is_brought_to qs shard) (put_is_brought qs shard later)
+    ]
 put_is_brought (get key ∷ qs) shard is = put_is_brought qs shard is
 put_is_brought (del key ∷ qs) shard is = put_is_brought qs shard is
 put_is_brought (move key to ∷ qs) shard is = or_right (brings shard (move key to)) (is_brought_to qs shard) (put_is_brought qs shard is)

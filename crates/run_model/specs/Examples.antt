@@ -1,4 +1,6 @@
--- Worked examples by computation: what is a worker's of a trace and of its replies, what traces need, bounds of steps, runs that answer a first part, what workers took, what one map answers, the room for a get, and what arrives by moves.
+-- Worked examples by computation: what is a worker's of a trace and of its replies, what traces need, bounds of steps,
+-- runs that answer a first part, what workers took, what one map answers, the room for a get, and what arrives by
+-- moves.
 use Rattle.std.specs.Prelude.{◌≡◌, List, [], ◌∷◌, ◌++◌, length, map, sum_by, None, Some, refl}
 use Rattle.std.proofs.Common.{arith}
 use Rattle.heap_model.specs.Image.{Image}
@@ -54,8 +56,10 @@ needed = refl
 two_shards : tables_needed (put 5 [] ∷ put 13 [] ∷ put 6 [] ∷ get 7 ∷ []) ≡ 2
 two_shards = refl
 
--- the shard that a move brings a value to needs a table, and the one that it takes it from none; and one superblock more is needed where there is a move
-moved_need : superblocks_needed (move 5 6 ∷ []) ∷ superblocks_needed (put 5 [] ∷ move 5 6 ∷ []) ∷ superblocks_needed (put 5 [] ∷ move 5 13 ∷ move 13 5 ∷ []) ∷ [] ≡ 2 ∷ 4 ∷ 3 ∷ []
+-- the shard that a move brings a value to needs a table, and the one that it takes it from none; and one superblock
+-- more is needed where there is a move
+moved_need : superblocks_needed (move 5 6 ∷ []) ∷ superblocks_needed (put 5 [] ∷ move 5 6 ∷ []) ∷ superblocks_needed
+    (put 5 [] ∷ move 5 13 ∷ move 13 5 ∷ []) ∷ [] ≡ 2 ∷ 4 ∷ 3 ∷ []
 moved_need = refl
 
 -- the shards that each of two workers puts into; where nothing moves these are those of the trace
@@ -124,11 +128,13 @@ taken_by_first : first_span (put 14 [] ∷ put 6 [] ∷ []) ∷ first_span (get 
 taken_by_first = refl
 
 -- each of two workers took one superblock for a node at most, of eight the two that have requests
-taken_by_each : worker_span 2 0 mixed one_missing ∷ worker_span 2 1 mixed one_missing ∷ worker_span 8 0 mixed one_missing ∷ worker_span 8 6 mixed one_missing ∷ [] ≡ 1 ∷ 1 ∷ 0 ∷ 1 ∷ []
+taken_by_each : worker_span 2 0 mixed one_missing ∷ worker_span 2 1 mixed one_missing ∷ worker_span 8 0 mixed one_missing ∷ worker_span 8 6
+    mixed one_missing ∷ [] ≡ 1 ∷ 1 ∷ 0 ∷ 1 ∷ []
 taken_by_each = refl
 
 -- beside one alone none is taken, beside one of two what the other took, and beside one of eight that has no request all
-taken_beside : spans_beside 1 0 mixed one_missing ∷ spans_beside 2 0 mixed one_missing ∷ spans_beside 8 3 mixed one_missing ∷ spans_beside 8 5 mixed one_missing ∷ [] ≡ 0 ∷ 1 ∷ 2 ∷ 1 ∷ []
+taken_beside : spans_beside 1 0 mixed one_missing ∷ spans_beside 2 0 mixed one_missing ∷ spans_beside 8 3 mixed one_missing ∷ spans_beside 8 5
+    mixed one_missing ∷ [] ≡ 0 ∷ 1 ∷ 2 ∷ 1 ∷ []
 taken_beside = refl
 
 -- the mixed trace, of two shards, as one map without keys answers it
@@ -192,7 +198,8 @@ last_one_stays = refl
 abbrev pub moved_across : List (Request × Reply)
 moved_across = two_values ++ (move 5 2, done) ∷ (move 6 9, done) ∷ []
 
-comes_to_each : map (λ worker. worker_arrivals 2 worker no_keys moved_across) (0 ∷ 1 ∷ []) ≡ ((put 2 (97 ∷ []), done) ∷ []) ∷ ((put 9 (98 ∷ []), done) ∷ []) ∷ []
+comes_to_each : map (λ worker. worker_arrivals 2 worker no_keys moved_across) (0 ∷ 1 ∷ []) ≡ ((put 2 (97 ∷ []), done) ∷ []) ∷
+    ((put 9 (98 ∷ []), done) ∷ []) ∷ []
 comes_to_each = refl
 
 -- so many have arrived for a shard as its worker has brought in

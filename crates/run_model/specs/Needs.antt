@@ -86,7 +86,8 @@ has_move (put key value ∷ requests) = has_move requests
 has_move (get key ∷ requests) = has_move requests
 has_move (del key ∷ requests) = has_move requests
 
--- the superblocks that are always enough for the requests: those of each put's node, one for each shard that is brought a value, and one where there is a move
+-- the superblocks that are always enough for the requests: those of each put's node, one for each shard that is brought
+-- a value, and one where there is a move
 abbrev pub superblocks_needed : List Request → ℕ
 superblocks_needed requests = sum_by node_span requests + tables_needed requests + cond (has_move requests) 1 0
 

@@ -11,7 +11,8 @@ use Rattle.run_model.specs.Runs.{answered}
 abbrev pub NoneIsFull : Replies → Type 0
 NoneIsFull replies = Contains replies (Some full) → ⊥
 
--- each request of the trace is answered, none for want of room, each reply is right for the whole map of its moment, and what is left is the whole map after all of them and what arrives by them
+-- each request of the trace is answered, none for want of room, each reply is right for the whole map of its moment,
+-- and what is left is the whole map after all of them and what arrives by them
 pub record IsAsOneThread (image : Image) (requests : List Request) (replies : Replies) (left : Image) : Type 0 where
   pub none_full : NoneIsFull replies
   pub whole : Map

@@ -27,7 +27,8 @@ pub record IsReachedFrom (image : Image) (chosen : ℕ → Type 0) (b : Block) :
   pub kind : ℕ
   pub reach : ReachFrom image chosen (kinds_of image) dict_links b kind
 
--- the seat has some roots, with their kinds, and holds exactly what the image reaches from them; each of its own words is durable as it stands in the image
+-- the seat has some roots, with their kinds, and holds exactly what the image reaches from them; each of its own words
+-- is durable as it stands in the image
 pub record IsOpenedOver (image : Image) (v : View) : Type 0 where
   pub kinds : StoresKinds v image
   pub nothing_outside : (at : ℕ) → IsOutsideIn image dict_links at → ⊥

@@ -77,13 +77,15 @@ abbrev pub spans_beside : ℕ → ℕ → List Request → Replies → ℕ
 spans_beside workers worker requests replies =
     sum_by (λ other. cond (nat_eq other worker) 0 (worker_span workers other requests replies)) (worker_numbers workers)
 
--- a put is told that there is no room only where too few superblocks were left for its node, with those that its worker's puts before it, the other workers' requests and the tables of the trace may take
+-- a put is told that there is no room only where too few superblocks were left for its node, with those that its
+-- worker's puts before it, the other workers' requests and the tables of the trace may take
 pub record IsFullRightly (image : Image) (workers : ℕ) (requests : List Request) (replies : Replies) : Type 0 where
   pub cause : (worker : ℕ) → worker < workers → (before later : List (Request × Reply)) (key : ℕ) (value : List ℕ)
       → worker_answered workers worker requests replies ≡ before ++ (put key value, full) ∷ later
       → capacity_of image < used_of image + node_span (put key value) + sum_by span_taken before + spans_beside workers worker requests replies
       + tables_needed requests
-  -- a move is told so only where no superblock was left for the table of its other key's shard, with those that the workers beside that shard's own and the tables of the trace may take
+  -- a move is told so only where no superblock was left for the table of its other key's shard, with those that the
+  -- workers beside that shard's own and the tables of the trace may take
   pub move_cause : (worker : ℕ) → worker < workers → (before later : List (Request × Reply)) (key to : ℕ)
       → worker_answered workers worker requests replies ≡ before ++ (move key to, full) ∷ later
       → capacity_of image < used_of image + 1 + spans_beside workers (worker_of workers (shard_of to)) requests replies + tables_needed requests
@@ -109,7 +111,8 @@ pub record IsAfterFirst (left : Image) (shard : ℕ) (map : Map) (rest : List Re
 abbrev pub IsMapLeft : Image → ℕ → Map → Bool → List Request → Type 0
 IsMapLeft left shard map stopped rest = MapOf left shard map ⊎ ((stopped ≡ true) × IsAfterFirst left shard map rest)
 
--- So many of its arrivals a shard's worker has brought in, the first ones: all of them where the run wasn't stopped, and none where one of its requests
+-- So many of its arrivals a shard's worker has brought in, the first ones: all of them where the run wasn't stopped,
+-- and none where one of its requests
 -- is unanswered.
 pub record HaveArrived (image : Image) (workers : ℕ) (requests : List Request) (replies : Replies) (stopped : Bool) (arrived : ℕ → ℕ) : Type 0 where
   pub all : stopped ≡ false → (whole : Map) → IsWholeMap image whole → (shard : ℕ) → shard < shards

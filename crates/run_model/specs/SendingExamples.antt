@@ -40,7 +40,8 @@ abbrev pub with_five : Map
 with_five = with_key no_keys 5 (97 ∷ [])
 
 -- a move that is done sends what its key had, an empty value too
-sent_by_move : sends with_five 2 (move 5 6) done ∷ sends (with_key no_keys 5 []) 2 (move 5 6) done ∷ [] ≡ (sent 2 6 (97 ∷ []) ∷ []) ∷ (sent 2 6 [] ∷ []) ∷ []
+sent_by_move : sends with_five 2 (move 5 6) done ∷ sends (with_key no_keys 5 []) 2 (move 5 6) done ∷ [] ≡ (sent 2 6 (97 ∷ []) ∷ []) ∷
+    (sent 2 6 [] ∷ []) ∷ []
 sent_by_move = refl
 
 -- to the same key too
@@ -73,7 +74,8 @@ one_step = refl
 wrong_replies : all_sent with_five (numbered 0 chain) (Some done ∷ Some done ∷ Some done ∷ []) ≡ sent 0 6 (97 ∷ []) ∷ []
 wrong_replies = refl
 
-each_one_on : all_sent (with_key with_five 6 (98 ∷ [])) (numbered 0 chain) (Some done ∷ Some done ∷ Some none ∷ []) ≡ sent 0 6 (97 ∷ []) ∷ sent 1 13 (98 ∷ []) ∷ []
+each_one_on : all_sent (with_key with_five 6 (98 ∷ [])) (numbered 0 chain) (Some done ∷ Some done ∷ Some none ∷ []) ≡ sent 0 6
+    (97 ∷ []) ∷ sent 1 13 (98 ∷ []) ∷ []
 each_one_on = refl
 
 -- a move that was refused leaves the value for the next one
@@ -94,7 +96,8 @@ too_many_replies = refl
 to_one_alone : coming 1 0 no_keys crossing all_done ≡ all_sent no_keys (numbered 0 crossing) all_done
 to_one_alone = refl
 
-to_two : map (λ worker. coming 2 worker no_keys crossing all_done) (0 ∷ 1 ∷ 2 ∷ []) ≡ (sent 1 6 (97 ∷ []) ∷ sent 5 14 (99 ∷ []) ∷ []) ∷ (sent 3 13 (98 ∷ []) ∷ []) ∷ [] ∷ []
+to_two : map (λ worker. coming 2 worker no_keys crossing all_done) (0 ∷ 1 ∷ 2 ∷ []) ≡ (sent 1 6 (97 ∷ []) ∷ sent 5 14 (99 ∷ []) ∷ []) ∷
+    (sent 3 13 (98 ∷ []) ∷ []) ∷ [] ∷ []
 to_two = refl
 
 -- what each of two workers sends of its own requests, one after the other: the same values in another order
@@ -103,7 +106,8 @@ put_together : flat_map (λ worker. all_sent no_keys (worker_numbered 2 worker c
 put_together = refl
 
 -- as puts it is what arrives
-same_as_arrivals : puts_of (all_sent no_keys (numbered 0 crossing) all_done) ≡ (put 6 (97 ∷ []), done) ∷ (put 13 (98 ∷ []), done) ∷ (put 14 (99 ∷ []), done) ∷ []
+same_as_arrivals : puts_of (all_sent no_keys (numbered 0 crossing) all_done) ≡ (put 6 (97 ∷ []), done) ∷ (put 13 (98 ∷ []), done) ∷
+    (put 14 (99 ∷ []), done) ∷ []
 same_as_arrivals = refl
 
 arrives_so : arrivals no_keys (answered crossing all_done) ≡ puts_of (all_sent no_keys (numbered 0 crossing) all_done)

@@ -50,13 +50,15 @@ pub record IsFullBehind (tables : ℕ) (before : List (Request × Reply)) (reque
   pub room : HadNoRoom request w
   pub taken : w.taken ≤ v.taken + sum_by span_taken before + tables
 
--- each put that was told that there is no room was so at a moment of the heap from the one state to the other, and nothing was forgotten of the mark since
+-- each put that was told that there is no room was so at a moment of the heap from the one state to the other, and
+-- nothing was forgotten of the mark since
 pub record AreFullRightly {S : Type 0} (view : S → View) (keeps : S → S → Type 0) (tables : ℕ) (rs : List (Request × Reply))
     (s s' : S) : Type 0 where
   pub each : (before later : List (Request × Reply)) (key : ℕ) (value : List ℕ) → rs ≡ before ++ (put key value, full) ∷ later
       → (t : S) × keeps s t × keeps t s' × KnowsNoLess (view t) (view s') × IsFullBehind tables before (put key value) (view s) (view t)
 
--- since the first view no more superblocks were taken than for the nodes of the puts that were done, for the first of the requests that are left, and for so many tables
+-- since the first view no more superblocks were taken than for the nodes of the puts that were done, for the first of
+-- the requests that are left, and for so many tables
 pub record HasTakenFew (tables : ℕ) (rs : List (Request × Reply)) (left : List Request) (v w : View) : Type 0 where
   pub taken : w.taken ≤ v.taken + (sum_by span_taken rs + first_span left) + tables
 

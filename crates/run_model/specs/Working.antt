@@ -108,7 +108,8 @@ abbrev pub IsUnderWay : List Request → View → View → Type 0
 IsUnderWay [] v w = w ≡ v
 IsUnderWay (request ∷ others) v w = MayAnswer request v w × MakesCalls request v w
 
--- a request asked the heap for so many bytes: those of its put's node where loads see that its shard has a table, and those of a table where they see that it has none
+-- a request asked the heap for so many bytes: those of its put's node where loads see that its shard has a table, and
+-- those of a table where they see that it has none
 abbrev pub AsksFor : Request → ℕ → View → Type 0
 AsksFor (put key value) bytes w =
     (RootIsSet w (shard_of key) × (bytes ≡ node_bytes (length value))) ⊎ ((w.volatile (root_word (shard_of key)) ≡ Some 0) × (bytes ≡ table_bytes))
@@ -117,14 +118,17 @@ AsksFor (del key) bytes w = ⊥
 AsksFor (move key to) bytes w = ⊥
 
 -- the heap turned down one request for a block that this request made to it, and no other
-pub record WasRefused {S : Type 0} (view : S → View) (keeps : S → S → Type 0) (has_none : S → S → ℕ → Looks → Type 0) (request : Request) (s t : S) : Type 0 where
+pub record WasRefused {S : Type 0} (view : S → View) (keeps : S → S → Type 0) (has_none : S → S → ℕ → Looks → Type 0) (request : Request)
+    (s t : S) : Type 0 where
   pub once : (view t).refusals ≡ (view s).refusals + 1
   pub asked : AsksFor request (view t).refused_bytes (view t)
   pub none : WasTurnedDown keeps has_none (view t).refused_bytes (view t).refused_looks s t
 
--- A request went from one state of a seat to the next. Its reply is right, its tickets are below the budget, its calls are few, and what every call keeps
+-- A request went from one state of a seat to the next. Its reply is right, its tickets are below the budget, its calls
+-- are few, and what every call keeps
 -- was kept. A put that was told full had a request for a block refused, and no other request had.
-pub record TakesRequest {S : Type 0} (view : S → View) (keeps : S → S → Type 0) (has_none : S → S → ℕ → Looks → Type 0) (request : Request) (reply : Reply)
+pub record TakesRequest {S : Type 0} (view : S → View) (keeps : S → S → Type 0) (has_none : S → S → ℕ → Looks → Type 0) (request : Request)
+    (reply : Reply)
     (s t : S) : Type 0 where
   pub answers : Answers request reply (view s) (view t)
   pub may : MayAnswer request (view s) (view t)

@@ -1,4 +1,5 @@
--- Worked examples: what a put asks the heap for, and what no answered request did. None is told full without a refusal, or done beside one; none was answered without a ticket, by one that the budget doesn't allow, or by too many calls.
+-- Worked examples: what a put asks the heap for, and what no answered request did. None is told full without a refusal,
+-- or done beside one; none was answered without a ticket, by one that the budget doesn't allow, or by too many calls.
 use Rattle.std.specs.Prelude.{◌≡◌, ℕ, ◌+◌, List, [], ◌∷◌, cond, nat_eq, Option, None, Some, refl}
 use Rattle.std.proofs.Common.{arith, inl, inr, sym, ◌∙◌}
 use Rattle.heap_model.specs.Geometry.{root_word}
@@ -64,7 +65,8 @@ module _ {S : Type 0} {view : S → View} {keeps : S → S → Type 0} {has_none
     answered_by_stopping : (ticket : ℕ) → (view t).stopped ≡ Some ticket → ⊥
     answered_by_stopping ticket at = let e : Some ticket ≡ None = sym at ∙ takes.runs.running in absurd (cc)
 
-  module _ (map : Map) (keys : List ℕ) (key : ℕ) (reply : Reply) (gives : GivesMap (view s) (shard_of key) map) (lists : ListsKeys (view s) (shard_of key) keys) where
+  module _ (map : Map) (keys : List ℕ) (key : ℕ) (reply : Reply) (gives : GivesMap (view s) (shard_of key) map)
+      (lists : ListsKeys (view s) (shard_of key) keys) where
     -- a get makes no four large calls, and a move makes none
     get_by_four : TakesRequest view keeps has_none (get key) reply s t → (view t).large_calls ≡ (view s).large_calls + 4 → ⊥
     get_by_four takes four = let few = (takes.calls.few map gives keys lists).large_few in omega (arith, few, four)

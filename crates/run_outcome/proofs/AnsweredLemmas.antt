@@ -22,7 +22,8 @@ of_part : (test : Request → Bool) (qs : List Request) (x : Request) → Contai
 of_part test [] x there = there
 of_part test (q ∷ qs) x there = by_case (test q) (filter test qs) (of_part test qs x) there where
   by_case : (b : Bool) (some : List Request) → (Contains some x → Contains qs x) → Contains (cond b (q ∷ some) some) x → Contains (q ∷ qs) x
-  by_case true some later is = elim (head_or_rest q x some is) as (λ _. Contains (q ∷ qs) x) [ inl same ↦ subst (Contains (q ∷ qs)) same (in_head q qs) | inr rest ↦ in_rest q x qs (later rest) ]
+  by_case true some later is = elim (head_or_rest q x some is) as
+      (λ _. Contains (q ∷ qs) x) [ inl same ↦ subst (Contains (q ∷ qs)) same (in_head q qs) | inr rest ↦ in_rest q x qs (later rest) ]
   by_case false some later is = in_rest q x qs (later is)
 
 moved_behind : (q : Request) (qs : List Request) (shard : ℕ) → is_moved_to qs shard ≡ true → is_moved_to (q ∷ qs) shard ≡ true
@@ -34,33 +35,39 @@ moved_behind (move key to) qs shard is = or_right (nat_eq (shard_of to) shard) (
 moved : (qs : List Request) (key to : ℕ) → Contains qs (move key to) → is_moved_to qs (shard_of to) ≡ true
 moved [] key to there = absurd (in_none (move key to) there)
 moved (q ∷ qs) key to there = elim (head_or_rest q (move key to) qs there) as (λ _. is_moved_to (q ∷ qs) (shard_of to) ≡ true) [
-  | inl same ↦ subst (λ (r : Request). is_moved_to (r ∷ qs) (shard_of to) ≡ true) (sym same) (or_left (nat_eq (shard_of to) (shard_of to)) (is_moved_to qs (shard_of to)) (eq-eqb (shard_of to) (shard_of to) refl))
+  | inl same ↦ subst (λ (r : Request). is_moved_to (r ∷ qs) (shard_of to) ≡ true) (sym same)
+      (or_left (nat_eq (shard_of to) (shard_of to)) (is_moved_to qs (shard_of to)) (eq-eqb (shard_of to) (shard_of to) refl))
   | inr later ↦ moved_behind q qs (shard_of to) (moved qs key to later)
 ]
 
 pub answered_move : (workers worker : ℕ) (requests : List Request) (replies : Replies) (key to : ℕ) (a : Reply)
     → Contains (answered (worker_requests workers worker requests) replies) (move key to, a) → is_moved_to requests (shard_of to) ≡ true
 answered_move workers worker requests replies key to a there =
-    moved requests key to (of_part (is_of_worker workers worker) requests (move key to) (asked (worker_requests workers worker requests) replies (move key to, a) there))
+    moved requests key to (of_part (is_of_worker workers worker) requests (move key to)
+    (asked (worker_requests workers worker requests) replies (move key to, a) there))
 
 -- an answered request is one that its worker answered
-pub answered_of : (workers worker : ℕ) (requests : List Request) (replies : Replies) (x : Request × Reply) → is_of_worker workers worker x.0 ≡ true → Contains (answered requests replies) x
+pub answered_of : (workers worker : ℕ) (requests : List Request) (replies : Replies) (x : Request × Reply)
+    → is_of_worker workers worker x.0 ≡ true → Contains (answered requests replies) x
     → Contains (worker_answered workers worker requests replies) x
 answered_of workers worker [] replies x mine h = absurd (in_none x h)
 answered_of workers worker (q ∷ qs) [] x mine h = absurd (in_none x h)
 answered_of workers worker (q ∷ qs) (None ∷ rs) x mine h = by_case (is_of_worker workers worker q) (answered_of workers worker qs rs x mine h) where
   by_case : (b : Bool) → Contains (worker_answered workers worker qs rs) x
-      → Contains (answered (cond b (q ∷ worker_requests workers worker qs) (worker_requests workers worker qs)) (cond b (None ∷ worker_replies workers worker qs rs) (worker_replies workers worker qs rs))) x
+      → Contains (answered (cond b (q ∷ worker_requests workers worker qs) (worker_requests workers worker qs))
+      (cond b (None ∷ worker_replies workers worker qs rs) (worker_replies workers worker qs rs))) x
   by_case true later = later
   by_case false later = later
-answered_of workers worker (q ∷ qs) (Some r ∷ rs) x mine h = by_case (answered_of workers worker qs rs x mine) (is_of_worker workers worker q) refl where
-  by_case : (Contains (answered qs rs) x → Contains (worker_answered workers worker qs rs) x) → (b : Bool) → is_of_worker workers worker q ≡ b
-      → Contains (answered (cond b (q ∷ worker_requests workers worker qs) (worker_requests workers worker qs)) (cond b (Some r ∷ worker_replies workers worker qs rs) (worker_replies workers worker qs rs))) x
-  by_case behind true is = elim (head_or_rest (q, r) x (answered qs rs) h) as (λ _. Contains ((q, r) ∷ worker_answered workers worker qs rs) x) [
-    | inl same ↦ subst (Contains ((q, r) ∷ worker_answered workers worker qs rs)) same (in_head (q, r) (worker_answered workers worker qs rs))
-    | inr later ↦ in_rest (q, r) x (worker_answered workers worker qs rs) (behind later)
-  ]
-  by_case behind false is = elim (head_or_rest (q, r) x (answered qs rs) h) as (λ _. Contains (worker_answered workers worker qs rs) x) [
-    | inl same ↦ let e : true ≡ false = sym mine ∙ subst (λ (y : Request × Reply). is_of_worker workers worker y.0 ≡ false) same is in absurd (cc)
-    | inr later ↦ behind later
-  ]
+answered_of workers worker (q ∷ qs) (Some r ∷ rs) x mine h = by_case (answered_of workers worker qs rs x mine)
+    (is_of_worker workers worker q) refl where
+      by_case : (Contains (answered qs rs) x → Contains (worker_answered workers worker qs rs) x) → (b : Bool) → is_of_worker workers worker q ≡ b
+          → Contains (answered (cond b (q ∷ worker_requests workers worker qs) (worker_requests workers worker qs))
+          (cond b (Some r ∷ worker_replies workers worker qs rs) (worker_replies workers worker qs rs))) x
+      by_case behind true is = elim (head_or_rest (q, r) x (answered qs rs) h) as (λ _. Contains ((q, r) ∷ worker_answered workers worker qs rs) x) [
+        | inl same ↦ subst (Contains ((q, r) ∷ worker_answered workers worker qs rs)) same (in_head (q, r) (worker_answered workers worker qs rs))
+        | inr later ↦ in_rest (q, r) x (worker_answered workers worker qs rs) (behind later)
+      ]
+      by_case behind false is = elim (head_or_rest (q, r) x (answered qs rs) h) as (λ _. Contains (worker_answered workers worker qs rs) x) [
+        | inl same ↦ let e : true ≡ false = sym mine ∙ subst (λ (y : Request × Reply). is_of_worker workers worker y.0 ≡ false) same is in absurd (cc)
+        | inr later ↦ behind later
+      ]

@@ -7,7 +7,8 @@ use Rattle.run_model.proofs.SumLemmas.{sum_over, sum_step, sum_within, sum_both,
 -- the costs of each add up to costs of all
 pub draws_add : (draws small large losses moves : ℕ → ℕ) (from count : ℕ)
     → ((i : ℕ) → from ≤ i → i < from + count → draws i ≤ small i + most_draws * large i + 16 * losses i + 16 * moves i)
-    → sum_over draws from count ≤ sum_over small from count + most_draws * sum_over large from count + 16 * sum_over losses from count + 16 * sum_over moves from count
+    → sum_over draws from count ≤ sum_over small from count + most_draws * sum_over large from count + 16 * sum_over losses from count + 16 *
+    sum_over moves from count
 draws_add draws small large losses moves from zero few = let none : 0 ≤ 0 + most_draws * 0 + 16 * 0 + 16 * 0 = omega arith in none
 draws_add draws small large losses moves from (suc count) few =
     let a = sum_step draws from count in
@@ -31,7 +32,8 @@ wins_add wins large moves from (suc count) few =
     let rest = wins_add wins large moves (from + 1) count (λ i low high. few i (omega arith) (omega arith)) in
     omega arith
 
-pub times_add : (f g : ℕ → ℕ) (by from count : ℕ) → ((i : ℕ) → from ≤ i → i < from + count → f i ≤ by * g i) → sum_over f from count ≤ by * sum_over g from count
+pub times_add : (f g : ℕ → ℕ) (by from count : ℕ) → ((i : ℕ) → from ≤ i → i < from + count → f i ≤ by * g i)
+    → sum_over f from count ≤ by * sum_over g from count
 times_add f g by from count few = let all = sum_within f (λ i. by * g i) from count few in let is = sum_times g by from count in omega arith
 
 pub losses_add : (losses wins : ℕ → ℕ) (most from count : ℕ) → ((i : ℕ) → from ≤ i → i < from + count → losses i + wins i ≤ most)
@@ -55,7 +57,8 @@ small_add small targets own came by_own by_came from count few =
     let c = sum_times came by_came from count in
     omega arith
 
-pub large_add : (large targets calls came : ℕ → ℕ) (from count : ℕ) → ((i : ℕ) → from ≤ i → i < from + count → large i ≤ targets i + calls i + came i + 1)
+pub large_add : (large targets calls came : ℕ → ℕ) (from count : ℕ)
+    → ((i : ℕ) → from ≤ i → i < from + count → large i ≤ targets i + calls i + came i + 1)
     → sum_over large from count ≤ sum_over targets from count + sum_over calls from count + sum_over came from count + count
 large_add large targets calls came from count few =
     let all = sum_within large (λ i. targets i + calls i + came i + 1) from count few in
@@ -70,7 +73,8 @@ pub small_bound : (requests keys small targets own came : ℕ) → targets ≤ r
     → small ≤ 512 * targets + (33280 + 4 * (keys + requests)) * own + (512 + 4 * (keys + requests)) * came
     → small ≤ requests * (34304 + 8 * (keys + requests))
 small_bound requests keys small targets own came few_targets few_own few_came spent =
-    let a : (33280 + 4 * (keys + requests)) * own ≤ (33280 + 4 * (keys + requests)) * requests = mul-le-mul_left (33280 + 4 * (keys + requests)) few_own in
+    let a : (33280 + 4 * (keys + requests)) * own ≤ (33280 + 4 * (keys + requests)) * requests =
+    mul-le-mul_left (33280 + 4 * (keys + requests)) few_own in
     let b : (512 + 4 * (keys + requests)) * came ≤ (512 + 4 * (keys + requests)) * requests = mul-le-mul_left (512 + 4 * (keys + requests)) few_came in
     omega arith
 
@@ -79,7 +83,8 @@ pub within_bound : (requests keys workers capacity small large losses moves wins
     → draws ≤ small + most_draws * large + 16 * losses + 16 * moves → losses + wins ≤ workers * wins → wins ≤ most_wins * large + 2 * moves
     → moves ≤ gives + capacity → gives ≤ most_gives * large → large ≤ 3 * requests + workers → small ≤ requests * (34304 + 8 * (keys + requests))
     → draws ≤ (3 * requests + 2 * workers) * workers * 2 ^ 20 + requests * (2 ^ 16 + 8 * (keys + requests))
-within_bound requests keys zero capacity small large losses moves wins gives draws some low drawn lost won moved gave few_large few_small = absurd (omega arith)
+within_bound requests keys zero capacity small large losses moves wins gives draws some low drawn lost won moved gave few_large few_small =
+    absurd (omega arith)
 within_bound requests keys (suc n) capacity small large losses moves wins gives draws some low drawn lost won moved gave few_large few_small =
     let few_losses : losses ≤ n * wins = omega arith in
     let few_wins : wins ≤ 65536 * large + 8192 = omega arith in

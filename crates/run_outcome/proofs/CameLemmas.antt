@@ -1,4 +1,5 @@
--- How many of the values that came to a worker have arrived in the image that is left: those that it brought in, and the next one where it was stopped in that and the image has the map after it.
+-- How many of the values that came to a worker have arrived in the image that is left: those that it brought in, and
+-- the next one where it was stopped in that and the image has the map after it.
 use Rattle.std.proofs.Common.{◌≡◌, ◌≢◌, ℕ, ◌+◌, ◌<◌, ◌⊎◌, inl, inr, List, [], ◌∷◌, ◌++◌, length, take, append-nil, append_assoc, Contains, refl, subst, sym, ap, ◌∙◌, eq-eqb}
 use Rattle.std.specs.Prelude.{Bool, true, false}
 use Rattle.std.proofs.Math.Path.{fun_ext}
@@ -24,9 +25,11 @@ use Rattle.run_model.proofs.GoesOnLemmas.{other_gives}
 use Rattle.run_model.proofs.OneMapLemmas.{small_shard}
 use Rattle.worker_parts.specs.Ending.{HasEnded, EndsIn, at_rest, not_begun, in_request, in_arrival}
 
--- So many of what came to a seat have arrived, the first ones: each of its shards is left as the answered requests and these make it. All have where the run wasn't
+-- So many of what came to a seat have arrived, the first ones: each of its shards is left as the answered requests and
+-- these make it. All have where the run wasn't
 -- stopped, and none where a request is unanswered.
-pub record HaveCome (image left : Image) (rs : List (Request × Reply)) (rest : List Request) (came : List Sent) (stopped : Bool) (v : View) (n : ℕ) : Type 0 where
+pub record HaveCome (image left : Image) (rs : List (Request × Reply)) (rest : List Request) (came : List Sent) (stopped : Bool) (v : View)
+    (n : ℕ) : Type 0 where
   pub every : stopped ≡ false → n ≡ length came
   pub none : rest ≢ [] → n ≡ 0
   pub each : (shard : ℕ) (map : Map) → shard < shards → Contains v.roots shard → MapOf image shard map
@@ -42,28 +45,36 @@ take_first came first later is =
     ap (λ xs. take (length first) (puts_of xs)) is ∙ ap (take (length first)) (map-append put_of first later)
     ∙ ap (λ n. take n (puts_of first ++ puts_of later)) (sym (length-map first put_of)) ∙ take-append_seam (puts_of first) (puts_of later)
 
-take_next : (came first others : List Sent) (next : Sent) → came ≡ first ++ (next ∷ others) → take (length first + 1) (puts_of came) ≡ puts_of first ++ (put_of next ∷ [])
+take_next : (came first others : List Sent) (next : Sent) → came ≡ first ++ (next ∷ others)
+    → take (length first + 1) (puts_of came) ≡ puts_of first ++ (put_of next ∷ [])
 take_next came first others next is =
     ap (λ xs. take (length first + 1) (puts_of xs)) is ∙ ap (take (length first + 1)) (map-append put_of first (next ∷ others))
-    ∙ ap (λ n. take (n + 1) (puts_of first ++ puts_of (next ∷ others))) (sym (length-map first put_of)) ∙ take-append-add (puts_of first) (puts_of (next ∷ others)) 1
+    ∙ ap (λ n. take (n + 1) (puts_of first ++ puts_of (next ∷ others))) (sym (length-map first put_of))
+    ∙ take-append-add (puts_of first) (puts_of (next ∷ others)) 1
 
 -- one request more to a shard, or to another
 after_push : (map : Map) (xs : List (Request × Reply)) (x : Request × Reply) → after map (xs ++ (x ∷ [])) ≡ after_one (after map xs) x.0 x.1
 after_push map [] x = refl
 after_push map (y ∷ ys) x = after_push (after_one map y.0 y.1) ys x
 
-one_more : (shard : ℕ) (map : Map) (xs : List (Request × Reply)) (x : Request × Reply) → shard_asked x.0 ≡ shard → after map (of_shard shard (xs ++ (x ∷ []))) ≡ after_one (after map (of_shard shard xs)) x.0 x.1
+one_more : (shard : ℕ) (map : Map) (xs : List (Request × Reply)) (x : Request × Reply) → shard_asked x.0 ≡ shard
+    → after map (of_shard shard (xs ++ (x ∷ []))) ≡ after_one (after map (of_shard shard xs)) x.0 x.1
 one_more shard map xs x same =
-    ap (after map) (filter-append (λ r. is_to shard r.0) xs (x ∷ []) ∙ ap (λ zs. of_shard shard xs ++ zs) (cond-true (is_to shard x.0) (x ∷ []) [] (eq-eqb (shard_asked x.0) shard same)))
+    ap (after map) (filter-append (λ r. is_to shard r.0) xs (x ∷ [])
+    ∙ ap (λ zs. of_shard shard xs ++ zs) (cond-true (is_to shard x.0) (x ∷ []) [] (eq-eqb (shard_asked x.0) shard same)))
     ∙ after_push map (of_shard shard xs) x
 
-none_more : (shard : ℕ) (xs : List (Request × Reply)) (x : Request × Reply) → shard_asked x.0 ≢ shard → of_shard shard (xs ++ (x ∷ [])) ≡ of_shard shard xs
+none_more : (shard : ℕ) (xs : List (Request × Reply)) (x : Request × Reply) → shard_asked x.0 ≢ shard
+    → of_shard shard (xs ++ (x ∷ [])) ≡ of_shard shard xs
 none_more shard xs x other =
-    filter-append (λ r. is_to shard r.0) xs (x ∷ []) ∙ ap (λ zs. of_shard shard xs ++ zs) (cond-false (is_to shard x.0) (x ∷ []) [] (ne_eqb (shard_asked x.0) shard other)) ∙ append-nil (of_shard shard xs)
+    filter-append (λ r. is_to shard r.0) xs (x ∷ []) ∙ ap (λ zs. of_shard shard xs ++ zs)
+    (cond-false (is_to shard x.0) (x ∷ []) [] (ne_eqb (shard_asked x.0) shard other)) ∙ append-nil (of_shard shard xs)
 
 -- one worker's part, where a map in its seat's words is the shard's map in the image that is left
-module _ (image : Image) (requests : List Request) (told : Replies) (came brought : List Sent) (halted stops stopped : Bool) (v : View) (ended : HasEnded image requests told came brought halted stops v)
-    (so : stops ≡ true → stopped ≡ true) (halts : halted ≡ true → stopped ≡ true) (maps : HasMaps image) (had : (shard : ℕ) → Contains v.roots shard → Contains ended.before.roots shard)
+module _ (image : Image) (requests : List Request) (told : Replies) (came brought : List Sent) (halted stops stopped : Bool) (v : View)
+    (ended : HasEnded image requests told came brought halted stops v)
+    (so : stops ≡ true → stopped ≡ true) (halts : halted ≡ true → stopped ≡ true) (maps : HasMaps image) (had : (shard : ℕ)
+    → Contains v.roots shard → Contains ended.before.roots shard)
     (owns : (shard : ℕ) → shard < shards → Contains v.roots shard ⊎ (Contains v.roots shard → ⊥)) (left : Image) (mixed : MixesOwn v left)
     (to_left : (shard : ℕ) (m : Map) → shard < shards → IsMapIn v left shard m → MapOf left shard m) where
   -- what the seat has done
@@ -84,20 +95,24 @@ module _ (image : Image) (requests : List Request) (told : Replies) (came brough
   as_before : v ≡ ended.before → AreLeft asked
   as_before same shard map small owned of =
       inl (to_left shard (after map (of_shard shard asked)) small
-      ((subst (λ (w : View). GivesMap w shard (after map (of_shard shard asked))) (sym same) (ended.answered.gives shard map small (had shard owned) of)).each left mixed))
+      ((subst (λ (w : View). GivesMap w shard (after map (of_shard shard asked))) (sym same)
+      (ended.answered.gives shard map small (had shard owned) of)).each left mixed))
 
   -- over a request that may have been done: shards beside it, and its own
   module _ (request : Request) (may : MayAnswer request ended.before v) where
-    beside : (shard : ℕ) (map : Map) → shard < shards → Contains v.roots shard → MapOf image shard map → shard_asked request ≢ shard → IsMapIn v left shard (after map (of_shard shard asked))
+    beside : (shard : ℕ) (map : Map) → shard < shards → Contains v.roots shard → MapOf image shard map → shard_asked request ≢ shard
+        → IsMapIn v left shard (after map (of_shard shard asked))
     beside shard map small owned of other =
-        (other_gives image asked ended.before v request ended.seat ended.answered may shard map small (had shard owned) (λ e. other (sym e)) of).each left mixed
+        (other_gives image asked ended.before v request ended.seat ended.answered may shard map small (had shard owned)
+        (λ e. other (sym e)) of).each left mixed
 
     either : (shard : ℕ) (map : Map) → shard < shards → Contains v.roots shard → MapOf image shard map → shard_asked request ≡ shard
         → IsMapIn v left shard (after map (of_shard shard asked)) ⊎ IsMapIn v left shard (after_one (after map (of_shard shard asked)) request done)
     either shard map small owned of same =
         let before = after map (of_shard shard asked) in
         subst (λ n. IsMapIn v left n before ⊎ IsMapIn v left n (after_one before request done)) same
-        ((may.either before (subst (λ n. GivesMap ended.before n before) (sym same) (ended.answered.gives shard map small (had shard owned) of))).each left mixed)
+        ((may.either before (subst (λ n. GivesMap ended.before n before) (sym same)
+        (ended.answered.gives shard map small (had shard owned) of))).each left mixed)
 
     -- stopped in the first request that is left
     in_first : (others : List Request) → ended.left ≡ request ∷ others → stopped ≡ true → AreLeft asked
@@ -119,7 +134,8 @@ module _ (image : Image) (requests : List Request) (told : Replies) (came brough
     ]
 
     -- the map of its own shard is one
-    own_is : (rs : List (Request × Reply)) (first : Map) → MapOf image (shard_asked request) first → IsMapIn v left (shard_asked request) (after first (of_shard (shard_asked request) rs))
+    own_is : (rs : List (Request × Reply)) (first : Map) → MapOf image (shard_asked request) first
+        → IsMapIn v left (shard_asked request) (after first (of_shard (shard_asked request) rs))
         → (shard : ℕ) → shard_asked request ≡ shard → (map : Map) → MapOf image shard map → IsMapIn v left shard (after map (of_shard shard rs))
     own_is rs first of_first has shard same =
         subst (λ n. (map : Map) → MapOf image n map → IsMapIn v left n (after map (of_shard n rs))) same
@@ -127,25 +143,30 @@ module _ (image : Image) (requests : List Request) (told : Replies) (came brough
         (fun_ext (λ key. one_map_of image (shard_asked request) first map of_first of key)) has)
 
     -- the request was not done, was done, or is one to a shard of another seat
-    not_done : (first : Map) → MapOf image (shard_asked request) first → IsMapIn v left (shard_asked request) (after first (of_shard (shard_asked request) asked)) → AreLeft asked
+    not_done : (first : Map) → MapOf image (shard_asked request) first
+        → IsMapIn v left (shard_asked request) (after first (of_shard (shard_asked request) asked)) → AreLeft asked
     not_done first of_first has shard map small owned of = elim (cases_eq (shard_asked request) shard) as (λ _. IsLeft asked shard map) [
       | inl same ↦ inl (to_left shard (after map (of_shard shard asked)) small (own_is asked first of_first has shard same map of))
       | inr other ↦ inl (to_left shard (after map (of_shard shard asked)) small (beside shard map small owned of other))
     ]
 
-    is_done : (first : Map) → MapOf image (shard_asked request) first → IsMapIn v left (shard_asked request) (after_one (after first (of_shard (shard_asked request) asked)) request done)
+    is_done : (first : Map) → MapOf image (shard_asked request) first
+        → IsMapIn v left (shard_asked request) (after_one (after first (of_shard (shard_asked request) asked)) request done)
         → AreLeft (asked ++ ((request, done) ∷ []))
-    is_done first of_first has shard map small owned of = elim (cases_eq (shard_asked request) shard) as (λ _. IsLeft (asked ++ ((request, done) ∷ [])) shard map) [
-      | inl same ↦ inl (to_left shard (after map (of_shard shard (asked ++ ((request, done) ∷ [])))) small
-          (own_is (asked ++ ((request, done) ∷ [])) first of_first
-          (subst (λ (m : Map). IsMapIn v left (shard_asked request) m) (sym (one_more (shard_asked request) first asked (request, done) refl)) has) shard same map of))
-      | inr other ↦ subst (λ xs. IsMapLeft left shard (after map xs) stopped ended.left) (sym (none_more shard asked (request, done) other))
-          (inl (to_left shard (after map (of_shard shard asked)) small (beside shard map small owned of other)))
-    ]
+    is_done first of_first has shard map small owned of = elim (cases_eq (shard_asked request) shard) as
+        (λ _. IsLeft (asked ++ ((request, done) ∷ [])) shard map) [
+          | inl same ↦ inl (to_left shard (after map (of_shard shard (asked ++ ((request, done) ∷ [])))) small
+              (own_is (asked ++ ((request, done) ∷ [])) first of_first
+              (subst (λ (m : Map). IsMapIn v left (shard_asked request) m)
+              (sym (one_more (shard_asked request) first asked (request, done) refl)) has) shard same map of))
+          | inr other ↦ subst (λ xs. IsMapLeft left shard (after map xs) stopped ended.left) (sym (none_more shard asked (request, done) other))
+              (inl (to_left shard (after map (of_shard shard asked)) small (beside shard map small owned of other)))
+        ]
 
     not_asked : (Contains v.roots (shard_asked request) → ⊥) → AreLeft asked
     not_asked not_own shard map small owned of =
-        inl (to_left shard (after map (of_shard shard asked)) small (beside shard map small owned of (λ e. not_own (subst (Contains v.roots) (sym e) owned))))
+        inl (to_left shard (after map (of_shard shard asked)) small (beside shard map small owned of
+        (λ e. not_own (subst (Contains v.roots) (sym e) owned))))
 
   abbrev Come : ℕ → Type 0
   Come = HaveCome image left ended.rs ended.left came stopped v
@@ -199,6 +220,10 @@ module _ (image : Image) (requests : List Request) (told : Replies) (came brough
     )
     by_end (in_request begun stop none request others is may) = (
       length brought,
-      record { every = λ going. not_both stopped (so stop) going; none = λ some. ap length none; each = first_come (in_first request may others is (so stop)) },
+      record {
+        every = λ going. not_both stopped (so stop) going;
+        none = λ some. ap length none;
+        each = first_come (in_first request may others is (so stop));
+      },
     )
     by_end (in_arrival begun stop none_left next others is may) = have_come_by next others is none_left (so stop) may

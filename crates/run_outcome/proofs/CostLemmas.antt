@@ -29,8 +29,10 @@ small_within : (small targets own came puts requests keys : ℕ) → own ≤ req
     → small ≤ 512 * targets + own * (33280 + 4 * (keys + own)) + came * (512 + 4 * (keys + puts + came))
     → small ≤ 512 * targets + (33280 + 4 * (keys + requests)) * own + (512 + 4 * (keys + requests)) * came
 small_within small targets own came puts requests keys few brought spent =
-    let a : own * (33280 + 4 * (keys + own)) ≤ own * (33280 + 4 * (keys + requests)) = mul-le-mul_left own (let e : 33280 + 4 * (keys + own) ≤ 33280 + 4 * (keys + requests) = omega arith in e) in
-    let b : came * (512 + 4 * (keys + puts + came)) ≤ came * (512 + 4 * (keys + requests)) = mul-le-mul_left came (let e : 512 + 4 * (keys + puts + came) ≤ 512 + 4 * (keys + requests) = omega arith in e) in
+    let a : own * (33280 + 4 * (keys + own)) ≤ own * (33280 + 4 * (keys + requests)) =
+    mul-le-mul_left own (let e : 33280 + 4 * (keys + own) ≤ 33280 + 4 * (keys + requests) = omega arith in e) in
+    let b : came * (512 + 4 * (keys + puts + came)) ≤ came * (512 + 4 * (keys + requests)) =
+    mul-le-mul_left came (let e : 512 + 4 * (keys + puts + came) ≤ 512 + 4 * (keys + requests) = omega arith in e) in
     omega arith
 
 -- what a seat's calls cost since it was opened
@@ -40,7 +42,8 @@ record SeatCosts (targets : ℕ) (mine : List Request) (came keys : ℕ) (t : Ca
   gives : t.view.gives ≤ most_gives * t.large_calls
   few : SpendsFew targets mine came keys t
 
-seat_costs : (targets : ℕ) (mine : List Request) (came keys : ℕ) (s t : CacheState) → IsUnused s → SpendsFew targets mine came keys t → GoesOn s t → SeatCosts targets mine came keys t
+seat_costs : (targets : ℕ) (mine : List Request) (came keys : ℕ) (s t : CacheState) → IsUnused s → SpendsFew targets mine came keys t
+    → GoesOn s t → SeatCosts targets mine came keys t
 seat_costs targets mine came keys s t unused few kept = record {
   draws = let costs = kept.1.draws in let a = unused.small in let b = unused.large in let c = unused.nothing.counts in omega arith;
   wins = let costs = kept.1.wins in let b = unused.large in let c = unused.nothing.counts in omega arith;
@@ -48,7 +51,8 @@ seat_costs targets mine came keys s t unused few kept = record {
   few = few;
 }
 
-module _ {words : List ℕ} {held : List Block} {workers budget : ℕ} {requests : List Request} {replies : Replies} {stopped : Bool} {now kept left : List ℕ}
+module _ {words : List ℕ} {held : List Block} {workers budget : ℕ} {requests : List Request} {replies : Replies} {stopped : Bool}
+    {now kept left : List ℕ}
     (h : HaveWorked words held workers budget requests replies stopped now kept left) where
   abbrev own : ℕ → ℕ
   own worker = length (worker_requests workers worker requests)
@@ -92,17 +96,20 @@ module _ {words : List ℕ} {held : List Block} {workers budget : ℕ} {requests
   came_few : (worker : ℕ) → worker < workers → puts_among (worker_requests workers worker requests) + came worker ≤ length requests
   came_few worker below =
       let all = came_all in
-      let one = sum_beside came (λ other. nat_eq other worker) worker 0 workers (omega arith) (omega arith) (eq-eqb worker worker refl) (λ i other. ne_eqb i worker other) in
+      let one = sum_beside came (λ other. nat_eq other worker) worker 0 workers (omega arith) (omega arith) (eq-eqb worker worker refl)
+      (λ i other. ne_eqb i worker other) in
       let puts = puts_within (is_of_worker workers worker) requests in
       let both = puts_and_moves requests in
       omega arith
 
   -- what the seats spent together
   module _ (keys : List ℕ) (lists : ListsKeysOf (slice_index words) keys) where
-    costs : (worker : ℕ) → worker < 0 + workers → SeatCosts (targets worker) (worker_requests workers worker requests) (came worker) (length keys) (h.last worker)
+    costs : (worker : ℕ) → worker < 0 + workers → SeatCosts (targets worker) (worker_requests workers worker requests) (came worker)
+        (length keys) (h.last worker)
     costs worker below =
         let part = h.parts worker (omega arith) in
-        seat_costs (targets worker) (worker_requests workers worker requests) (came worker) (length keys) (h.first worker) (h.last worker) part.unused (part.few keys lists) part.goes_on
+        seat_costs (targets worker) (worker_requests workers worker requests) (came worker) (length keys) (h.first worker)
+        (h.last worker) part.unused (part.few keys lists) part.goes_on
 
     draws_all : total (λ (v : View). v.draws) (all_views h)
         ≤ sum_over small_of 0 workers + most_draws * sum_over large_of 0 workers + 16 * sum_over losses_of 0 workers + 16 * sum_over moves_of 0 workers
@@ -135,14 +142,17 @@ module _ {words : List ℕ} {held : List Block} {workers budget : ℕ} {requests
 
     small_all : sum_over small_of 0 workers ≤ length requests * (34304 + 8 * (length keys + length requests))
     small_all =
-        let few = small_add small_of targets own came (33280 + 4 * (length keys + length requests)) (512 + 4 * (length keys + length requests)) 0 workers
-        (λ w low high. small_within (small_of w) (targets w) (own w) (came w) (puts_among (worker_requests workers w requests)) (length requests) (length keys)
+        let few = small_add small_of targets own came (33280 + 4 * (length keys + length requests))
+        (512 + 4 * (length keys + length requests)) 0 workers
+        (λ w low high. small_within (small_of w) (targets w) (own w) (came w) (puts_among (worker_requests workers w requests))
+        (length requests) (length keys)
         (requests_few workers w requests) (came_few w (omega arith)) (costs w high).few.small) in
         let tables = targets_all workers requests in
         let mine = requests_all workers requests h.some in
         let values = came_all in
         let moves = puts_and_moves requests in
-        small_bound (length requests) (length keys) (sum_over small_of 0 workers) (sum_over targets 0 workers) (sum_over own 0 workers) (sum_over came 0 workers)
+        small_bound (length requests) (length keys) (sum_over small_of 0 workers) (sum_over targets 0 workers) (sum_over own 0 workers)
+        (sum_over came 0 workers)
         (omega arith) (omega arith) (omega arith) few
 
     pub drawn_few : total (λ (v : View). v.draws) (all_views h) ≤ step_bound (length requests) (length keys) workers

@@ -17,11 +17,13 @@ pub count_one : (tests : ℕ → Bool) (whole : Bool) (owner workers : ℕ) → 
     → sum_over (λ w. cond (tests w) 1 0) 0 workers ≤ cond whole 1 0
 count_one tests whole owner workers only = elim (cases_lt owner workers) as (λ _. sum_over (λ w. cond (tests w) 1 0) 0 workers ≤ cond whole 1 0) [
   | inl below ↦
-      let one = sum_one (λ w. cond (tests w) 1 0) owner 0 workers (omega arith) (omega arith) (λ w other. ap (λ b. cond b 1 0) (false_from_ne_true (tests w) (λ is. other (sym (only w is).1)))) in
+      let one = sum_one (λ w. cond (tests w) 1 0) owner 0 workers (omega arith) (omega arith)
+      (λ w other. ap (λ b. cond b 1 0) (false_from_ne_true (tests w) (λ is. other (sym (only w is).1)))) in
       let here = least (tests owner) whole (λ is. (only owner is).0) in
       omega arith
   | inr above ↦
-      let none = sum_none (λ w. cond (tests w) 1 0) 0 workers (λ w low high. ap (λ b. cond b 1 0) (false_from_ne_true (tests w) (λ is. let e = (only w is).1 in omega arith))) in
+      let none = sum_none (λ w. cond (tests w) 1 0) 0 workers (λ w low high. ap (λ b. cond b 1 0)
+      (false_from_ne_true (tests w) (λ is. let e = (only w is).1 in omega arith))) in
       omega arith
 ]
   where
@@ -63,9 +65,11 @@ requests_all workers (request ∷ requests) some =
     (λ w other. ap (λ b. cond b 1 0) (ne_eqb owner w (λ e. other (sym e)))) in
     let is : cond {A = ℕ} (is_of_worker workers owner request) 1 0 ≡ 1 = ap (λ b. cond {A = ℕ} b 1 0) (own_request workers owner request refl) in
     let rest = requests_all workers requests some in
-    let less = sum_within (λ w. length (worker_requests workers w (request ∷ requests))) (λ w. cond (is_of_worker workers w request) 1 0 + length (worker_requests workers w requests)) 0 workers
+    let less = sum_within (λ w. length (worker_requests workers w (request ∷ requests)))
+    (λ w. cond (is_of_worker workers w request) 1 0 + length (worker_requests workers w requests)) 0 workers
     (λ w low high. let e = longer (is_of_worker workers w request) (worker_requests workers w requests) in omega arith) in
-    let more = sum_within (λ w. cond (is_of_worker workers w request) 1 0 + length (worker_requests workers w requests)) (λ w. length (worker_requests workers w (request ∷ requests))) 0 workers
+    let more = sum_within (λ w. cond (is_of_worker workers w request) 1 0 + length (worker_requests workers w requests))
+    (λ w. length (worker_requests workers w (request ∷ requests))) 0 workers
     (λ w low high. let e = longer (is_of_worker workers w request) (worker_requests workers w requests) in omega arith) in
     let parts = sum_both (λ w. cond (is_of_worker workers w request) 1 0) (λ w. length (worker_requests workers w requests)) 0 workers in
     omega arith
@@ -78,12 +82,18 @@ requests_all workers (request ∷ requests) some =
 pub tables_all : (workers : ℕ) (requests : List Request)
     → sum_by (λ worker. worker_tables workers worker requests) (worker_numbers workers) ≤ tables_needed requests
 tables_all workers requests =
-    count_parts (λ w shard. nat_eq (worker_of workers shard) w && is_brought_to requests shard) (is_brought_to requests) (worker_of workers) workers (words_from (λ i. i) 0 shards)
-    (λ w shard is. let both = and_parts (nat_eq (worker_of workers shard) w) (is_brought_to requests shard) is in (both.1, eqb-true (worker_of workers shard) w both.0))
+    count_parts (λ w shard. nat_eq (worker_of workers shard) w && is_brought_to requests shard) (is_brought_to requests)
+    (worker_of workers) workers (words_from (λ i. i) 0 shards)
+    (λ w shard is. let both = and_parts (nat_eq (worker_of workers shard) w) (is_brought_to requests shard) is in
+    (both.1, eqb-true (worker_of workers shard) w both.0))
 
 -- a worker has no more requests than the trace
 pub requests_few : (workers worker : ℕ) (requests : List Request) → length (worker_requests workers worker requests) ≤ length requests
-requests_few workers worker requests = omega (arith, length-filter (is_of_worker workers worker) requests, count_by-le-length (is_of_worker workers worker) requests)
+requests_few workers worker requests = omega (
+  arith,
+  length-filter (is_of_worker workers worker) requests,
+  count_by-le-length (is_of_worker workers worker) requests,
+)
 
 -- where each worker has answered all that is its own, all is answered
 pub all_answered : (workers : ℕ) (requests : List Request) (replies : Replies) → 1 ≤ workers
@@ -93,7 +103,8 @@ all_answered workers (request ∷ requests) [] some each =
     let owner = worker_of workers (shard_asked request) in
     let own = worker_requests workers owner requests in
     let left : request ∷ unanswered own [] ≡ [] =
-    subst (λ (b : Bool). unanswered (cond b (request ∷ own) own) [] ≡ []) (own_request workers owner request refl) (each owner (worker_below workers (shard_asked request) some)) in
+    subst (λ (b : Bool). unanswered (cond b (request ∷ own) own) [] ≡ []) (own_request workers owner request refl)
+    (each owner (worker_below workers (shard_asked request) some)) in
     absurd (cc)
 all_answered workers (request ∷ requests) (None ∷ replies) some each =
     let owner = worker_of workers (shard_asked request) in
@@ -124,7 +135,8 @@ answered_padded [] (reply ∷ told) more = refl
 answered_padded (request ∷ requests) (None ∷ told) more = answered_padded requests told more
 answered_padded (request ∷ requests) (Some reply ∷ told) more = ap (λ rs. (request, reply) ∷ rs) (answered_padded requests told more)
 
-pub unanswered_padded : (requests : List Request) (told : Replies) (more : ℕ) → unanswered requests (told ++ replicate more None) ≡ unanswered requests told
+pub unanswered_padded : (requests : List Request) (told : Replies) (more : ℕ)
+    → unanswered requests (told ++ replicate more None) ≡ unanswered requests told
 unanswered_padded requests [] more = unanswered_end requests more where
   unanswered_end : (qs : List Request) (n : ℕ) → unanswered qs (replicate n None) ≡ unanswered qs []
   unanswered_end [] n = refl

@@ -25,7 +25,8 @@ state_left : (stopped : Bool) (now kept left : List ℕ) → IsLeftOf stopped no
 state_left false now kept left is = is.state
 state_left true now kept left is = is.state
 
-module _ (words : List ℕ) (held : List Block) (workers budget : ℕ) (requests : List Request) (replies : Replies) (stopped : Bool) (now kept left : List ℕ)
+module _ (words : List ℕ) (held : List Block) (workers budget : ℕ) (requests : List Request) (replies : Replies) (stopped : Bool)
+    (now kept left : List ℕ)
     (h : HaveWorked words held workers budget requests replies stopped now kept left) where
   set_up : (h.last 0).view.setup ≡ setup_of words budget workers
   set_up = (h.closed.sound.good.set_up 0 (h.last 0).view (below_count h 0 h.some) (view_at h 0 (h.last 0).view h.some)).setup
@@ -37,7 +38,8 @@ module _ (words : List ℕ) (held : List Block) (workers budget : ℕ) (requests
   good : header_fault (Some kind_count) (8 * image_words (capacity_of (slice_index words))) (slice_index left) ≡ None
   good = subst (λ (k : Setup). IsWellFormed (8 * length k.opened) (slice_index k.opened) → HasKindsBelow (Some kind_count) (slice_index k.opened)
       → header_fault (Some kind_count) (8 * image_words k.capacity) (slice_index left) ≡ None) set_up
-      (λ formed kinds. left_good (h.last 0).view (slice_index left) (may_be_left words held workers budget requests replies stopped now kept left h 0 h.some) formed (Some kind_count) kinds)
+      (λ formed kinds. left_good (h.last 0).view (slice_index left) (may_be_left words held workers budget requests replies stopped now kept
+      left h 0 h.some) formed (Some kind_count) kinds)
       h.ready.formed h.dictionary.maps.kinds
 
   same_capacity : capacity_of (slice_index left) ≡ capacity_of (slice_index words)
@@ -49,8 +51,10 @@ module _ (words : List ℕ) (held : List Block) (workers budget : ℕ) (requests
         (let whole = h.ready.formed.length_is in let long = h.left_long in omega arith) good;
     version_is = fixed.each version_word (inl (omega arith)) (λ e. omega (arith, e)) ∙ h.ready.formed.version_is;
     capacity = same_capacity;
-    kinds = λ root below. subst (λ n. slice_index left (kind_word n root) ≡ slice_index words (kind_word (capacity_of (slice_index words)) root)) (sym same_capacity)
-        (fixed.each (kind_word (capacity_of (slice_index words)) root) (inr (inr (record { from = omega arith; until = omega arith }))) (λ e. omega (arith, e)));
+    kinds = λ root below. subst (λ n. slice_index left (kind_word n root) ≡ slice_index words
+        (kind_word (capacity_of (slice_index words)) root)) (sym same_capacity)
+        (fixed.each (kind_word (capacity_of (slice_index words)) root) (inr (inr (record { from = omega arith; until = omega arith })))
+        (λ e. omega (arith, e)));
     without_meaning = λ word reserved. fixed.each word (inr (inl reserved)) (not_state (capacity_of (slice_index words)) word reserved);
   }
 

@@ -30,7 +30,8 @@ takes_on (r ∷ rs) s t takes = goes_then s takes.0 t takes.1.keeps_it (takes_on
 -- and so does what is done behind the last of them
 settled_on : (left : List Request) (later : List Sent) (halted after : Bool) (s t : CacheState) → SettlesBehind left later halted after s t → GoesOn s t
 settled_on left later true after s t settles = let same = settles.left_as_is refl in subst (GoesOn s) (sym same.1) settles.goes_on
-settled_on left later false after s t settles = goes_then s settles.worked t settles.goes_on (settled_costs settles.before after settles.worked t (settles.settled refl)).goes_on
+settled_on left later false after s t settles = goes_then s settles.worked t settles.goes_on
+    (settled_costs settles.before after settles.worked t (settles.settled refl)).goes_on
 
 -- what lies between two states lies between such that come before and behind
 taken_on : (q : Request) (r : Reply) (s from to t : CacheState) → GoesOn s from → GoesOn to t → WasTakenIn q r from to → WasTakenIn q r s t
@@ -57,9 +58,11 @@ taken_in q r (first ∷ rs) s t takes has = elim (head_or_rest first (q, r) rs h
   | inr later ↦ taken_on q r s takes.0 t t takes.1.keeps_it (goes_none t) (taken_in q r rs takes.0 t takes.2 later)
 ]
 
-module _ (words : List ℕ) (held : List Block) (workers budget : ℕ) (requests : List Request) (replies : Replies) (stopped : Bool) (now kept left : List ℕ)
+module _ (words : List ℕ) (held : List Block) (workers budget : ℕ) (requests : List Request) (replies : Replies) (stopped : Bool)
+    (now kept left : List ℕ)
     (h : HaveWorked words held workers budget requests replies stopped now kept left) where
-  pub each_held_once : (state : List ℕ) (views : List View) → IsReached (setup_for (opening_for words held h.owners workers budget)) (state_of (opening_for words held h.owners workers budget)) state views
+  pub each_held_once : (state : List ℕ) (views : List View) → IsReached (setup_for (opening_for words held h.owners workers budget))
+      (state_of (opening_for words held h.owners workers budget)) state views
       → AreHeldOnce (setup_for (opening_for words held h.owners workers budget)).capacity views
   each_held_once state views reached =
       held_once (setup_for (opening_for words held h.owners workers budget)) state views
@@ -107,6 +110,7 @@ module _ (words : List ℕ) (held : List Block) (workers budget : ℕ) (requests
       → WasTakenIn request reply (h.first worker) (h.last worker)
   brought_value worker request reply below = brought worker below request reply
 
-  pub refused_put : (worker key : ℕ) (value : List ℕ) → worker < workers → Contains (answered (worker_requests workers worker requests) (h.told worker)) (put key value, full)
+  pub refused_put : (worker key : ℕ) (value : List ℕ) → worker < workers
+      → Contains (answered (worker_requests workers worker requests) (h.told worker)) (put key value, full)
       → WasTurnedDownIn (put key value) (h.first worker) (h.last worker)
   refused_put worker key value below = refused worker below key value

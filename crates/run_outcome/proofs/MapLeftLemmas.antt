@@ -1,4 +1,5 @@
--- The maps that the image that is left has: each shard's is that after its answered requests and what its worker has brought in or, where that was stopped in a request to it, the one after that too.
+-- The maps that the image that is left has: each shard's is that after its answered requests and what its worker has
+-- brought in or, where that was stopped in a request to it, the one after that too.
 use Rattle.std.proofs.Common.{◌≡◌, ℕ, ◌<◌, ◌≤◌, ◌⊎◌, inl, inr, List, ◌++◌, length, take, slice_index, Contains, subst, sym, ap, ◌∙◌, arith}
 use Rattle.std.specs.Prelude.{Bool}
 use Rattle.std.proofs.lemmas.Bool.{cases_eq, cases_lt}
@@ -37,17 +38,20 @@ module _ (Fits : ℕ → ℕ → Type 0) (count : ℕ) (each : (i : ℕ) → i <
   one_function : (f : ℕ → ℕ) × ((i : ℕ) → i < count → Fits i (f i))
   one_function = (λ i. fitting i (cases_lt i count), λ i below. fits i below (cases_lt i count))
 
-module _ (words : List ℕ) (held : List Block) (workers budget : ℕ) (requests : List Request) (replies : Replies) (stopped : Bool) (now kept left : List ℕ)
+module _ (words : List ℕ) (held : List Block) (workers budget : ℕ) (requests : List Request) (replies : Replies) (stopped : Bool)
+    (now kept left : List ℕ)
     (h : HaveWorked words held workers budget requests replies stopped now kept left) where
   -- a map in the words of a worker's seat is the shard's map
-  map_left : (i shard : ℕ) (m : Map) → i < workers → shard < shards → IsMapIn (heap_view (h.last i)) (slice_index left) shard m → MapOf (slice_index left) shard m
+  map_left : (i shard : ℕ) (m : Map) → i < workers → shard < shards → IsMapIn (heap_view (h.last i)) (slice_index left) shard m
+      → MapOf (slice_index left) shard m
   map_left i shard m below small has =
       let seats = λ (i : ℕ). heap_view (h.last i) in
       let shared = share words held workers budget requests replies stopped now kept left h in
       let mixed = mixes words held workers budget requests replies stopped now kept left h in
       let stands = stands_last words held workers budget requests replies stopped now kept left h i below in
       let root_is = sym (stands.kinds.each shard (omega arith)) ∙ (h.dictionary.maps.each shard small).1.kind_is in
-      walk_alone workers seats (slice_index left) shared mixed shard m small (image_kind workers seats (slice_index left) shared mixed i shard table_kind below small root_is)
+      walk_alone workers seats (slice_index left) shared mixed shard m small
+      (image_kind workers seats (slice_index left) shared mixed i shard table_kind below small root_is)
       (walk_of (seats i) (slice_index left) shard m (mixed.names i below) has)
 
   -- a worker has a shard or not
@@ -61,7 +65,8 @@ module _ (words : List ℕ) (held : List Block) (workers budget : ℕ) (requests
 
   -- so many have arrived of what came to the worker
   abbrev HasCome : ℕ → ℕ → Type 0
-  HasCome i = HaveCome (slice_index words) (slice_index left) (worker_answered workers i requests replies) (worker_unanswered workers i requests replies)
+  HasCome i = HaveCome (slice_index words) (slice_index left) (worker_answered workers i requests replies)
+      (worker_unanswered workers i requests replies)
       (h.came i) stopped (heap_view (h.last i))
 
   has_come : (i : ℕ) → i < workers → (n : ℕ) × HasCome i n
@@ -71,8 +76,10 @@ module _ (words : List ℕ) (held : List Block) (workers budget : ℕ) (requests
       let final = worker_replies workers i requests replies in
       let image = slice_index words in
       let last = heap_view (h.last i) in
-      let come = have_come image mine (h.told i) (h.came i) (h.brought i) h.halted (h.stops i) stopped last part.ended (λ stop. h.stopped_by.1 (i, below, stop)) h.halts h.dictionary.maps
-      (owned_before image mine (h.told i) final (h.padded i below) (h.came i) (h.brought i) h.halted (h.stops i) last part.ended) (owns i below) (slice_index left)
+      let come = have_come image mine (h.told i) (h.came i) (h.brought i) h.halted (h.stops i) stopped last part.ended
+      (λ stop. h.stopped_by.1 (i, below, stop)) h.halts h.dictionary.maps
+      (owned_before image mine (h.told i) final (h.padded i below) (h.came i) (h.brought i) h.halted (h.stops i) last part.ended) (owns i below)
+      (slice_index left)
       ((mixes words held workers budget requests replies stopped now kept left h).mixes i below) (λ shard m small. map_left i shard m below small) in (
         come.0,
         subst (λ rs. HaveCome image (slice_index left) rs (worker_unanswered workers i requests replies) (h.came i) stopped last come.0)
@@ -86,7 +93,8 @@ module _ (words : List ℕ) (held : List Block) (workers budget : ℕ) (requests
   have_arrived = one_function HasCome workers has_come
 
   -- what came to a worker is what arrives there
-  came_arrive : (i : ℕ) → i < workers → (whole : Map) → IsWholeMap (slice_index words) whole → puts_of (h.came i) ≡ worker_arrivals workers i whole (answered requests replies)
+  came_arrive : (i : ℕ) → i < workers → (whole : Map) → IsWholeMap (slice_index words) whole
+      → puts_of (h.came i) ≡ worker_arrivals workers i whole (answered requests replies)
   came_arrive i below whole is = ap puts_of (h.came_are whole is i below) ∙ all_come workers i whole requests replies
 
   -- what is left of each shard
@@ -98,7 +106,8 @@ module _ (words : List ℕ) (held : List Block) (workers budget : ℕ) (requests
           let i = worker_of workers shard in
           let below = worker_below words held workers budget requests replies stopped now kept left h shard in
           (have_arrived.1 i below).every going ∙ sym (length-map (h.came i) put_of) ∙ ap length (came_arrive i below whole is);
-      none = λ shard small some. (have_arrived.1 (worker_of workers shard) (worker_below words held workers budget requests replies stopped now kept left h shard)).none some;
+      none = λ shard small some. (have_arrived.1 (worker_of workers shard)
+          (worker_below words held workers budget requests replies stopped now kept left h shard)).none some;
     };
     each = λ whole is_whole shard map small of.
         let i = worker_of workers shard in
@@ -109,7 +118,8 @@ module _ (words : List ℕ) (held : List Block) (workers budget : ℕ) (requests
         subst (λ xs. IsMapLeft (slice_index left) shard (after map xs) stopped (worker_unanswered workers i requests replies))
         (filter-append (λ r. is_to shard r.0) mine came ∙ ap (λ xs. xs ++ of_shard shard came) (sym (of_its_worker workers shard requests replies))
         ∙ sym (filter-append (λ r. is_to shard r.0) rs came))
-        (subst (λ xs. IsMapLeft (slice_index left) shard (after map (of_shard shard (mine ++ take (have_arrived.0 i) xs))) stopped (worker_unanswered workers i requests replies))
+        (subst (λ xs. IsMapLeft (slice_index left) shard (after map (of_shard shard (mine ++ take (have_arrived.0 i) xs))) stopped
+        (worker_unanswered workers i requests replies))
         (came_arrive i below whole is_whole)
         ((have_arrived.1 i below).each shard map small (owns_shard words held workers budget requests replies stopped now kept left h shard small) of));
   }

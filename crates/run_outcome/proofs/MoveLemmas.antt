@@ -19,10 +19,14 @@ use Rattle.run_outcome.proofs.CountLemmas.{count_one, count_parts}
 -- puts and moves are requests, and a part of a trace has no more puts
 pub puts_and_moves : (qs : List Request) → puts_among qs + moves_among qs ≤ length qs
 puts_and_moves [] = let all : 0 + 0 ≤ 0 = omega arith in all
-puts_and_moves (put key value ∷ qs) = let rest = puts_and_moves qs in let all : 1 + puts_among qs + moves_among qs ≤ 1 + length qs = omega arith in omega (arith, all)
-puts_and_moves (get key ∷ qs) = let rest = puts_and_moves qs in let all : puts_among qs + moves_among qs ≤ 1 + length qs = omega arith in omega (arith, all)
-puts_and_moves (del key ∷ qs) = let rest = puts_and_moves qs in let all : puts_among qs + moves_among qs ≤ 1 + length qs = omega arith in omega (arith, all)
-puts_and_moves (move key to ∷ qs) = let rest = puts_and_moves qs in let all : puts_among qs + (1 + moves_among qs) ≤ 1 + length qs = omega arith in omega (arith, all)
+puts_and_moves (put key value ∷ qs) = let rest = puts_and_moves qs in
+    let all : 1 + puts_among qs + moves_among qs ≤ 1 + length qs = omega arith in omega (arith, all)
+puts_and_moves (get key ∷ qs) = let rest = puts_and_moves qs in let all : puts_among qs + moves_among qs ≤ 1 + length qs = omega arith in
+    omega (arith, all)
+puts_and_moves (del key ∷ qs) = let rest = puts_and_moves qs in let all : puts_among qs + moves_among qs ≤ 1 + length qs = omega arith in
+    omega (arith, all)
+puts_and_moves (move key to ∷ qs) = let rest = puts_and_moves qs in
+    let all : puts_among qs + (1 + moves_among qs) ≤ 1 + length qs = omega arith in omega (arith, all)
 
 first_put : (q : Request) (qs : List Request) → puts_among (q ∷ qs) ≡ puts_among (q ∷ []) + puts_among qs
 first_put (put key value) qs = let all : 1 + puts_among qs ≡ 1 + 0 + puts_among qs = omega arith in all
@@ -74,10 +78,13 @@ targets_few (move key to ∷ qs) =
     let all : count_by (is_moved_to (move key to ∷ qs)) (words_from (λ i. i) 0 shards) ≤ 1 + moves_among qs = omega arith in all
 
 -- of which each is one worker's
-pub targets_all : (workers : ℕ) (requests : List Request) → sum_by (λ worker. targets_of workers worker requests) (worker_numbers workers) ≤ moves_among requests
+pub targets_all : (workers : ℕ) (requests : List Request) → sum_by (λ worker. targets_of workers worker requests)
+    (worker_numbers workers) ≤ moves_among requests
 targets_all workers requests =
-    let all = count_parts (λ w shard. nat_eq (worker_of workers shard) w && is_moved_to requests shard) (is_moved_to requests) (worker_of workers) workers (words_from (λ i. i) 0 shards)
-    (λ w shard is. let both = and_parts (nat_eq (worker_of workers shard) w) (is_moved_to requests shard) is in (both.1, eqb-true (worker_of workers shard) w both.0)) in
+    let all = count_parts (λ w shard. nat_eq (worker_of workers shard) w && is_moved_to requests shard) (is_moved_to requests)
+    (worker_of workers) workers (words_from (λ i. i) 0 shards)
+    (λ w shard is. let both = and_parts (nat_eq (worker_of workers shard) w) (is_moved_to requests shard) is in
+    (both.1, eqb-true (worker_of workers shard) w both.0)) in
     let few = targets_few requests in
     omega arith
 
@@ -86,11 +93,13 @@ way_short : (o : Option (List ℕ)) (number key : ℕ) → length (on_its_way o 
 way_short None number key = let all : 0 ≤ 1 = omega arith in all
 way_short (Some value) number key = let all : 1 ≤ 1 = omega arith in all
 
-sends_few : (map : Map) (number : ℕ) (q : Request) (a : Reply) (qs : List Request) → length (sends map number q a) + moves_among qs ≤ moves_among (q ∷ qs)
+sends_few : (map : Map) (number : ℕ) (q : Request) (a : Reply) (qs : List Request)
+    → length (sends map number q a) + moves_among qs ≤ moves_among (q ∷ qs)
 sends_few map number (put key value) a qs = let all : 0 + moves_among qs ≤ moves_among qs = omega arith in all
 sends_few map number (get key) a qs = let all : 0 + moves_among qs ≤ moves_among qs = omega arith in all
 sends_few map number (del key) a qs = let all : 0 + moves_among qs ≤ moves_among qs = omega arith in all
-sends_few map number (move key to) done qs = let short = way_short (map key) number to in let all : length (on_its_way (map key) number to) + moves_among qs ≤ 1 + moves_among qs = omega arith in all
+sends_few map number (move key to) done qs = let short = way_short (map key) number to in
+    let all : length (on_its_way (map key) number to) + moves_among qs ≤ 1 + moves_among qs = omega arith in all
 sends_few map number (move key to) full qs = let all : 0 + moves_among qs ≤ 1 + moves_among qs = omega arith in all
 sends_few map number (move key to) none qs = let all : 0 + moves_among qs ≤ 1 + moves_among qs = omega arith in all
 sends_few map number (move key to) (found value) qs = let all : 0 + moves_among qs ≤ 1 + moves_among qs = omega arith in all
@@ -118,7 +127,8 @@ coming_all workers whole requests replies =
     let to : ℕ → Sent → Bool = λ w s. nat_eq (worker_of workers (shard_of s.key)) w in
     let each = sum_within (λ w. length (coming workers w whole requests replies)) (λ w. count_by (to w) sent) 0 workers
     (λ w low high. let e = length-filter (to w) sent in omega arith) in
-    let all = count_parts to (λ s. true) (λ s. worker_of workers (shard_of s.key)) workers sent (λ w s is. (refl, eqb-true (worker_of workers (shard_of s.key)) w is)) in
+    let all = count_parts to (λ s. true) (λ s. worker_of workers (shard_of s.key)) workers sent
+    (λ w s is. (refl, eqb-true (worker_of workers (shard_of s.key)) w is)) in
     let long = every sent in
     let few = sent_few whole 0 requests replies in
     omega arith

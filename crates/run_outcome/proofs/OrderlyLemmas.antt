@@ -39,7 +39,8 @@ use Rattle.run_outcome.proofs.ShareLemmas.{has_state, mixes, share}
 use Rattle.run_outcome.proofs.WorkerLemmas.{all_views, below_count, is_seat, view_at}
 
 -- a close leaves each own word as the seat sees it
-seen_left : (s : CacheState) (left : Image) → IsCloseOf s.view left → (word value : ℕ) → IsOwn (heap_view s).held (heap_view s).roots word → (heap_view s).volatile word ≡ Some value → left word ≡ value
+seen_left : (s : CacheState) (left : Image) → IsCloseOf s.view left → (word value : ℕ) → IsOwn (heap_view s).held (heap_view s).roots word
+    → (heap_view s).volatile word ≡ Some value → left word ≡ value
 seen_left s left is word value own seen = let has = owns_held s.view word (own_held s word own) in
     (close_volatile s.view left is).each word has value (at_cell s.view word has s.view.volatile ∙ seen)
 
@@ -90,14 +91,16 @@ module _ (words : List ℕ) (held : List Block) (workers budget : ℕ) (requests
   }
 
   closed_of : (i : ℕ) → i < workers → IsCloseOf (h.last i).view (slice_index left)
-  closed_of i below = closes k now kept (all_views h) h.closed (slice_index left) h.left_is i (h.last i).view (below_count h i below) (view_at h i (h.last i).view below) (is_seat h i below)
+  closed_of i below = closes k now kept (all_views h) h.closed (slice_index left) h.left_is i (h.last i).view (below_count h i below)
+      (view_at h i (h.last i).view below) (is_seat h i below)
 
   seats : MixesSeats workers (λ i. heap_view (h.last i)) (slice_index left)
   seats = mixes words held workers budget requests replies false now kept left h
 
   -- what loads of a seat see reached, the roots of the image reach
   module _ (i : ℕ) (below : i < workers) where
-    leads_left : (at value : ℕ) (b : Block) → IsOwn (heap_view (h.last i)).held (heap_view (h.last i)).roots at → (heap_view (h.last i)).volatile at ≡ Some value
+    leads_left : (at value : ℕ) (b : Block) → IsOwn (heap_view (h.last i)).held (heap_view (h.last i)).roots at
+        → (heap_view (h.last i)).volatile at ≡ Some value
         → LeadsTo (Contains (heap_view (h.last i)).held) value b → Leads (slice_index left) (slice_index left at) b
     leads_left at value b own seen leads =
         subst (λ w. Leads (slice_index left) w b) (sym (seen_left (h.last i) (slice_index left) (closed_of i below) at value own seen))
@@ -117,7 +120,9 @@ module _ (words : List ℕ) (held : List Block) (workers budget : ℕ) (requests
         (λ a b from kind reached has link. by_link a b from kind has (record {
           position = link.position;
           listed = block_lists (slice_index left) a from link.position kind link.is_link;
-          leads = leads_left (a.first_word + link.position) link.value b (link_own (heap_view (h.last i)) a from link.position kind (sees_held (heap_view (h.last i)) root a from reached) link.is_link) link.read link.leads;
+          leads = leads_left (a.first_word + link.position) link.value b
+              (link_own (heap_view (h.last i)) a from link.position kind (sees_held (heap_view (h.last i)) root a from reached) link.is_link)
+              link.read link.leads;
         }))
 
   reached : (b : Block) → IsHeldBy (all_views h) b → IsReachedIn (slice_index left) dict_links b
@@ -128,18 +133,22 @@ module _ (words : List ℕ) (held : List Block) (workers budget : ℕ) (requests
 
   holds : (b : Block) → IsReachedIn (slice_index left) dict_links b → IsHeldBy (all_views h) b
   holds b is =
-      let by = reached_by workers (λ i. heap_view (h.last i)) (slice_index left) (share words held workers budget requests replies false now kept left h) seats AnyRoot b is.kind is.reach in
+      let by = reached_by workers (λ i. heap_view (h.last i)) (slice_index left)
+      (share words held workers budget requests replies false now kept left h) seats AnyRoot b is.kind is.reach in
       of_seat by.seat b by.below (reached_held (heap_view (h.last by.seat)) by.root b is.kind by.reached)
 
   orderly : IsOrderly (Some kind_count) (8 * length left) (slice_index left)
-  orderly = subst (λ bytes. IsOrderly (Some kind_count) bytes (slice_index left)) (let whole = h.ready.formed.length_is in let long = h.left_long in omega arith)
-      (closed_is_orderly k now kept (all_views h) h.closed all_keep_none h.ready.formed (Some kind_count) h.dictionary.maps.kinds (slice_index left) h.left_is)
+  orderly = subst (λ bytes. IsOrderly (Some kind_count) bytes (slice_index left)) (let whole = h.ready.formed.length_is in
+      let long = h.left_long in omega arith)
+      (closed_is_orderly k now kept (all_views h) h.closed all_keep_none h.ready.formed (Some kind_count) h.dictionary.maps.kinds
+      (slice_index left) h.left_is)
 
   exact : (b : Block) → IsHeldByAnchors (slice_index left) b ↔ IsReachedIn (slice_index left) dict_links b
   exact b = let alike = closed_holds k now kept (all_views h) h.closed all_keep_none (slice_index left) h.left_is b in
       (λ anchored. reached b (alike.0 anchored), λ is. alike.1 (holds b is))
 
-module _ (words : List ℕ) (held : List Block) (workers budget : ℕ) (requests : List Request) (replies : Replies) (stopped : Bool) (now kept left : List ℕ)
+module _ (words : List ℕ) (held : List Block) (workers budget : ℕ) (requests : List Request) (replies : Replies) (stopped : Bool)
+    (now kept left : List ℕ)
     (h : HaveWorked words held workers budget requests replies stopped now kept left) where
   -- the same run, of which it is known that it wasn't stopped
   went_on : stopped ≡ false → HaveWorked words held workers budget requests replies false now kept left

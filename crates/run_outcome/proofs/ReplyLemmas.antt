@@ -37,9 +37,11 @@ in_order : (rs : List (Request × Reply)) (left : List Request) → AnswersInOrd
 in_order rs left =
     let is = filled_is rs left in
     record {
-      first = ap (λ zs. map (λ r. r.0) zs ++ left) (sym is.0) ∙ ap (λ zs. map (λ r. r.0) (answered (map (λ r. r.0) rs ++ left) (filled rs left)) ++ zs) (sym is.1);
+      first = ap (λ zs. map (λ r. r.0) zs ++ left) (sym is.0) ∙ ap (λ zs. map (λ r. r.0)
+          (answered (map (λ r. r.0) rs ++ left) (filled rs left)) ++ zs) (sym is.1);
       then_none = ap (λ zs. map (λ r. Some r.1) zs ++ replicate (length left) None) (sym is.0)
-          ∙ ap (λ (zs : List Request). map (λ r. Some r.1) (answered (map (λ r. r.0) rs ++ left) (filled rs left)) ++ replicate (length zs) None) (sym is.1);
+          ∙ ap (λ (zs : List Request). map (λ r. Some r.1) (answered (map (λ r. r.0) rs ++ left) (filled rs left)) ++ replicate
+          (length zs) None) (sym is.1);
     }
 
 -- the first of right replies are right
@@ -58,11 +60,13 @@ module _ (image : Image) (requests : List Request) (told final : Replies) (final
       let d = length-map ended.rs (λ r. r.0) in
       let e = length-map ended.rs (λ r. Some r.1) in
       let rest : length requests - length told ≡ length ended.left = omega arith in
-      final_is ∙ ap (λ xs. xs ++ replicate (length requests - length told) None) ended.replies_are ∙ ap (λ n. map (λ r. Some r.1) ended.rs ++ replicate n None) rest
+      final_is ∙ ap (λ xs. xs ++ replicate (length requests - length told) None) ended.replies_are
+      ∙ ap (λ n. map (λ r. Some r.1) ended.rs ++ replicate n None) rest
 
   both : (answered requests final ≡ ended.rs) × (unanswered requests final ≡ ended.left)
   both = subst (λ xs. (answered xs final ≡ ended.rs) × (unanswered xs final ≡ ended.left)) (sym ended.requests_are)
-      (subst (λ rs. (answered (map (λ r. r.0) ended.rs ++ ended.left) rs ≡ ended.rs) × (unanswered (map (λ r. r.0) ended.rs ++ ended.left) rs ≡ ended.left)) (sym are_filled)
+      (subst (λ rs. (answered (map (λ r. r.0) ended.rs ++ ended.left) rs ≡ ended.rs)
+      × (unanswered (map (λ r. r.0) ended.rs ++ ended.left) rs ≡ ended.left)) (sym are_filled)
       (filled_is ended.rs ended.left))
 
   pub ended_answered : answered requests final ≡ ended.rs
@@ -85,18 +89,22 @@ module _ (image : Image) (requests : List Request) (told final : Replies) (final
     by_end (in_arrival begun stop none_left next others is may) = subst (λ (roots : List ℕ). Contains roots root) may.others.roots owned
 
   -- the replies to a shard that the seat owns are right for its map
-  ended_replies : (shard : ℕ) (m : Map) → shard < shards → Contains v.roots shard → MapOf image shard m → AreReplies m (of_shard shard (answered requests final))
+  ended_replies : (shard : ℕ) (m : Map) → shard < shards → Contains v.roots shard → MapOf image shard m
+      → AreReplies m (of_shard shard (answered requests final))
   ended_replies shard m small owned is =
       subst (λ rs. AreReplies m (of_shard shard rs)) (sym ended_answered)
       (first_right m (of_shard shard ended.rs) (of_shard shard (puts_of brought))
-      (subst (AreReplies m) (filter-append (λ r. is_to shard r.0) ended.rs (puts_of brought)) (ended.answered.right shard m small (owned_before shard owned) is)))
+      (subst (AreReplies m) (filter-append (λ r. is_to shard r.0) ended.rs (puts_of brought))
+      (ended.answered.right shard m small (owned_before shard owned) is)))
 
-module _ (words : List ℕ) (held : List Block) (workers budget : ℕ) (requests : List Request) (replies : Replies) (stopped : Bool) (now kept left : List ℕ)
+module _ (words : List ℕ) (held : List Block) (workers budget : ℕ) (requests : List Request) (replies : Replies) (stopped : Bool)
+    (now kept left : List ℕ)
     (h : HaveWorked words held workers budget requests replies stopped now kept left) where
   pub answer_in_order : AnswerInOrder workers requests replies
   answer_in_order = record {
     long = h.long;
-    each = λ worker below. ended_in_order (slice_index words) (worker_requests workers worker requests) (h.told worker) (worker_replies workers worker requests replies) (h.padded worker below)
+    each = λ worker below. ended_in_order (slice_index words) (worker_requests workers worker requests) (h.told worker)
+        (worker_replies workers worker requests replies) (h.padded worker below)
         (h.came worker) (h.brought worker) h.halted (h.stops worker) (heap_view (h.last worker)) (h.parts worker below).ended;
   }
 
@@ -106,7 +114,8 @@ module _ (words : List ℕ) (held : List Block) (workers budget : ℕ) (requests
         let worker = worker_of workers shard in
         let below = worker_below words held workers budget requests replies stopped now kept left h shard in
         subst (AreReplies m) (sym (of_its_worker workers shard requests replies))
-        (ended_replies (slice_index words) (worker_requests workers worker requests) (h.told worker) (worker_replies workers worker requests replies) (h.padded worker below)
+        (ended_replies (slice_index words) (worker_requests workers worker requests) (h.told worker)
+        (worker_replies workers worker requests replies) (h.padded worker below)
         (h.came worker) (h.brought worker) h.halted (h.stops worker) (heap_view (h.last worker)) (h.parts worker below).ended shard m small
         (owns_shard words held workers budget requests replies stopped now kept left h shard small) is);
   }

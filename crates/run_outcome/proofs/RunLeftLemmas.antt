@@ -25,19 +25,29 @@ use Rattle.run_outcome.proofs.ShareLemmas.{share, mixes, stands_last, owns_other
 -- each image that may be left has the seat's other roots, and what the image that was opened reaches from them
 module _ (image : Image) (v : View) (has : HasOthers image v) (left : Image) (mixes : MixesOwn v left) where
   pub root_left : (root : ℕ) → IsOwnOther v root → left (root_word root) ≡ image (root_word root)
-  root_left root other = settled_in v left mixes (root_word root) (image (root_word root)) (in_root root (root_word root) other.1 refl) (has.root_words root other)
+  root_left root other = settled_in v left mixes (root_word root) (image (root_word root)) (in_root root (root_word root) other.1 refl)
+      (has.root_words root other)
 
-  pub block_left : (b : Block) (kind word : ℕ) → ReachFrom image (IsOwnOther v) (kinds_of image) dict_links b kind → IsIn b word → left word ≡ image word
-  block_left b kind word reach inside = settled_in v left mixes word (image word) (in_block b word (has.blocks b kind reach) inside) (has.words b kind word reach inside)
+  pub block_left : (b : Block) (kind word : ℕ) → ReachFrom image (IsOwnOther v) (kinds_of image) dict_links b kind → IsIn b word
+      → left word ≡ image word
+  block_left b kind word reach inside = settled_in v left mixes word (image word) (in_block b word (has.blocks b kind reach) inside)
+      (has.words b kind word reach inside)
 
 -- chosen roots reach what those of them reach that there are
 there_are_roots : {chosen chosen' : ℕ → Type 0} (image : Image) (kinds : ℕ → ℕ) → ((root : ℕ) → root < roots → chosen root → chosen' root)
     → (b : Block) (kind : ℕ) → ReachFrom image chosen kinds dict_links b kind → ReachFrom image chosen' kinds dict_links b kind
 there_are_roots image kinds more = closure_included
-    (λ b kind start. record { root = start.root; below = start.below; is_chosen = more start.root start.below start.is_chosen; kind_is = start.kind_is; leads = start.leads })
+    (λ b kind start. record {
+      root = start.root;
+      below = start.below;
+      is_chosen = more start.root start.below start.is_chosen;
+      kind_is = start.kind_is;
+      leads = start.leads;
+    })
     (λ a b from kind reached link. link)
 
-module _ (words : List ℕ) (held : List Block) (workers budget : ℕ) (requests : List Request) (replies : Replies) (stopped : Bool) (now kept left : List ℕ)
+module _ (words : List ℕ) (held : List Block) (workers budget : ℕ) (requests : List Request) (replies : Replies) (stopped : Bool)
+    (now kept left : List ℕ)
     (h : HaveWorked words held workers budget requests replies stopped now kept left) where
   pub leaves_others : LeavesOthers (slice_index words) (slice_index left)
   leaves_others =
@@ -47,10 +57,15 @@ module _ (words : List ℕ) (held : List Block) (workers budget : ℕ) (requests
       let others = stands.others in
       let owns = owns_other words held workers budget requests replies stopped now kept left h in
       record {
-        nothing_outside = nothing_outside workers (λ i. heap_view (h.last i)) (slice_index left) (share words held workers budget requests replies stopped now kept left h) mixed;
-        roots_are = λ root other below. root_left (slice_index words) first others (slice_index left) (mixed.mixes 0 h.some) root (other, owns root other below);
+        nothing_outside = nothing_outside workers (λ i. heap_view (h.last i)) (slice_index left)
+            (share words held workers budget requests replies stopped now kept left h) mixed;
+        roots_are = λ root other below. root_left (slice_index words) first others (slice_index left) (mixed.mixes 0 h.some) root
+            (other, owns root other below);
         blocks_are = λ b kind word reach inside. block_left (slice_index words) first others (slice_index left) (mixed.mixes 0 h.some) b kind word
-            (there_are_roots {chosen = IsOtherRoot} {chosen' = IsOwnOther first} (slice_index words) (kinds_of (slice_index words)) (λ root below other. (other, owns root other below)) b kind reach) inside;
-        still_reached = λ b kind reach. reached_left (slice_index words) first stands.kinds others (slice_index left) (mixed.mixes 0 h.some) (mixed.names 0 h.some) (record { each = mixed.kinds 0 h.some }) b kind
-            (there_are_roots {chosen = IsOtherRoot} {chosen' = IsOwnOther first} (slice_index words) (kinds_of (slice_index words)) (λ root below other. (other, owns root other below)) b kind reach);
+            (there_are_roots {chosen = IsOtherRoot} {chosen' = IsOwnOther first} (slice_index words) (kinds_of (slice_index words))
+            (λ root below other. (other, owns root other below)) b kind reach) inside;
+        still_reached = λ b kind reach. reached_left (slice_index words) first stands.kinds others (slice_index left) (mixed.mixes 0 h.some)
+            (mixed.names 0 h.some) (record { each = mixed.kinds 0 h.some }) b kind
+            (there_are_roots {chosen = IsOtherRoot} {chosen' = IsOwnOther first} (slice_index words) (kinds_of (slice_index words))
+            (λ root below other. (other, owns root other below)) b kind reach);
       }

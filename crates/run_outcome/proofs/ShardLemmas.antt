@@ -19,7 +19,8 @@ not_so true so = sym (so refl)
 not_so false so = refl
 
 -- nor does one of another worker, which is to another shard
-one_added : (shard : ℕ) (mine : Bool) (request : Request) (reply : Reply) (requests : List Request) (replies : Replies) → (is_to shard request ≡ true → mine ≡ true)
+one_added : (shard : ℕ) (mine : Bool) (request : Request) (reply : Reply) (requests : List Request) (replies : Replies)
+    → (is_to shard request ≡ true → mine ≡ true)
     → of_shard shard ((request, reply) ∷ answered requests replies)
     ≡ of_shard shard (answered (cond mine (request ∷ requests) requests) (cond mine (Some reply ∷ replies) replies))
 one_added shard true request reply requests replies so = refl
@@ -31,13 +32,18 @@ module _ (workers shard : ℕ) where
 
   -- a request to the shard is one of the shard's worker
   is_mine : (request : Request) → is_to shard request ≡ true → mine request ≡ true
-  is_mine request to = eq-eqb (worker_of workers (shard_asked request)) (worker_of workers shard) (ap (worker_of workers) (eqb-true (shard_asked request) shard to))
+  is_mine request to = eq-eqb (worker_of workers (shard_asked request)) (worker_of workers shard)
+      (ap (worker_of workers) (eqb-true (shard_asked request) shard to))
 
   pub of_its_worker : (requests : List Request) (replies : Replies)
       → of_shard shard (answered requests replies) ≡ of_shard shard (worker_answered workers (worker_of workers shard) requests replies)
   of_its_worker [] replies = refl
-  of_its_worker (request ∷ requests) [] = ap (of_shard shard) (sym (answered_none (worker_requests workers (worker_of workers shard) (request ∷ requests))))
+  of_its_worker (request ∷ requests) [] = ap (of_shard shard) (sym
+      (answered_none (worker_requests workers (worker_of workers shard) (request ∷ requests))))
   of_its_worker (request ∷ requests) (None ∷ replies) = of_its_worker requests replies
-      ∙ ap (of_shard shard) (none_added (mine request) request (worker_requests workers (worker_of workers shard) requests) (worker_replies workers (worker_of workers shard) requests replies))
-  of_its_worker (request ∷ requests) (Some reply ∷ replies) = ap (λ (rs : List (Request × Reply)). cond (is_to shard request) ((request, reply) ∷ rs) rs) (of_its_worker requests replies)
-      ∙ one_added shard (mine request) request reply (worker_requests workers (worker_of workers shard) requests) (worker_replies workers (worker_of workers shard) requests replies) (is_mine request)
+      ∙ ap (of_shard shard) (none_added (mine request) request (worker_requests workers (worker_of workers shard) requests)
+      (worker_replies workers (worker_of workers shard) requests replies))
+  of_its_worker (request ∷ requests) (Some reply ∷ replies) = ap (λ (rs : List (Request × Reply)). cond (is_to shard request)
+      ((request, reply) ∷ rs) rs) (of_its_worker requests replies)
+      ∙ one_added shard (mine request) request reply (worker_requests workers (worker_of workers shard) requests)
+      (worker_replies workers (worker_of workers shard) requests replies) (is_mine request)

@@ -28,11 +28,14 @@ use Rattle.run_outcome.proofs.WorkerLemmas.{all_views, below_count, is_seat, vie
 use Rattle.run_model.proofs.GoesOnLemmas.{stands_on}
 
 -- however a worker's part has ended, what belongs to no shard stands in its seat
-ends_stands : (image : Image) (left : List Request) (brought later : List Sent) (halted stopped : Bool) (v w : HeapView) → StandsOver image v → EndsIn left brought later halted stopped v w → StandsOver image w
+ends_stands : (image : Image) (left : List Request) (brought later : List Sent) (halted stopped : Bool) (v w : HeapView) → StandsOver image v
+    → EndsIn left brought later halted stopped v w → StandsOver image w
 ends_stands image left brought later halted stopped v w stands (at_rest begun none none_later same) = subst (StandsOver image) (sym same) stands
 ends_stands image left brought later halted stopped v w stands (not_begun was none same) = subst (StandsOver image) (sym same) stands
-ends_stands image left brought later halted stopped v w stands (in_request begun stop none request others first may) = stands_on image v w request stands may
-ends_stands image left brought later halted stopped v w stands (in_arrival begun stop none next others first may) = stands_on image v w (put next.key next.value) stands may
+ends_stands image left brought later halted stopped v w stands (in_request begun stop none request others first may) =
+    stands_on image v w request stands may
+ends_stands image left brought later halted stopped v w stands (in_arrival begun stop none next others first may) =
+    stands_on image v w (put next.key next.value) stands may
 
 ended_stands : (image : Image) (requests : List Request) (replies : Replies) (came brought : List Sent) (halted stopped : Bool) (v : HeapView)
     → HasEnded image requests replies came brought halted stopped v → StandsOver image v
@@ -48,20 +51,25 @@ one_of_workers : (workers root : ℕ) (of_shard : Bool) → 1 ≤ workers → co
 one_of_workers workers root true some = mod-lt root (omega arith)
 one_of_workers workers root false some = omega arith
 
-module _ (words : List ℕ) (held : List Block) (workers budget : ℕ) (requests : List Request) (replies : Replies) (stopped : Bool) (now kept left : List ℕ)
+module _ (words : List ℕ) (held : List Block) (workers budget : ℕ) (requests : List Request) (replies : Replies) (stopped : Bool)
+    (now kept left : List ℕ)
     (h : HaveWorked words held workers budget requests replies stopped now kept left) where
   -- some sound state has a worker's last view
   pub has_state : (i : ℕ) → i < workers → HasSoundState (h.last i).view
-  has_state i below = last_state (setup_of words budget workers) now kept (all_views h) h.closed i (h.last i).view (below_count h i below) (view_at h i (h.last i).view below) (is_seat h i below)
+  has_state i below = last_state (setup_of words budget workers) now kept (all_views h) h.closed i (h.last i).view (below_count h i below)
+      (view_at h i (h.last i).view below) (is_seat h i below)
 
   pub may_be_left : (i : ℕ) → i < workers → MayBeLeft (h.last i).view (slice_index left)
   may_be_left i below = by_stop stopped h.left_is where
     by_stop : (b : Bool) → IsLeftOf b now kept left → MayBeLeft (h.last i).view (slice_index left)
-    by_stop false is = closed (closes (setup_of words budget workers) now kept (all_views h) h.closed (slice_index left) is i (h.last i).view (below_count h i below) (view_at h i (h.last i).view below) (is_seat h i below))
-    by_stop true is = crashed (crashes (setup_of words budget workers) now kept (all_views h) h.closed (slice_index left) is i (h.last i).view (below_count h i below) (view_at h i (h.last i).view below) (is_seat h i below))
+    by_stop false is = closed (closes (setup_of words budget workers) now kept (all_views h) h.closed (slice_index left) is i (h.last i).view
+        (below_count h i below) (view_at h i (h.last i).view below) (is_seat h i below))
+    by_stop true is = crashed (crashes (setup_of words budget workers) now kept (all_views h) h.closed (slice_index left) is i (h.last i).view
+        (below_count h i below) (view_at h i (h.last i).view below) (is_seat h i below))
 
   pub stands_last : (i : ℕ) → i < workers → StandsOver (slice_index words) (heap_view (h.last i))
-  stands_last i below = ended_stands (slice_index words) _ (h.told i) (h.came i) (h.brought i) h.halted (h.stops i) (heap_view (h.last i)) (h.parts i below).ended
+  stands_last i below = ended_stands (slice_index words) _ (h.told i) (h.came i) (h.brought i) h.halted (h.stops i) (heap_view (h.last i))
+      (h.parts i below).ended
 
   -- which worker has a root
   pub owner_below : (root : ℕ) → root_owner workers root < workers
@@ -78,13 +86,16 @@ module _ (words : List ℕ) (held : List Block) (workers budget : ℕ) (requests
       (cond-true (nat_lt shard shards) (worker_of workers shard) 0 (lt-ltb shard shards small))
 
   pub owns_other : (root : ℕ) → IsOtherRoot root → root < roots → Contains (h.last 0).view.roots root
-  owns_other root other below = ((h.parts 0 h.some).roots_own root below).1 (cond-false (nat_lt root shards) (worker_of workers root) 0 (le-ltb root shards other))
+  owns_other root other below = ((h.parts 0 h.some).roots_own root below).1
+      (cond-false (nat_lt root shards) (worker_of workers root) 0 (le-ltb root shards other))
 
-  one_holder : (i j : ℕ) (b : Block) → i < workers → j < workers → Contains (heap_view (h.last i)).held b → Contains (heap_view (h.last j)).held b → i ≡ j
+  one_holder : (i j : ℕ) (b : Block) → i < workers → j < workers → Contains (heap_view (h.last i)).held b
+      → Contains (heap_view (h.last j)).held b → i ≡ j
   one_holder i j b below_i below_j in_i in_j = elim (cases_eq j i) as (λ _. i ≡ j) [
     | inl same ↦ sym same
     | inr other ↦ absurd (not_apart b ((seat_law (h.last i)).placed b in_i).some
-        ((held_once (setup_of words budget workers) (now ++ (kept ++ (h.closed.drawn ∷ []))) (all_views h) h.closed.sound).by_two i j (h.last i).view (h.last j).view other
+        ((held_once (setup_of words budget workers) (now ++ (kept ++ (h.closed.drawn ∷ []))) (all_views h) h.closed.sound).by_two i j
+        (h.last i).view (h.last j).view other
         (below_count h i below_i) (view_at h i (h.last i).view below_i) (below_count h j below_j) (view_at h j (h.last j).view below_j)
         b b (held_is (h.last i).view (has_state i below_i) b in_i) (held_is (h.last j).view (has_state j below_j) b in_j)))
   ]

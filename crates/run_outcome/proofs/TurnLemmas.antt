@@ -29,7 +29,8 @@ nothing_left left brought later halted stops v w begun goes (not_begun is none s
 nothing_left left brought later halted stops v w begun goes (in_request begins is none request others more may) = absurd (goes is)
 nothing_left left brought later halted stops v w begun goes (in_arrival begins is none next others more may) = absurd (goes is)
 
-all_by_end : (image : Image) (requests : List Request) (told : Replies) (came brought : List Sent) (halted stops : Bool) (v : HeapView) → (halted ≡ true → ⊥) → (stops ≡ true → ⊥)
+all_by_end : (image : Image) (requests : List Request) (told : Replies) (came brought : List Sent) (halted stops : Bool) (v : HeapView)
+    → (halted ≡ true → ⊥) → (stops ≡ true → ⊥)
     → HasEnded image requests told came brought halted stops v → unanswered requests told ≡ []
 all_by_end image requests told came brought halted stops v begun goes ended =
     let none = nothing_left ended.left brought ended.later halted stops ended.before v begun goes ended.ends in
@@ -40,13 +41,16 @@ some_ticket : (o : Option ℕ) → o ≢ None → (ticket : ℕ) × (o ≡ Some 
 some_ticket None some = absurd (some refl)
 some_ticket (Some ticket) some = (ticket, refl)
 
-module _ (words : List ℕ) (held : List Block) (workers budget : ℕ) (requests : List Request) (replies : Replies) (stopped : Bool) (now kept left : List ℕ)
+module _ (words : List ℕ) (held : List Block) (workers budget : ℕ) (requests : List Request) (replies : Replies) (stopped : Bool)
+    (now kept left : List ℕ)
     (h : HaveWorked words held workers budget requests replies stopped now kept left) where
   all : stopped ≡ false → unanswered requests replies ≡ []
   all goes = all_answered workers requests replies h.some (λ worker below.
       unanswered_told h worker below
-      ∙ all_by_end (slice_index words) (worker_requests workers worker requests) (h.told worker) (h.came worker) (h.brought worker) h.halted (h.stops worker) (heap_view (h.last worker))
-      (λ is. let e : stopped ≡ true = h.halts is in absurd (cc)) (λ is. let e : stopped ≡ true = h.stopped_by.1 (worker, below, is) in absurd (cc)) (h.parts worker below).ended)
+      ∙ all_by_end (slice_index words) (worker_requests workers worker requests) (h.told worker) (h.came worker) (h.brought worker) h.halted
+      (h.stops worker) (heap_view (h.last worker))
+      (λ is. let e : stopped ≡ true = h.halts is in absurd (cc)) (λ is. let e : stopped ≡ true = h.stopped_by.1 (worker, below, is) in
+      absurd (cc)) (h.parts worker below).ended)
 
   -- a seat that stopped drew a ticket that the budget doesn't allow
   budget_spent : stopped ≡ true → budget < total (λ (v : View). v.draws) (all_views h)

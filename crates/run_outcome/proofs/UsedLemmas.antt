@@ -24,12 +24,15 @@ used_left : (stopped : Bool) (now kept left : List ℕ) → IsLeftOf stopped now
 used_left false now kept left is = inl (is.others used_word (λ e. omega (arith, e)))
 used_left true now kept left is = inr (is.others used_word (λ e. omega (arith, e)) (header_lasts _ used_word (omega arith)))
 
-module _ (words : List ℕ) (held : List Block) (workers budget : ℕ) (requests : List Request) (replies : Replies) (stopped : Bool) (now kept left : List ℕ)
+module _ (words : List ℕ) (held : List Block) (workers budget : ℕ) (requests : List Request) (replies : Replies) (stopped : Bool)
+    (now kept left : List ℕ)
     (h : HaveWorked words held workers budget requests replies stopped now kept left) where
-  taken_most : slice_index now used_word ≤ slice_index words used_word + sum_over (λ worker. worker_span workers worker requests replies) 0 workers + tables_needed requests
+  taken_most : slice_index now used_word ≤ slice_index words used_word + sum_over
+      (λ worker. worker_span workers worker requests replies) 0 workers + tables_needed requests
   taken_most =
       let all = used_now h in
-      let few = sum_within (taken_of h) (λ worker. worker_span workers worker requests replies + tables_of h worker) 0 workers (λ i low high. taken_few h i (omega arith)) in
+      let few = sum_within (taken_of h) (λ worker. worker_span workers worker requests replies + tables_of h worker) 0 workers
+      (λ i low high. taken_few h i (omega arith)) in
       let parts = sum_both (λ worker. worker_span workers worker requests replies) (tables_of h) 0 workers in
       let tables = tables_all workers requests in
       omega arith
@@ -49,7 +52,8 @@ module _ (words : List ℕ) (held : List Block) (workers budget : ℕ) (requests
 
   pub leaves_used : LeavesUsed (slice_index words) workers requests replies (slice_index left)
   leaves_used = record {
-    least = let all = used_now h in let least = kept_least in elim (used_left stopped now kept left h.left_is) [ inl closed ↦ omega arith | inr crashed ↦ omega arith ];
+    least = let all = used_now h in let least = kept_least in elim
+        (used_left stopped now kept left h.left_is) [ inl closed ↦ omega arith | inr crashed ↦ omega arith ];
     most = let most = taken_most in
         let behind = kept_behind (setup_of words budget workers) now kept (all_views h) h.closed in
         elim (used_left stopped now kept left h.left_is) [ inl closed ↦ omega arith | inr crashed ↦ omega arith ];

@@ -21,9 +21,11 @@ use Rattle.run_outcome.proofs.CountLemmas.{answered_padded, unanswered_padded}
 
 total_both : {X : Type 0} (of : X → ℕ) (xs ys : List X) → total of (xs ++ ys) ≡ total of xs + total of ys
 total_both of [] ys = let all : total of ys ≡ 0 + total of ys = omega arith in all
-total_both of (x ∷ xs) ys = let rest = total_both of xs ys in let all : of x + total of (xs ++ ys) ≡ of x + total of xs + total of ys = omega arith in all
+total_both of (x ∷ xs) ys = let rest = total_both of xs ys in let all : of x + total of (xs ++ ys) ≡ of x + total of xs + total of ys =
+    omega arith in all
 
-module _ {words : List ℕ} {held : List Block} {workers budget : ℕ} {requests : List Request} {replies : Replies} {stopped : Bool} {now kept left : List ℕ}
+module _ {words : List ℕ} {held : List Block} {workers budget : ℕ} {requests : List Request} {replies : Replies} {stopped : Bool}
+    {now kept left : List ℕ}
     (h : HaveWorked words held workers budget requests replies stopped now kept left) where
   -- the view of a worker's seat as it was closed
   abbrev pub last_view : ℕ → View
@@ -61,12 +63,14 @@ module _ {words : List ℕ} {held : List Block} {workers budget : ℕ} {requests
       omega (arith, both, nothing, seats)
 
   -- a worker's replies are those that it was told
-  pub answered_told : (worker : ℕ) → worker < workers → worker_answered workers worker requests replies ≡ answered (worker_requests workers worker requests) (h.told worker)
+  pub answered_told : (worker : ℕ) → worker < workers → worker_answered workers worker requests replies ≡ answered
+      (worker_requests workers worker requests) (h.told worker)
   answered_told worker below =
       ap (answered (worker_requests workers worker requests)) (h.padded worker below)
       ∙ answered_padded (worker_requests workers worker requests) (h.told worker) _
 
-  pub unanswered_told : (worker : ℕ) → worker < workers → worker_unanswered workers worker requests replies ≡ unanswered (worker_requests workers worker requests) (h.told worker)
+  pub unanswered_told : (worker : ℕ) → worker < workers → worker_unanswered workers worker requests replies ≡ unanswered
+      (worker_requests workers worker requests) (h.told worker)
   unanswered_told worker below =
       ap (unanswered (worker_requests workers worker requests)) (h.padded worker below)
       ∙ unanswered_padded (worker_requests workers worker requests) (h.told worker) _

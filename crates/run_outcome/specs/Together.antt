@@ -29,8 +29,10 @@ IsLeftOf true now kept left = IsCrashImage (slice_index kept) (slice_index left)
 abbrev pub opening_for : List ℕ → List Block → OwnerLists → ℕ → ℕ → Opening
 opening_for words held owners workers budget = opening_of (record { words = words; held = held }) owners workers budget
 
--- the workers of a run over a dictionary at rest, with their seats as they were opened and as they were closed, and with the replies of all; the run was stopped exactly where a worker was
-pub record HaveWorked (words : List ℕ) (held : List Block) (workers budget : ℕ) (requests : List Request) (replies : Replies) (stopped : Bool) (now kept left : List ℕ) : Type 0 where
+-- the workers of a run over a dictionary at rest, with their seats as they were opened and as they were closed, and
+-- with the replies of all; the run was stopped exactly where a worker was
+pub record HaveWorked (words : List ℕ) (held : List Block) (workers budget : ℕ) (requests : List Request) (replies : Replies) (stopped : Bool)
+    (now kept left : List ℕ) : Type 0 where
   pub ready : IsReady words held
   pub dictionary : IsDictionary (slice_index words) (Contains held)
   pub some : 1 ≤ workers
@@ -54,11 +56,13 @@ pub record HaveWorked (words : List ℕ) (held : List Block) (workers budget : �
   pub tables : ℕ → Bool
   pub came : ℕ → List Sent
   pub brought : ℕ → List Sent
-  -- These are counts, and say of no block which value it is. Each seat has offered as many blocks as its moves sent; it has accepted as many as values are brought in, or
+  -- These are counts, and say of no block which value it is. Each seat has offered as many blocks as its moves sent; it
+  -- has accepted as many as values are brought in, or
   -- one more. Of all workers together as many carriers are left as values came beside those that were accepted; a carrier belongs to no worker here.
   pub offered : (whole : Map) → IsWholeMap (slice_index words) whole → (worker : ℕ) → worker < workers
       → (last worker).view.offers ≡ length (all_sent whole (worker_numbered workers worker requests) (told worker))
-  pub accepted : (worker : ℕ) → worker < workers → (length (brought worker) ≤ (last worker).view.accepts) × ((last worker).view.accepts ≤ length (brought worker) + 1)
+  pub accepted : (worker : ℕ) → worker < workers → (length (brought worker) ≤ (last worker).view.accepts)
+      × ((last worker).view.accepts ≤ length (brought worker) + 1)
   pub remaining : ℕ → ℕ
   pub remain : (worker : ℕ) → worker < workers → (last worker).view.accepts + remaining worker ≡ length (came worker)
   pub carriers_are : length carriers ≡ sum_by remaining (worker_numbers workers)
@@ -69,7 +73,8 @@ pub record HaveWorked (words : List ℕ) (held : List Block) (workers budget : �
       ≡ told worker ++ replicate (length (worker_requests workers worker requests) - length (told worker)) None
   pub came_are : (whole : Map) → IsWholeMap (slice_index words) whole → (worker : ℕ) → worker < workers
       → came worker ≡ coming workers worker whole requests replies
-  pub parts : (worker : ℕ) → worker < workers → IsPart (slice_index words) workers requests worker tables (told worker) (came worker) (brought worker) halted
+  pub parts : (worker : ℕ) → worker < workers → IsPart (slice_index words) workers requests worker tables (told worker) (came worker)
+      (brought worker) halted
       (stops worker) (first worker) (last worker)
   pub fresh : (worker : ℕ) → worker < workers → IsOpenedFor (opening_for words held owners workers budget) workers worker (first worker).view
   pub views_are : (worker : ℕ) (any : View) → worker < workers → get_or views worker any ≡ (last worker).view

@@ -30,12 +30,14 @@ use Rattle.run_rows.specs.Rows.{AreAllOk, IsArrivingOf}
 use Rattle.run_rows.specs.Turns.{AreInTurn}
 
 -- a worker that has worked off its requests has a seat at the heap's table
-pub asked_table : {C : Type 0} (shared : SharedView) (requests : List Request) (tables : ℕ → Bool) (asked : Asked C) → IsAskedOf shared requests tables asked
+pub asked_table : {C : Type 0} (shared : SharedView) (requests : List Request) (tables : ℕ → Bool) (asked : Asked C)
+    → IsAskedOf shared requests tables asked
     → asked.seat.state.table ≡ shared.table
 asked_table shared requests tables asked is = is.part.goes_on.0 ∙ is.made.goes_on.0 ∙ is.is_first.table
 
 -- which has accepted nothing, and may accept what came
-pub in_step : (shared : SharedView) (came : List Parcel) (count : ℕ) (s : CacheState) → s.table ≡ shared.table → s.view.accepts ≡ 0 → count ≡ length came → All (IsParcelOf shared.table) came
+pub in_step : (shared : SharedView) (came : List Parcel) (count : ℕ) (s : CacheState) → s.table ≡ shared.table → s.view.accepts ≡ 0
+    → count ≡ length came → All (IsParcelOf shared.table) came
     → IsInStepWith count came s
 in_step shared came count s at none is each = record {
   each = subst (λ t. All (IsParcelOf t) came) (sym at) each;
@@ -43,7 +45,8 @@ in_step shared came count s at none is each = record {
 }
 
 -- each value that came has a table
-pub sent_tables : (tables : ℕ → Bool) (requests : List Request) (workers worker : ℕ) (came : List Parcel) → All (λ (p : Parcel). HasTableFor tables requests workers worker p.key) came
+pub sent_tables : (tables : ℕ → Bool) (requests : List Request) (workers worker : ℕ) (came : List Parcel)
+    → All (λ (p : Parcel). HasTableFor tables requests workers worker p.key) came
     → All (λ (s : Sent). HasTableFor tables requests workers worker s.key) (all_sent_of came)
 sent_tables tables requests workers worker came each = All-map (λ (s : Sent). HasTableFor tables requests workers worker s.key) sent_of came each
 
@@ -55,7 +58,8 @@ pub kept_accepts : (s t : CacheState) → role t.view ≡ role s.view → t.view
 kept_accepts s t same = ap (λ (r : Role). r.accepts) same
 
 -- the blocks of what is brought in were accepted, and of one more at most
-pub brought_counted : (came : List Parcel) (brought later : List Sent) (left : List Parcel) (accepts : ℕ) → all_sent_of came ≡ brought ++ later → AreLeftOf later (all_sent_of left)
+pub brought_counted : (came : List Parcel) (brought later : List Sent) (left : List Parcel) (accepts : ℕ) → all_sent_of came ≡ brought ++ later
+    → AreLeftOf later (all_sent_of left)
     → accepts + length left ≡ length came → (length brought ≤ accepts) × (accepts ≤ length brought + 1)
 brought_counted came brought later left accepts are left_are counted = by_left left_are where
   long : length brought + length later ≡ length came
@@ -81,7 +85,8 @@ none_sent [] none = refl
 none_sent (p ∷ left) none = let e : suc (length (all_sent_of left)) ≡ 0 = ap length none in absurd (omega (arith, e))
 
 -- parcels of a heap have carriers of its table
-pub carriers_at : (shared : SharedView) (left : List Parcel) (carriers : List CarrierView) → carriers ≡ map (λ (p : Parcel). p.carrier) left → All (IsParcelOf shared.table) left
+pub carriers_at : (shared : SharedView) (left : List Parcel) (carriers : List CarrierView) → carriers ≡ map (λ (p : Parcel). p.carrier) left
+    → All (IsParcelOf shared.table) left
     → (c : CarrierView) → Contains carriers c → c.table ≡ shared.table
 carriers_at shared left carriers are each c has = All-contains (λ (k : CarrierView). k.table ≡ shared.table) carriers c
     (subst (λ ks. All (λ (k : CarrierView). k.table ≡ shared.table) ks) (sym are)
@@ -89,7 +94,8 @@ carriers_at shared left carriers are each c has = All-contains (λ (k : CarrierV
     (All-weaker (IsParcelOf shared.table) (λ (p : Parcel). p.carrier.table ≡ shared.table) (λ p is. is.at_table) left each))) has
 
 -- the values that parcels bring stand in the parcels' order
-pub sorted_sent : (came : List Parcel) → IsNonDecreasingBy (λ (p : Parcel). p.number) came → IsNonDecreasingBy (λ (s : Sent). s.number) (all_sent_of came)
+pub sorted_sent : (came : List Parcel) → IsNonDecreasingBy (λ (p : Parcel). p.number) came
+    → IsNonDecreasingBy (λ (s : Sent). s.number) (all_sent_of came)
 sorted_sent [] sorted = λ i j d up below. absurd (omega arith)
 sorted_sent (p ∷ came) sorted = λ i j d up below.
     let inside : j < length (p ∷ came) = let l = length-map (p ∷ came) sent_of in omega (arith, below, l) in
@@ -109,10 +115,13 @@ pub record HasBrought (shared : SharedView) (requests : List Request) (tables : 
   pub at_table : (c : CarrierView) → Contains ended.carriers.items c → c.table ≡ shared.table
   pub none_left : ended.worked.stopped ≡ false → ended.carriers.items ≡ []
 
-pub has_ended : {C : Type 0} (shared : SharedView) (requests : List Request) (tables : ℕ → Bool) (queues : List QueueView) (told : ℕ → Replies) (one : Arriving C)
-    (came : List Parcel) (ended : Ended) → IsArrivingOf shared requests tables queues told one → IsPermutation (one.pass.account.put ++ one.kept.items) came
+pub has_ended : {C : Type 0} (shared : SharedView) (requests : List Request) (tables : ℕ → Bool) (queues : List QueueView) (told : ℕ → Replies)
+    (one : Arriving C)
+    (came : List Parcel) (ended : Ended) → IsArrivingOf shared requests tables queues told one
+    → IsPermutation (one.pass.account.put ++ one.kept.items) came
     → IsNonDecreasingBy (λ (p : Parcel). p.number) came → HasBrought shared requests tables came ended → ended.worked.worker ≡ one.asked.worker
-    → ended.worked.replies ≡ one.asked.replies → ended.worked.seat.view.offers ≡ one.asked.seat.state.view.offers → IsEndedOf shared requests tables false told ended
+    → ended.worked.replies ≡ one.asked.replies → ended.worked.seat.view.offers ≡ one.asked.seat.state.view.offers
+    → IsEndedOf shared requests tables false told ended
 has_ended shared requests tables queues told one came ended is moved sorted has worker replies offers = record {
   came = all_sent_of came;
   brought = has.brought;
@@ -130,39 +139,46 @@ has_ended shared requests tables queues told one came ended is moved sorted has 
 }
 
 -- the answers that are all values, one by one
-pub ok_at : {T E : Type 0} (all : List (Result T E)) (values : List T) → AreAllOk all values → (i : ℕ) (d : T) → i < length values → get_or all i (Ok d) ≡ Ok (get_or values i d)
+pub ok_at : {T E : Type 0} (all : List (Result T E)) (values : List T) → AreAllOk all values → (i : ℕ) (d : T) → i < length values
+    → get_or all i (Ok d) ≡ Ok (get_or values i d)
 ok_at all values are i d below = ap (λ xs. get_or xs i (Ok d)) are ∙ get_or-map Ok values i d (Ok d) below
 
 pub ok_count : {T E : Type 0} (all : List (Result T E)) (values : List T) → AreAllOk all values → length all ≡ length values
 ok_count all values are = ap length are ∙ length-map values Ok
 
 -- what was brought in for one that was arriving, unless memory was short
-pub finished : {C E : Type 0} (shared : SharedView) (requests : List Request) (tables : ℕ → Bool) (queues : List QueueView) (one : Arriving C) (came : List Parcel)
+pub finished : {C E : Type 0} (shared : SharedView) (requests : List Request) (tables : ℕ → Bool) (queues : List QueueView) (one : Arriving C)
+    (came : List Parcel)
     (result : Result Ended E) → IsPermutation (one.pass.account.put ++ one.kept.items) came → IsNonDecreasingBy (λ (p : Parcel). p.number) came
-    → IfOk result (λ ended. (brought : List Sent) × (length brought ≤ ended.worked.seat.view.accepts) × (ended.worked.seat.view.accepts ≤ length brought + 1)
+    → IfOk result (λ ended. (brought : List Sent) × (length brought ≤ ended.worked.seat.view.accepts)
+    × (ended.worked.seat.view.accepts ≤ length brought + 1)
     × IsWorkedOf shared requests tables (all_sent_of came) brought false ended.worked)
     → IfOk result (λ ended. ended.worked.worker ≡ one.asked.worker) → IfOk result (λ ended. ended.worked.replies ≡ one.asked.replies)
     → IfOk result (λ ended. ended.worked.seat.view.offers ≡ one.asked.seat.state.view.offers)
     → IfOk result (λ ended. ended.worked.seat.view.accepts + length ended.carriers.items ≡ length came)
     → IfOk result (λ ended. (c : CarrierView) → Contains ended.carriers.items c → c.table ≡ shared.table)
     → IfOk result (λ ended. ended.worked.stopped ≡ false → ended.carriers.items ≡ [])
-    → IfOk result (λ ended. (told : ℕ → Replies) → IsArrivingOf shared requests tables queues told one → IsEndedOf shared requests tables false told ended)
+    → IfOk result (λ ended. (told : ℕ → Replies) → IsArrivingOf shared requests tables queues told one
+    → IsEndedOf shared requests tables false told ended)
 finished shared requests tables queues one came (Ok ended) moved sorted has worker replies offers remain at_table none_left = λ told is.
     has_ended shared requests tables queues told one came ended is moved sorted
-    (record { brought = has.0; accepted = (has.1, has.2); worked = has.3; remain = remain; at_table = at_table; none_left = none_left }) worker replies offers
+    (record { brought = has.0; accepted = (has.1, has.2); worked = has.3; remain = remain; at_table = at_table; none_left = none_left })
+    worker replies offers
 finished shared requests tables queues one came (Err e) moved sorted has worker replies offers remain at_table none_left = tt
 
 -- each in its thread
 module _ {C E : Type 0} (shared : SharedView) (requests : List Request) (tables : ℕ → Bool) (queues : List QueueView) where
   abbrev pub Finishes : Arriving C → Result Ended E → Type 0
-  Finishes one r = IfOk r (λ ended. (told : ℕ → Replies) → IsArrivingOf shared requests tables queues told one → IsEndedOf shared requests tables false told ended)
+  Finishes one r = IfOk r (λ ended. (told : ℕ → Replies) → IsArrivingOf shared requests tables queues told one
+      → IsEndedOf shared requests tables false told ended)
       × IfOk r (λ ended. ended.worked.worker ≡ one.asked.worker)
 
   abbrev pub AllFinish : List (Arriving C) → List (Result Ended E) → Type 0
   AllFinish jobs rs = (i : ℕ) (d : Result Ended E) → i < length jobs
       → (job : Arriving C) × ((any : Arriving C) → get_or jobs i any ≡ job) × Finishes job (get_or rs i d)
 
-  module _ {V : Type 0} (items : V → List Ended) (jobs : List (Arriving C)) (rs : List (Result Ended E)) (each : AllFinish jobs rs) (count : length rs ≡ length jobs) where
+  module _ {V : Type 0} (items : V → List Ended) (jobs : List (Arriving C)) (rs : List (Result Ended E)) (each : AllFinish jobs rs)
+      (count : length rs ≡ length jobs) where
     same_count : (v : V) → AreAllOk rs (items v) → length (items v) ≡ length jobs
     same_count v are = sym (ok_count rs (items v) are) ∙ count
 
@@ -171,16 +187,20 @@ module _ {C E : Type 0} (shared : SharedView) (requests : List Request) (tables 
     all_counted (Err e) are = tt
 
     pub all_finished : (result : Result V E) → IfOk result (λ v. AreAllOk rs (items v))
-        → IfOk result (λ v. (told : ℕ → Replies) → All (IsArrivingOf shared requests tables queues told) jobs → All (IsEndedOf shared requests tables false told) (items v))
+        → IfOk result (λ v. (told : ℕ → Replies) → All (IsArrivingOf shared requests tables queues told) jobs
+        → All (IsEndedOf shared requests tables false told) (items v))
     all_finished (Ok v) are = λ told arriving. λ k d less.
         let inside : k < length jobs = let n = same_count v are in omega (arith, less, n) in
         let one = each k (Ok d) inside in
-        let of_job : IsArrivingOf shared requests tables queues told one.0 = subst (IsArrivingOf shared requests tables queues told) (one.1 one.0) (arriving k one.0 inside) in
-        (subst (λ (r : Result Ended E). IfOk r (λ ended. (said : ℕ → Replies) → IsArrivingOf shared requests tables queues said one.0 → IsEndedOf shared requests tables false said ended))
+        let of_job : IsArrivingOf shared requests tables queues told one.0 =
+        subst (IsArrivingOf shared requests tables queues told) (one.1 one.0) (arriving k one.0 inside) in
+        (subst (λ (r : Result Ended E). IfOk r (λ ended. (said : ℕ → Replies) → IsArrivingOf shared requests tables queues said one.0
+        → IsEndedOf shared requests tables false said ended))
         (ok_at rs (items v) are k d less) one.2.0) told of_job
     all_finished (Err e) are = tt
 
-    pub all_in_turn : AreInTurn (λ (one : Arriving C). one.asked.worker) (length jobs) jobs → (result : Result V E) → IfOk result (λ v. AreAllOk rs (items v))
+    pub all_in_turn : AreInTurn (λ (one : Arriving C). one.asked.worker) (length jobs) jobs → (result : Result V E)
+        → IfOk result (λ v. AreAllOk rs (items v))
         → IfOk result (λ v. AreInTurn (λ (one : Ended). one.worked.worker) (length jobs) (items v))
     all_in_turn turns (Ok v) are = record {
       each = λ k d less.
@@ -188,15 +208,19 @@ module _ {C E : Type 0} (shared : SharedView) (requests : List Request) (tables 
           let one = each k (Ok d) inside in
           let worker : (get_or (items v) k d).worked.worker ≡ one.0.asked.worker =
           subst (λ (r : Result Ended E). IfOk r (λ ended. ended.worked.worker ≡ one.0.asked.worker)) (ok_at rs (items v) are k d less) one.2.1 in
-          let turn = subst (λ (job : Arriving C). (job.asked.worker.workers ≡ length jobs) × (job.asked.worker.number + k + 1 ≡ length jobs)) (one.1 one.0) (turns.each k one.0 inside) in
+          let turn = subst (λ (job : Arriving C). (job.asked.worker.workers ≡ length jobs) × (job.asked.worker.number + k + 1 ≡ length jobs))
+          (one.1 one.0) (turns.each k one.0 inside) in
           subst (λ (w : Worker). (w.workers ≡ length jobs) × (w.number + k + 1 ≡ length jobs)) (sym worker) turn;
     }
     all_in_turn turns (Err e) are = tt
 
 -- all workers have ended, once for each what came is brought in
-pub have_ended : {C E V : Type 0} (items : V → List Ended) (shared : SharedView) (requests : List Request) (tables : ℕ → Bool) (queues : List QueueView) (workers : ℕ)
-    (jobs : List (Arriving C)) (told : ℕ → Replies) → All (IsArrivingOf shared requests tables queues told) jobs → length jobs ≡ workers → (result : Result V E)
-    → IfOk result (λ v. (said : ℕ → Replies) → All (IsArrivingOf shared requests tables queues said) jobs → All (IsEndedOf shared requests tables false said) (items v))
+pub have_ended : {C E V : Type 0} (items : V → List Ended) (shared : SharedView) (requests : List Request) (tables : ℕ → Bool)
+    (queues : List QueueView) (workers : ℕ)
+    (jobs : List (Arriving C)) (told : ℕ → Replies) → All (IsArrivingOf shared requests tables queues told) jobs → length jobs ≡ workers
+    → (result : Result V E)
+    → IfOk result (λ v. (said : ℕ → Replies) → All (IsArrivingOf shared requests tables queues said) jobs
+    → All (IsEndedOf shared requests tables false said) (items v))
     → IfOk result (λ v. AreInTurn (λ (one : Ended). one.worked.worker) (length jobs) (items v)) → IfOk result (λ v. length (items v) ≡ length jobs)
     → IfOk result (λ v. HaveEnded shared requests workers (items v))
 have_ended items shared requests tables queues workers jobs told arriving are (Ok v) ended turns count = record {

@@ -23,9 +23,11 @@ use Rattle.run_rows.specs.Rows.{AreDealtOut}
 module _ {C : Type 0} where
   abbrev pub Dealt : List (PassView Parcel) → List (List Parcel) → List (Asked C) → List (Arriving C) → Type 0
   Dealt passes pieces all arriving =
-      AllZip (λ (one : Arriving C) (x : Asked C × (PassView Parcel × List Parcel)). (one.asked ≡ x.0) × (one.pass ≡ x.1.0) × (one.kept.items ≡ x.1.1)) arriving (zip all (zip passes pieces))
+      AllZip (λ (one : Arriving C) (x : Asked C × (PassView Parcel × List Parcel)). (one.asked ≡ x.0) × (one.pass ≡ x.1.0)
+      × (one.kept.items ≡ x.1.1)) arriving (zip all (zip passes pieces))
 
-  one_more : (ps : List (PassView Parcel)) (ls : List (List Parcel)) (ys : List (Asked C)) (arriving : List (Arriving C)) (p : PassView Parcel) (l : List Parcel) (y : Asked C) (a : Arriving C)
+  one_more : (ps : List (PassView Parcel)) (ls : List (List Parcel)) (ys : List (Asked C)) (arriving : List (Arriving C)) (p : PassView Parcel)
+      (l : List Parcel) (y : Asked C) (a : Arriving C)
       → length ps ≡ length ys → length ls ≡ length ys → Dealt ps ls ys arriving → a.asked ≡ y → a.pass ≡ p → a.kept.items ≡ l
       → Dealt (ps ++ p ∷ []) (ls ++ l ∷ []) (ys ++ y ∷ []) (arriving ++ a ∷ [])
   one_more [] [] [] [] p l y a long each dealt asked pass kept = ((asked, pass, kept), tt)
@@ -38,8 +40,10 @@ module _ {C : Type 0} where
   one_more (q ∷ ps) (m ∷ ls) (z ∷ ys) (b ∷ arriving) p l y a long each dealt asked pass kept =
       (dealt.0, one_more ps ls ys arriving p l y a (omega (arith, long)) (omega (arith, each)) dealt.1 asked pass kept)
 
-moved : {X : Type 0} (all front left rest : List X) (x : X) → reverse all ≡ front ++ reverse left → left ≡ rest ++ x ∷ [] → reverse all ≡ (front ++ x ∷ []) ++ reverse rest
-moved all front left rest x are is = are ∙ ap (λ (l : List _). front ++ reverse l) is ∙ ap (λ (l : List _). front ++ l) (reverse-append rest (x ∷ [])) ∙ sym (append_assoc front (x ∷ []) (reverse rest))
+moved : {X : Type 0} (all front left rest : List X) (x : X) → reverse all ≡ front ++ reverse left → left ≡ rest ++ x ∷ []
+    → reverse all ≡ (front ++ x ∷ []) ++ reverse rest
+moved all front left rest x are is = are ∙ ap (λ (l : List _). front ++ reverse l) is
+    ∙ ap (λ (l : List _). front ++ l) (reverse-append rest (x ∷ [])) ∙ sym (append_assoc front (x ∷ []) (reverse rest))
 
 count_both : {X : Type 0} (front left : List X) → length (front ++ left) ≡ length front + length left
 count_both [] left = omega arith
@@ -50,7 +54,8 @@ all_of all front [] are none = sym (are ∙ append-nil front)
 all_of all front (x ∷ left) are none = absurd (omega (arith, none))
 
 -- of these passes and pieces the last ones were dealt out to the first workers
-pub record AreDealtSoFar {C : Type 0} (owners : List (PassView Parcel)) (pieces : List (List Parcel)) (owners_left : List (PassView Parcel)) (pieces_left : List (List Parcel))
+pub record AreDealtSoFar {C : Type 0} (owners : List (PassView Parcel)) (pieces : List (List Parcel)) (owners_left : List (PassView Parcel))
+    (pieces_left : List (List Parcel))
     (done : List (Asked C)) (arriving : List (Arriving C)) : Type 0 where
   pub passes : List (PassView Parcel)
   pub lists : List (List Parcel)
@@ -64,8 +69,10 @@ module _ {C : Type 0} where
   pub none_dealt : (owners : List (PassView Parcel)) (pieces : List (List Parcel)) → AreDealtSoFar {C = C} owners pieces owners pieces [] []
   none_dealt owners pieces = record { passes = []; lists = []; owners_are = refl; pieces_are = refl; passes_long = refl; lists_long = refl; dealt = tt }
 
-  pub one_dealt : (owners : List (PassView Parcel)) (pieces : List (List Parcel)) (owners_left owners_rest : List (PassView Parcel)) (pieces_left pieces_rest : List (List Parcel))
-      (done : List (Asked C)) (arriving : List (Arriving C)) (p : PassView Parcel) (l : List Parcel) (y : Asked C) (a : Arriving C) → AreDealtSoFar owners pieces owners_left pieces_left done arriving
+  pub one_dealt : (owners : List (PassView Parcel)) (pieces : List (List Parcel)) (owners_left owners_rest : List (PassView Parcel))
+      (pieces_left pieces_rest : List (List Parcel))
+      (done : List (Asked C)) (arriving : List (Arriving C)) (p : PassView Parcel) (l : List Parcel) (y : Asked C) (a : Arriving C)
+      → AreDealtSoFar owners pieces owners_left pieces_left done arriving
       → owners_left ≡ owners_rest ++ p ∷ [] → pieces_left ≡ pieces_rest ++ l ∷ [] → a.asked ≡ y → a.pass ≡ p → a.kept.items ≡ l
       → AreDealtSoFar owners pieces owners_rest pieces_rest (done ++ y ∷ []) (arriving ++ a ∷ [])
   one_dealt owners pieces owners_left owners_rest pieces_left pieces_rest done arriving p l y a so_far last_owner last_piece asked pass kept = record {
@@ -84,7 +91,8 @@ module _ {C : Type 0} where
     length_more (u ∷ xs) (v ∷ ys) x z same = ap suc (length_more xs ys x z (omega (arith, same)))
 
   -- some are left until all have theirs
-  pub so_many_left : (owners : List (PassView Parcel)) (pieces : List (List Parcel)) (owners_left : List (PassView Parcel)) (pieces_left : List (List Parcel))
+  pub so_many_left : (owners : List (PassView Parcel)) (pieces : List (List Parcel)) (owners_left : List (PassView Parcel))
+      (pieces_left : List (List Parcel))
       (done : List (Asked C)) (arriving : List (Arriving C)) → AreDealtSoFar owners pieces owners_left pieces_left done arriving
       → (length owners_left + length done ≡ length owners) × (length pieces_left + length done ≡ length pieces)
   so_many_left owners pieces owners_left pieces_left done arriving so_far = (
@@ -99,7 +107,8 @@ module _ {C : Type 0} where
         let d = count_both front (reverse left) in
         omega (arith, a, b, c, d, long)
 
-  pub all_dealt : (owners : List (PassView Parcel)) (pieces : List (List Parcel)) (owners_left : List (PassView Parcel)) (pieces_left : List (List Parcel))
+  pub all_dealt : (owners : List (PassView Parcel)) (pieces : List (List Parcel)) (owners_left : List (PassView Parcel))
+      (pieces_left : List (List Parcel))
       (done : List (Asked C)) (arriving : List (Arriving C)) → AreDealtSoFar owners pieces owners_left pieces_left done arriving
       → length owners ≡ length done → length pieces ≡ length done → AreDealtOut owners pieces done arriving
   all_dealt owners pieces owners_left pieces_left done arriving so_far long each =
@@ -107,7 +116,8 @@ module _ {C : Type 0} where
       let none = left.0 in
       let none' = left.1 in
       subst (λ ps. Dealt ps (reverse pieces) done arriving) (all_of owners so_far.passes owners_left so_far.owners_are (omega (arith, none, long)))
-      (subst (λ ls. Dealt so_far.passes ls done arriving) (all_of pieces so_far.lists pieces_left so_far.pieces_are (omega (arith, none', each))) so_far.dealt)
+      (subst (λ ls. Dealt so_far.passes ls done arriving) (all_of pieces so_far.lists pieces_left so_far.pieces_are
+      (omega (arith, none', each))) so_far.dealt)
 
 -- the first of a list, and what is left of it
 module _ {X : Type 0} (all done left : List X) (are : all ≡ done ++ left) where
@@ -129,26 +139,32 @@ module _ {X : Type 0} (all done left : List X) (are : all ≡ done ++ left) wher
 
   pub so_of_next : (P : X → Type 0) (x : X) (later : List X) → left ≡ x ∷ later → All P all → P x
   so_of_next P x later is each = All-contains P all x each
-      (subst (λ (l : List X). Contains l x) (sym (are ∙ ap (λ (l : List X). done ++ l) is)) (Contains-append_right done (x ∷ later) x (in_head x later)))
+      (subst (λ (l : List X). Contains l x) (sym (are ∙ ap (λ (l : List X). done ++ l) is))
+      (Contains-append_right done (x ∷ later) x (in_head x later)))
 
 -- one value more, and its image
-pub mapped_more : {X Y : Type 0} (f : X → Y) (done : List X) (x : X) (old new : List Y) → old ≡ map f done → new ≡ old ++ f x ∷ [] → new ≡ map f (done ++ x ∷ [])
+pub mapped_more : {X Y : Type 0} (f : X → Y) (done : List X) (x : X) (old new : List Y) → old ≡ map f done → new ≡ old ++ f x ∷ []
+    → new ≡ map f (done ++ x ∷ [])
 mapped_more f done x old new are is = is ∙ ap (λ (l : List _). l ++ f x ∷ []) are ∙ sym (map-append f done (x ∷ []))
 
 pub flat_mapped_more : {X Y : Type 0} (f : X → List Y) (done : List X) (x : X) → flat_map f (done ++ x ∷ []) ≡ flat_map f done ++ f x
 flat_mapped_more f done x = flat_map-append f done (x ∷ []) ∙ ap (λ (l : List _). flat_map f done ++ l) (append-nil (f x))
 
 -- an owner's passes, which took in those of a worker
-pub absorbed : (parts : ℕ) (queues : List QueueView) (owners others now : List (PassView Parcel)) → ArePassesTo parts queues owners → ArePassesTo 1 queues others
+pub absorbed : (parts : ℕ) (queues : List QueueView) (owners others now : List (PassView Parcel)) → ArePassesTo parts queues owners
+    → ArePassesTo 1 queues others
     → ArePassesOf queues now → now ≡ each_joined owners others → ArePassesTo (parts + 1) queues now
 absorbed parts queues owners others now owned passes are joined = record {
   passes_are = are;
-  parts_are = subst (HaveParts (parts + 1)) (sym joined) (joined_parts parts 1 owners others (as_many queues others passes.passes_are ∙ sym (as_many queues owners owned.passes_are)) owned.parts_are passes.parts_are);
+  parts_are = subst (HaveParts (parts + 1)) (sym joined) (joined_parts parts 1 owners others (as_many queues others passes.passes_are
+      ∙ sym (as_many queues owners owned.passes_are)) owned.parts_are passes.parts_are);
   rightly = subst (ArePutRightly (length queues) 0) (sym joined) (joined_rightly (length queues) 0 owners others owned.rightly passes.rightly);
 }
 
-pub absorbed_parcels : (before : List Parcel) (owners others now : List (PassView Parcel)) (kept more after : List Parcel) → IsPermutation before (all_put owners ++ kept)
-    → length others ≡ length owners → now ≡ each_joined owners others → after ≡ kept ++ more → IsPermutation (before ++ (all_put others ++ more)) (all_put now ++ after)
+pub absorbed_parcels : (before : List Parcel) (owners others now : List (PassView Parcel)) (kept more after : List Parcel)
+    → IsPermutation before (all_put owners ++ kept)
+    → length others ≡ length owners → now ≡ each_joined owners others → after ≡ kept ++ more
+    → IsPermutation (before ++ (all_put others ++ more)) (all_put now ++ after)
 absorbed_parcels before owners others now kept more after order long joined are =
     let own = all_put owners in
     let put = all_put others in
@@ -156,5 +172,6 @@ absorbed_parcels before owners others now kept more after order long joined are 
     (from (append_assoc own kept (put ++ more))
     (follow (IsPermutation-append_right own (kept ++ (put ++ more)) (put ++ (kept ++ more)) (swapped kept put more))
     (from (sym (append_assoc own put (kept ++ more)))
-    (IsPermutation-append_left (kept ++ more) (own ++ put) (all_put (each_joined owners others)) (joined_together owners others (omega (arith, long))))))))
+    (IsPermutation-append_left (kept ++ more) (own ++ put) (all_put (each_joined owners others))
+    (joined_together owners others (omega (arith, long))))))))
     (ap (λ (ps : List (PassView Parcel)). all_put ps ++ (kept ++ more)) (sym joined) ∙ ap (λ (l : List Parcel). all_put now ++ l) (sym are))

@@ -18,7 +18,8 @@ module _ {X Y : Type 0} (f : X → List Y) where
   replaced (x ∷ xs) zero d v below = swapped (f v) (f x) (flat_map f xs)
   replaced (x ∷ xs) (suc i) d v below =
       follow (swapped (f v) (f x) (flat_map f xs))
-      (follow (IsPermutation-append_right (f x) (f v ++ flat_map f xs) (f (get_or xs i d) ++ flat_map f (set xs i v)) (replaced xs i d v (omega (arith, below))))
+      (follow (IsPermutation-append_right (f x) (f v ++ flat_map f xs) (f (get_or xs i d) ++ flat_map f (set xs i v))
+      (replaced xs i d v (omega (arith, below))))
       (swapped (f x) (f (get_or xs i d)) (flat_map f (set xs i v))))
 
   exchanged : (xs : List X) (i j : ℕ) (d : X) → i < length xs → j < length xs
@@ -42,7 +43,8 @@ module _ {X Y : Type 0} (f : X → List Y) where
   -- what is so of each value of each piece
   pub all_pieces : (P : Y → Type 0) (xs : List X) → All (λ x. All P (f x)) xs → All P (flat_map f xs)
   all_pieces P [] all = All-nil P
-  all_pieces P (x ∷ xs) all = All-append P (f x) (flat_map f xs) (All-head (λ y. All P (f y)) x xs all) (all_pieces P xs (All-tail (λ y. All P (f y)) x xs all))
+  all_pieces P (x ∷ xs) all = All-append P (f x) (flat_map f xs) (All-head (λ y. All P (f y)) x xs all)
+      (all_pieces P xs (All-tail (λ y. All P (f y)) x xs all))
 
   -- a part of all pieces together is the parts of each
   pub pieces_through : {Z : Type 0} (h : List Y → List Z) → h [] ≡ [] → ((a b : List Y) → h (a ++ b) ≡ h a ++ h b) → (xs : List X)
@@ -51,7 +53,8 @@ module _ {X Y : Type 0} (f : X → List Y) where
   pieces_through h none both (x ∷ xs) = ap (λ (l : List _). h (f x) ++ l) (pieces_through h none both xs) ∙ sym (both (f x) (flat_map f xs))
 
 -- each piece in another order
-pub flat_map_each : {X Y : Type 0} (f g : X → List Y) (xs : List X) → All (λ x. IsPermutation (f x) (g x)) xs → IsPermutation (flat_map f xs) (flat_map g xs)
+pub flat_map_each : {X Y : Type 0} (f g : X → List Y) (xs : List X) → All (λ x. IsPermutation (f x) (g x)) xs
+    → IsPermutation (flat_map f xs) (flat_map g xs)
 flat_map_each f g [] all = IsPermutation-refl []
 flat_map_each f g (x ∷ xs) all = IsPermutation-append (f x) (g x) (flat_map f xs) (flat_map g xs) (All-head (λ y. IsPermutation (f y) (g y)) x xs all)
     (flat_map_each f g xs (All-tail (λ y. IsPermutation (f y) (g y)) x xs all))

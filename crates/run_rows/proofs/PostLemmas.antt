@@ -31,26 +31,31 @@ module _ (workers worker : ℕ) where
   of_one false q = refl
 
   needed_more : (qs : List Request) (q : Request)
-      → rooms_needed (worker_requests workers worker (qs ++ q ∷ [])) ≡ rooms_needed (worker_requests workers worker qs) + cond (is_of_worker workers worker q) (needs_room q) 0
+      → rooms_needed (worker_requests workers worker (qs ++ q ∷ [])) ≡ rooms_needed (worker_requests workers worker qs) + cond
+      (is_of_worker workers worker q) (needs_room q) 0
   needed_more qs q = ap rooms_needed (filter-append (is_of_worker workers worker) qs (q ∷ []))
       ∙ sum_by-append needs_room (worker_requests workers worker qs) (worker_requests workers worker (q ∷ []))
       ∙ ap (λ n. rooms_needed (worker_requests workers worker qs) + n) (of_one (is_of_worker workers worker q) q)
 
   module _ (lines : List Line) (i : ℕ) (line : Line) (below : i < length lines) (is : line ≡ get_or lines i line) where
-    next : moves_among (take (i + 1) lines) ≡ moves_among (take i lines) + cond (is_of_worker workers worker (request_of line)) (needs_room (request_of line)) 0
-    next = ap (λ qs. rooms_needed (worker_requests workers worker qs)) (requests_next lines i line below is) ∙ needed_more (requests_of (take i lines)) (request_of line)
+    next : moves_among (take (i + 1) lines) ≡ moves_among (take i lines) + cond (is_of_worker workers worker (request_of line))
+        (needs_room (request_of line)) 0
+    next = ap (λ qs. rooms_needed (worker_requests workers worker qs)) (requests_next lines i line below is)
+        ∙ needed_more (requests_of (take i lines)) (request_of line)
 
     -- a move of the worker is one more
-    pub counted : (key to : ℕ) → line ≡ Move key to → is_of_worker workers worker (request_of line) ≡ true → moves_among (take (i + 1) lines) ≡ moves_among (take i lines) + 1
+    pub counted : (key to : ℕ) → line ≡ Move key to → is_of_worker workers worker (request_of line) ≡ true
+        → moves_among (take (i + 1) lines) ≡ moves_among (take i lines) + 1
     counted key to move_is mine = next ∙ ap (λ n. moves_among (take i lines) + n)
         (ap (λ b. cond b (needs_room (request_of line)) 0) mine ∙ ap (λ l. needs_room (request_of l)) move_is)
 
     -- what is no move counts for nothing, nor does another worker's
     pub not_move : ((key to : ℕ) → line ≡ Move key to → ⊥) → moves_among (take (i + 1) lines) ≡ moves_among (take i lines)
-    not_move not = next ∙ ap (λ n. moves_among (take i lines) + n) (none (is_of_worker workers worker (request_of line))) ∙ (let e : moves_among (take i lines) + 0 ≡ moves_among (take i lines) = omega arith in e) where
-      none : (b : Bool) → cond b (needs_room (request_of line)) 0 ≡ 0
-      none true = no_room line not
-      none false = refl
+    not_move not = next ∙ ap (λ n. moves_among (take i lines) + n) (none (is_of_worker workers worker (request_of line)))
+        ∙ (let e : moves_among (take i lines) + 0 ≡ moves_among (take i lines) = omega arith in e) where
+          none : (b : Bool) → cond b (needs_room (request_of line)) 0 ≡ 0
+          none true = no_room line not
+          none false = refl
 
     pub not_its : is_of_worker workers worker (request_of line) ≡ false → moves_among (take (i + 1) lines) ≡ moves_among (take i lines)
     not_its other = next ∙ ap (λ n. moves_among (take i lines) + n) (ap (λ b. cond b (needs_room (request_of line)) 0) other)
@@ -88,14 +93,22 @@ pub record AreOpened (queues : List QueueView) (owners : List (PassView Parcel))
 pub none_opened : AreOpened [] []
 none_opened = record { passes = tt; parts = All-nil (HasParts all_parts); nothing = refl }
 
-pub opened_more : (queues queues' : List QueueView) (owners owners' : List (PassView Parcel)) (q : QueueView) (p : PassView Parcel) → AreOpened queues owners
+pub opened_more : (queues queues' : List QueueView) (owners owners' : List (PassView Parcel)) (q : QueueView) (p : PassView Parcel)
+    → AreOpened queues owners
     → p.queue ≡ q.queue → p.account ≡ unused all_parts → queues' ≡ queues ++ q ∷ [] → owners' ≡ owners ++ p ∷ [] → AreOpened queues' owners'
 opened_more queues queues' owners owners' q p opened same account queues_are owners_are =
     subst (λ qs. AreOpened qs owners') (sym queues_are) (subst (AreOpened (queues ++ q ∷ [])) (sym owners_are) (record {
       passes = passes_more queues owners q p opened.passes (record { same = same; more = let e = ap (λ a. a.parts) account in omega (arith, e) });
-      parts = All-push (HasParts all_parts) owners p opened.parts (record { parts_are = ap (λ a. a.parts) account; none_taken = ap (λ a. a.taken) account });
+      parts = All-push (HasParts all_parts) owners p opened.parts (record {
+        parts_are = ap (λ a. a.parts) account;
+        none_taken = ap (λ a. a.taken) account;
+      });
       nothing = nothing_more owners p opened.nothing (ap (λ a. a.put) account);
     }))
 
 pub opened_all : (queues : List QueueView) (owners : List (PassView Parcel)) → AreOpened queues owners → ArePassesTo all_parts queues owners
-opened_all queues owners opened = record { passes_are = opened.passes; parts_are = opened.parts; rightly = none_rightly (length queues) 0 owners opened.nothing }
+opened_all queues owners opened = record {
+  passes_are = opened.passes;
+  parts_are = opened.parts;
+  rightly = none_rightly (length queues) 0 owners opened.nothing;
+}

@@ -31,21 +31,24 @@ use Rattle.run_rows.specs.Turns.{AreInTurn}
 -- the first so many flags are what the shards' workers were told
 pub record AreToldOf {C : Type 0} (all : List (Begun C)) (workers : ℕ) (flags : List Bool) (number : ℕ) : Type 0 where
   pub long : length flags ≡ shards
-  pub each : (shard : ℕ) (any : Begun C) → shard < number → is_flagged flags shard ≡ is_flagged (get_or all (workers - 1 - shard % workers) any).tables shard
+  pub each : (shard : ℕ) (any : Begun C) → shard < number → is_flagged flags shard ≡ is_flagged
+      (get_or all (workers - 1 - shard % workers) any).tables shard
 
 pub told_none : {C : Type 0} (all : List (Begun C)) (workers : ℕ) (flags : List Bool) → length flags ≡ shards → AreToldOf all workers flags 0
 told_none all workers flags long = record { long = long; each = λ shard any below. absurd (omega arith) }
 
-pub told_next : {C : Type 0} (all : List (Begun C)) (workers number : ℕ) (flags now : List Bool) (has : Bool) → number < shards → now ≡ set flags number has → length now ≡ shards
+pub told_next : {C : Type 0} (all : List (Begun C)) (workers number : ℕ) (flags now : List Bool) (has : Bool) → number < shards
+    → now ≡ set flags number has → length now ≡ shards
     → ((any : Begun C) → has ≡ is_flagged (get_or all (workers - 1 - number % workers) any).tables number) → AreToldOf all workers flags number
     → AreToldOf all workers now (number + 1)
 told_next all workers number flags now has small is long has_is told = record {
   long = long;
-  each = λ shard any below. elim (cases_eq shard number) as (λ _. is_flagged now shard ≡ is_flagged (get_or all (workers - 1 - shard % workers) any).tables shard) [
-    | inl same ↦ subst (λ n. is_flagged now n ≡ is_flagged (get_or all (workers - 1 - n % workers) any).tables n) (sym same)
-        (ap (λ fs. is_flagged fs number) is ∙ flag_set flags number has (let l = told.long in omega arith) ∙ has_is any)
-    | inr other ↦ ap (λ fs. is_flagged fs shard) is ∙ flag_stays flags number shard has other ∙ told.each shard any (omega arith)
-  ];
+  each = λ shard any below. elim (cases_eq shard number) as (λ _. is_flagged now shard ≡ is_flagged
+      (get_or all (workers - 1 - shard % workers) any).tables shard) [
+        | inl same ↦ subst (λ n. is_flagged now n ≡ is_flagged (get_or all (workers - 1 - n % workers) any).tables n) (sym same)
+            (ap (λ fs. is_flagged fs number) is ∙ flag_set flags number has (let l = told.long in omega arith) ∙ has_is any)
+        | inr other ↦ ap (λ fs. is_flagged fs shard) is ∙ flag_stays flags number shard has other ∙ told.each shard any (omega arith)
+      ];
 }
 
 pub told_all : {C : Type 0} (all : List (Begun C)) (workers : ℕ) (flags : List Bool) → AreInTurn (λ (one : Begun C). one.worker) workers all
@@ -54,7 +57,8 @@ told_all all workers flags turns told requests = λ k d less. record {
   each = λ shard small target.
       let w = (get_or all k d).worker in
       let turn = turns.each k d less in
-      let owner : shard % w.workers ≡ w.number = eqb-true (worker_of w.workers shard) w.number (and_parts (nat_eq (worker_of w.workers shard) w.number) (is_moved_to requests shard) target).0 in
+      let owner : shard % w.workers ≡ w.number = eqb-true (worker_of w.workers shard) w.number
+      (and_parts (nat_eq (worker_of w.workers shard) w.number) (is_moved_to requests shard) target).0 in
       let here : shard % workers ≡ w.number = subst (λ n. shard % n ≡ w.number) turn.0 owner in
       let last : w.number + k + 1 ≡ workers = turn.1 in
       let at : workers - 1 - shard % workers ≡ k = subst (λ n. workers - 1 - n ≡ k) (sym here) (omega (arith, last)) in
@@ -87,20 +91,24 @@ abbrev none_told : ℕ → Replies
 none_told worker = []
 
 module _ {C : Type 0} (shared : SharedView) (requests : List Request) where
-  left_ended : (tables : ℕ → Bool) (begun : Begun C) (ended : Ended) → IsLeftOf shared requests begun ended → IsEndedOf shared requests tables true none_told ended
+  left_ended : (tables : ℕ → Bool) (begun : Begun C) (ended : Ended) → IsLeftOf shared requests begun ended
+      → IsEndedOf shared requests tables true none_told ended
   left_ended tables begun ended left =
       let w = ended.worked.worker in
       let role_is = left.is_begun.part.role_is in
       let first_is = left.is_begun.is_first.fresh.view_is in
-      let offers : ended.worked.seat.view.offers ≡ 0 = ap (λ (v : View). v.offers) left.view ∙ ap (λ (r : Role). r.offers) role_is ∙ ap (λ (v : View). v.offers) first_is in
-      let accepts : ended.worked.seat.view.accepts ≡ 0 = ap (λ (v : View). v.accepts) left.view ∙ ap (λ (r : Role). r.accepts) role_is ∙ ap (λ (v : View). v.accepts) first_is in
+      let offers : ended.worked.seat.view.offers ≡ 0 = ap (λ (v : View). v.offers) left.view ∙ ap (λ (r : Role). r.offers) role_is
+      ∙ ap (λ (v : View). v.offers) first_is in
+      let accepts : ended.worked.seat.view.accepts ≡ 0 = ap (λ (v : View). v.accepts) left.view ∙ ap (λ (r : Role). r.accepts) role_is
+      ∙ ap (λ (v : View). v.accepts) first_is in
       record {
         came = [];
         brought = [];
         worked = left.worked tables;
         told_is = sym (ap (λ r. replies_of r.items) left.replies ∙ ap replies_of left.is_begun.empty);
         sorted = λ i j d up below. absurd (omega (arith, below));
-        sent = λ whole are. subst (λ xs. IsPermutation xs []) (sym (none_from w.workers requests whole (λ (s : Sent). nat_eq (worker_of w.workers (shard_of s.key)) w.number) (worker_numbers w.workers)))
+        sent = λ whole are. subst (λ xs. IsPermutation xs []) (sym (none_from w.workers requests whole
+            (λ (s : Sent). nat_eq (worker_of w.workers (shard_of s.key)) w.number) (worker_numbers w.workers)))
             (IsPermutation-refl []);
         offered = record { count = λ whole are. offers ∙ sym (ap length (sent_none whole (worker_numbered w.workers w.number requests))) };
         accepted = (omega arith, omega (arith, accepts));
@@ -114,7 +122,8 @@ module _ {C : Type 0} (shared : SharedView) (requests : List Request) where
         none_in : (cs : List CarrierView) (c : CarrierView) → cs ≡ [] → Contains cs c → c.table ≡ shared.table
         none_in cs c empty has = let l : length cs ≡ 0 = ap length empty in let b = has.1 in absurd (omega (arith, l, b))
 
-  left_all : (tables : ℕ → Bool) (all : List (Begun C)) (ended : List Ended) → AllZip (IsLeftOf shared requests) all ended → (i : ℕ) (d : Ended) → i < length ended
+  left_all : (tables : ℕ → Bool) (all : List (Begun C)) (ended : List Ended) → AllZip (IsLeftOf shared requests) all ended → (i : ℕ) (d : Ended)
+      → i < length ended
       → IsEndedOf shared requests tables true none_told (get_or ended i d)
   left_all tables [] [] left i d below = absurd (omega (arith, below))
   left_all tables [] (e ∷ ended) left i d below = absurd left
@@ -137,7 +146,8 @@ module _ {C : Type 0} (shared : SharedView) (requests : List Request) where
   left_at (b ∷ all) (e ∷ ended) left (suc i) d below = left_at all ended left.1 i d (omega (arith, below))
 
   -- all of them, one of whom was stopped
-  pub all_left : (all : List (Begun C)) (ended : List Ended) → AllZip (IsLeftOf shared requests) all ended → AreInTurn (λ (one : Begun C). one.worker) (length all) all
+  pub all_left : (all : List (Begun C)) (ended : List Ended) → AllZip (IsLeftOf shared requests) all ended
+      → AreInTurn (λ (one : Begun C). one.worker) (length all) all
       → (at : ℕ) × (at < length all) × ((any : Begun C) → (get_or all at any).stopped ≡ true) → HaveEnded shared requests (length all) ended
   all_left all ended left turns stopped = record {
     count = left_count all ended left;
@@ -156,7 +166,8 @@ module _ {C : Type 0} (shared : SharedView) (requests : List Request) where
     turn i any below =
         let one = left_at all ended left i any below in
         let here : i < length all = let count = left_count all ended left in omega (arith, count, below) in
-        let of_it = subst (λ (b : Begun C). (b.worker.workers ≡ length all) × (b.worker.number + i + 1 ≡ length all)) (one.1 one.0) (turns.each i one.0 here) in
+        let of_it = subst (λ (b : Begun C). (b.worker.workers ≡ length all) × (b.worker.number + i + 1 ≡ length all)) (one.1 one.0)
+        (turns.each i one.0 here) in
         subst (λ (w : Worker). (w.workers ≡ length all) × (w.number + i + 1 ≡ length all)) (sym one.2.worker) of_it
 
     stops : (any : Ended) → (get_or ended stopped.0 any).worked.stopped ≡ true
@@ -195,12 +206,14 @@ Passes {X} test xs = (at : ℕ) × (at < length xs) × ((any : X) → test (get_
 passes_more : {X : Type 0} (test : X → Bool) (x : X) (xs : List X) → Passes test xs → Passes test (x ∷ xs)
 passes_more test x xs rest = let below = rest.1 in (suc rest.0, omega (arith, below), λ any. rest.2 any)
 
-passes_first : {X : Type 0} (test : X → Bool) (x : X) (xs : List X) (b : Bool) → test x ≡ b → (b || list_any test xs) ≡ true → (list_any test xs ≡ true → Passes test xs)
+passes_first : {X : Type 0} (test : X → Bool) (x : X) (xs : List X) (b : Bool) → test x ≡ b → (b || list_any test xs) ≡ true
+    → (list_any test xs ≡ true → Passes test xs)
     → Passes test (x ∷ xs)
 passes_first test x xs true is passed later = (0, omega arith, λ any. is)
 passes_first test x xs false is passed later = passes_more test x xs (later passed)
 
-pub passes_at : {X : Type 0} (test : X → Bool) (xs : List X) → list_any test xs ≡ true → (at : ℕ) × (at < length xs) × ((any : X) → test (get_or xs at any) ≡ true)
+pub passes_at : {X : Type 0} (test : X → Bool) (xs : List X) → list_any test xs ≡ true → (at : ℕ) × (at < length xs)
+    × ((any : X) → test (get_or xs at any) ≡ true)
 passes_at test [] passed = let both : false ≡ true = passed in absurd (cc)
 passes_at test (x ∷ xs) passed = passes_first test x xs (test x) refl passed (passes_at test xs)
 

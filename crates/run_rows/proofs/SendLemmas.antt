@@ -32,7 +32,8 @@ use Rattle.run_rows.specs.Posts.{ArePassesTo, AreSentBy, sent_by_worker}
 use Rattle.run_rows.specs.Rows.{IsAnsweredOf, parcels_by}
 
 -- with more parts than some, if each has that many
-pub passes_with : (m parts : ℕ) (queues : List QueueView) (passes : List (PassView Parcel)) → m < parts → ArePassesOf queues passes → HaveParts parts passes
+pub passes_with : (m parts : ℕ) (queues : List QueueView) (passes : List (PassView Parcel)) → m < parts → ArePassesOf queues passes
+    → HaveParts parts passes
     → ArePassesWith m queues passes
 passes_with m parts [] [] more all have = tt
 passes_with m parts [] (p ∷ ps) more all have = absurd all
@@ -75,7 +76,8 @@ pub goes_offering : {C : Type 0} (gives : C → ℕ → C → Type 0) (s t : Cac
 goes_offering gives s t on = (on.stays.table, on.stays.costs, on.carries)
 
 -- a worker that has begun has offered and accepted nothing
-module _ (shared : SharedView) (workers worker : ℕ) (wanted tables : ℕ → Bool) (stopped : Bool) (first s : CacheState) (is_first : IsFirst shared workers worker first)
+module _ (shared : SharedView) (workers worker : ℕ) (wanted tables : ℕ → Bool) (stopped : Bool) (first s : CacheState)
+    (is_first : IsFirst shared workers worker first)
     (part : IsBegun (image_of shared) wanted tables stopped first s) where
   begun_role : role s.view ≡ no_role
   begun_role = part.role_is ∙ ap role is_first.fresh.view_is
@@ -94,7 +96,8 @@ module _ (shared : SharedView) (workers worker : ℕ) (wanted tables : ℕ → B
   begun_in_step table box same none = record { at_table = begun_table ∙ sym same; offered = none_offered ∙ sym (ap length none) }
 
 -- nothing is sent by new passes
-pub none_sent : (box : BoxView) (passes : List (PassView Parcel)) (kept : List Parcel) → box.passes ≡ passes → box.kept ≡ kept → all_put passes ≡ [] → kept ≡ [] → sent_by box ≡ []
+pub none_sent : (box : BoxView) (passes : List (PassView Parcel)) (kept : List Parcel) → box.passes ≡ passes → box.kept ≡ kept
+    → all_put passes ≡ [] → kept ≡ [] → sent_by box ≡ []
 none_sent box passes kept passes_are kept_are nothing empty = ap all_sent_of
     (ap (λ (l : List Parcel). l ++ box.kept) (ap all_put passes_are ∙ nothing) ∙ kept_are ∙ empty)
 
@@ -103,31 +106,39 @@ pub empty_of : (table : _) (kept : List Parcel) → kept ≡ [] → All (IsParce
 empty_of table kept empty = All-same (IsParcelOf table) kept [] empty (All-nil (IsParcelOf table))
 
 -- a worker's requests are worked off by a box of such passes
-module _ {C : Type 0} (shared : SharedView) (requests : List Request) (tables : ℕ → Bool) (queues row : List QueueView) (worker : Worker) (before after : BoxView)
-    (one : Answered C) (worker_is : one.asked.worker ≡ worker) (passes_are : one.passes.items ≡ after.passes) (kept_are : one.kept.items ≡ after.kept) where
+module _ {C : Type 0} (shared : SharedView) (requests : List Request) (tables : ℕ → Bool) (queues row : List QueueView) (worker : Worker)
+    (before after : BoxView)
+    (one : Answered C) (worker_is : one.asked.worker ≡ worker) (passes_are : one.passes.items ≡ after.passes)
+    (kept_are : one.kept.items ≡ after.kept) where
   by_box : parcels_by one ≡ parcels_of after
   by_box = ap (λ (ps : List (PassView Parcel)). all_put ps ++ one.kept.items) passes_are ∙ ap (λ (l : List Parcel). all_put after.passes ++ l) kept_are
 
   sent_all : ((whole : Map) → IsWholeMap (image_of shared) whole
-      → IsPermutation (sent_by_worker worker.workers requests whole worker.number (replies_of one.asked.replies.items) ++ sent_by before) (sent_by after))
+      → IsPermutation (sent_by_worker worker.workers requests whole worker.number (replies_of one.asked.replies.items) ++ sent_by before)
+      (sent_by after))
       → sent_by before ≡ []
       → AreSentBy shared one.asked.worker.workers requests one.asked.worker.number (replies_of one.asked.replies.items) (parcels_by one)
   sent_all sent none = record {
-    same = λ whole is_whole. subst (λ (w : Worker). IsPermutation (sent_by_worker w.workers requests whole w.number (replies_of one.asked.replies.items)) (all_sent_of (parcels_by one)))
-        (sym worker_is) (upto (from (sym (append-nil (of_it whole)) ∙ ap (λ (l : List Sent). of_it whole ++ l) (sym none)) (sent whole is_whole)) (ap all_sent_of (sym by_box)));
+    same = λ whole is_whole. subst (λ (w : Worker). IsPermutation (sent_by_worker w.workers requests whole w.number
+        (replies_of one.asked.replies.items)) (all_sent_of (parcels_by one)))
+        (sym worker_is) (upto (from (sym (append-nil (of_it whole)) ∙ ap (λ (l : List Sent). of_it whole ++ l) (sym none))
+        (sent whole is_whole)) (ap all_sent_of (sym by_box)));
   } where
     of_it : Map → List Sent
     of_it whole = sent_by_worker worker.workers requests whole worker.number (replies_of one.asked.replies.items)
 
   pub answered_of : (table : _) → table ≡ shared.table → queues ≡ row → IsAskedOf shared requests tables one.asked
-      → ArePassesOf row one.passes.items → HaveParts 1 one.passes.items → ArePutRightly (length row) 0 one.passes.items → All (IsParcelOf table) one.kept.items
+      → ArePassesOf row one.passes.items → HaveParts 1 one.passes.items → ArePutRightly (length row) 0 one.passes.items
+      → All (IsParcelOf table) one.kept.items
       → ((whole : Map) → IsWholeMap (image_of shared) whole
-      → IsPermutation (sent_by_worker worker.workers requests whole worker.number (replies_of one.asked.replies.items) ++ sent_by before) (sent_by after))
+      → IsPermutation (sent_by_worker worker.workers requests whole worker.number (replies_of one.asked.replies.items) ++ sent_by before)
+      (sent_by after))
       → sent_by before ≡ [] → IsInStep table after one.asked.seat.state → one.asked.seat.state.view.accepts ≡ 0
       → IsAnsweredOf shared requests tables queues one
   answered_of table heap are asked passes parts rightly kept sent none step accepted = record {
     asked = asked;
-    passes = subst (λ (qs : List QueueView). ArePassesTo 1 qs one.passes.items) (sym are) (record { passes_are = passes; parts_are = parts; rightly = rightly });
+    passes = subst (λ (qs : List QueueView). ArePassesTo 1 qs one.passes.items) (sym are)
+        (record { passes_are = passes; parts_are = parts; rightly = rightly });
     kept = subst (λ t. All (IsParcelOf t) one.kept.items) heap kept;
     sent = sent_all sent none;
     offered = step.offered ∙ length-map (parcels_of after) sent_of ∙ ap length (sym by_box);
@@ -149,7 +160,8 @@ module _ (n : ℕ) (few : n < 8) (queues : List QueueView) (owners : List (PassV
   one_made passes is = made_of (all_parts - (n + 1)) queues owners passes (omega (arith, few)) with_more is
 
 -- workers that have begun are in their turn with their passes too
-pub in_turn : {C : Type 0} (all : List (Begun C)) (senders : List (Sender C)) → map (λ (s : Sender C). s.begun) senders ≡ all → AreInTurn (λ (b : Begun C). b.worker) (length all) all
+pub in_turn : {C : Type 0} (all : List (Begun C)) (senders : List (Sender C)) → map (λ (s : Sender C). s.begun) senders ≡ all
+    → AreInTurn (λ (b : Begun C). b.worker) (length all) all
     → AreInTurn (λ (s : Sender C). s.begun.worker) (length senders) senders
 in_turn {C} all senders are turns = record {
   each = λ i any below.

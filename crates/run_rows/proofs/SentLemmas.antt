@@ -48,15 +48,19 @@ moves_first (move key to) qs = true_or (nat_eq (shard_of to) (shard_of to)) (is_
 all_moves : (at : ℕ) (qs : List Request) → All (λ (n : ℕ × Request). MovesIn qs n.1) (numbered at qs)
 all_moves at [] = All-nil (λ (n : ℕ × Request). MovesIn [] n.1)
 all_moves at (q ∷ qs) = All-cons (λ (n : ℕ × Request). MovesIn (q ∷ qs) n.1) (at, q) (numbered (at + 1) qs) (moves_first q qs)
-    (All-weaker (λ (n : ℕ × Request). MovesIn qs n.1) (λ (n : ℕ × Request). MovesIn (q ∷ qs) n.1) (λ n is. moves_more q qs n.1 is) (numbered (at + 1) qs) (all_moves (at + 1) qs))
+    (All-weaker (λ (n : ℕ × Request). MovesIn qs n.1) (λ (n : ℕ × Request). MovesIn (q ∷ qs) n.1) (λ n is. moves_more q qs n.1 is)
+    (numbered (at + 1) qs) (all_moves (at + 1) qs))
 
 -- a worker's requests without their numbers
-without_numbers : (p : Request → Bool) (at : ℕ) (qs : List Request) → map (λ (n : ℕ × Request). n.1) (filter (λ (n : ℕ × Request). p n.1) (numbered at qs)) ≡ filter p qs
+without_numbers : (p : Request → Bool) (at : ℕ) (qs : List Request)
+    → map (λ (n : ℕ × Request). n.1) (filter (λ (n : ℕ × Request). p n.1) (numbered at qs)) ≡ filter p qs
 without_numbers p at [] = refl
-without_numbers p at (q ∷ qs) = by_case (p q) (filter (λ (n : ℕ × Request). p n.1) (numbered (at + 1) qs)) (filter p qs) (without_numbers p (at + 1) qs) where
-  by_case : (b : Bool) (ns : List (ℕ × Request)) (rs : List Request) → map (λ (n : ℕ × Request). n.1) ns ≡ rs → map (λ (n : ℕ × Request). n.1) (cond b ((at, q) ∷ ns) ns) ≡ cond b (q ∷ rs) rs
-  by_case true ns rs same = ap (λ (l : List Request). q ∷ l) same
-  by_case false ns rs same = same
+without_numbers p at (q ∷ qs) = by_case (p q) (filter (λ (n : ℕ × Request). p n.1) (numbered (at + 1) qs)) (filter p qs)
+    (without_numbers p (at + 1) qs) where
+      by_case : (b : Bool) (ns : List (ℕ × Request)) (rs : List Request) → map (λ (n : ℕ × Request). n.1) ns ≡ rs
+          → map (λ (n : ℕ × Request). n.1) (cond b ((at, q) ∷ ns) ns) ≡ cond b (q ∷ rs) rs
+      by_case true ns rs same = ap (λ (l : List Request). q ∷ l) same
+      by_case false ns rs same = same
 
 -- the key's shard is told to have a table, and a move goes there
 pub record IsMovedTo (tables : ℕ → Bool) (requests : List Request) (key : ℕ) : Type 0 where
@@ -64,9 +68,11 @@ pub record IsMovedTo (tables : ℕ → Bool) (requests : List Request) (key : �
   pub moved : is_moved_to requests (shard_of key) ≡ true
 
 module _ (tables : ℕ → Bool) (requests : List Request) where
-  way_moves : (o : Option (List ℕ)) (number to : ℕ) → IsMovedTo tables requests to → All (λ (s : Sent). IsMovedTo tables requests s.key) (on_its_way o number to)
+  way_moves : (o : Option (List ℕ)) (number to : ℕ) → IsMovedTo tables requests to
+      → All (λ (s : Sent). IsMovedTo tables requests s.key) (on_its_way o number to)
   way_moves None number to is = All-nil (λ (s : Sent). IsMovedTo tables requests s.key)
-  way_moves (Some value) number to is = All-cons (λ (s : Sent). IsMovedTo tables requests s.key) (record { number = number; key = to; value = value }) [] is
+  way_moves (Some value) number to is = All-cons (λ (s : Sent). IsMovedTo tables requests s.key)
+      (record { number = number; key = to; value = value }) [] is
       (All-nil (λ (s : Sent). IsMovedTo tables requests s.key))
 
   one_moves : (whole : Map) (number : ℕ) (q : Request) (a : Reply) → MovesIn requests q → GoesByTables tables q (Some a)
@@ -98,8 +104,10 @@ module _ (tables : ℕ → Bool) (requests : List Request) where
       → All (λ (s : Sent). IsMovedTo tables requests s.key) (all_sent whole (worker_numbered workers worker requests) told)
   sent_moved whole workers worker told goes =
       all_moved whole (worker_numbered workers worker requests) told
-      (All-filter (λ (n : ℕ × Request). is_of_worker workers worker n.1) (λ (n : ℕ × Request). MovesIn requests n.1) (numbered 0 requests) (all_moves 0 requests))
-      (λ q a among. goes q a (subst (λ (qs : List Request). Contains (answered qs told) (q, a)) (without_numbers (is_of_worker workers worker) 0 requests) among))
+      (All-filter (λ (n : ℕ × Request). is_of_worker workers worker n.1) (λ (n : ℕ × Request). MovesIn requests n.1) (numbered 0 requests)
+      (all_moves 0 requests))
+      (λ q a among. goes q a (subst (λ (qs : List Request). Contains (answered qs told) (q, a))
+      (without_numbers (is_of_worker workers worker) 0 requests) among))
 
 -- what was told by numbers, to those who stand in their turn, the last one first
 module _ {X : Type 0} (told : X → Replies) where

@@ -14,9 +14,11 @@ use Rattle.run_rows.specs.declared.arriving.Ended.{Ended}
 use Rattle.run_rows.specs.Posts.{HasOffered, all_sent_to}
 use Rattle.run_rows.specs.Turns.{AreInTurn}
 
--- It ended: this came for it, in the order of the requests' numbers, and the first of that is brought in. It accepted the blocks of these, and of the next one at most; the
+-- It ended: this came for it, in the order of the requests' numbers, and the first of that is brought in. It accepted
+-- the blocks of these, and of the next one at most; the
 -- carriers of the others are left, and none where it wasn't stopped.
-pub record IsEndedOf (shared : SharedView) (requests : List Request) (tables : ℕ → Bool) (halted : Bool) (told : ℕ → Replies) (one : Ended) : Type 0 where
+pub record IsEndedOf (shared : SharedView) (requests : List Request) (tables : ℕ → Bool) (halted : Bool) (told : ℕ → Replies)
+    (one : Ended) : Type 0 where
   pub came : List Sent
   pub brought : List Sent
   pub worked : IsWorkedOf shared requests tables came brought halted one.worked

@@ -41,7 +41,8 @@ pub record AreSentBy (shared : SharedView) (workers : ℕ) (requests : List Requ
       → IsPermutation (sent_by_worker workers requests whole worker told) (all_sent_of parcels)
 
 -- the parcels are what all workers sent to this one, in some order
-pub record AreSentTo (shared : SharedView) (workers : ℕ) (requests : List Request) (told : ℕ → Replies) (worker : ℕ) (parcels : List Parcel) : Type 0 where
+pub record AreSentTo (shared : SharedView) (workers : ℕ) (requests : List Request) (told : ℕ → Replies) (worker : ℕ)
+    (parcels : List Parcel) : Type 0 where
   pub same : (whole : Map) → IsWholeMap (image_of shared) whole
       → IsPermutation (all_sent_to workers requests whole told worker) (all_sent_of parcels)
 

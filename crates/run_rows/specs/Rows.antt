@@ -43,7 +43,8 @@ abbrev pub parcels_by : {C : Type 0} → Answered C → List Parcel
 parcels_by one = all_put one.passes.items ++ one.kept.items
 
 -- its requests are worked off: what they sent was put by its passes or kept, it has offered as many blocks as that and accepted none
-pub record IsAnsweredOf {C : Type 0} (shared : SharedView) (requests : List Request) (tables : ℕ → Bool) (queues : List QueueView) (one : Answered C) : Type 0 where
+pub record IsAnsweredOf {C : Type 0} (shared : SharedView) (requests : List Request) (tables : ℕ → Bool) (queues : List QueueView)
+    (one : Answered C) : Type 0 where
   pub asked : IsAskedOf shared requests tables one.asked
   pub passes : ArePassesTo 1 queues one.passes.items
   pub kept : All (IsParcelOf shared.table) one.kept.items
@@ -63,7 +64,8 @@ pub record IsArrivingOf {C : Type 0} (shared : SharedView) (requests : List Requ
   pub none_taken : one.pass.account.taken ≡ []
   pub kept : All (IsParcelOf shared.table) one.kept.items
   pub sent : AreSentTo shared one.asked.worker.workers requests told one.asked.worker.number (one.pass.account.put ++ one.kept.items)
-  pub with_table : All (λ (p : Parcel). HasTableFor tables requests one.asked.worker.workers one.asked.worker.number p.key) (one.pass.account.put ++ one.kept.items)
+  pub with_table : All (λ (p : Parcel). HasTableFor tables requests one.asked.worker.workers one.asked.worker.number p.key)
+      (one.pass.account.put ++ one.kept.items)
 
 -- each worker got its own queue's pass and piece of what was kept: the last worker comes first, and the last pass and piece are its own
 abbrev pub AreDealtOut : {C : Type 0} → List (PassView Parcel) → List (List Parcel) → List (Asked C) → List (Arriving C) → Type 0

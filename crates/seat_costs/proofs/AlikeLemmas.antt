@@ -26,7 +26,22 @@ pub record Standing : Type 0 where
   role_of : Role
 
 abbrev pub standing : View → Standing
-standing v = record { setup = v.setup; roots = v.roots; used_look = v.used_look; head_looks = v.head_looks; floor = v.floor; last_ticket = v.last_ticket; taken = v.taken; draws = v.draws; cuts = v.cuts; wins = v.wins; losses = v.losses; gives = v.gives; moves = v.moves; role_of = role v }
+standing v = record {
+  setup = v.setup;
+  roots = v.roots;
+  used_look = v.used_look;
+  head_looks = v.head_looks;
+  floor = v.floor;
+  last_ticket = v.last_ticket;
+  taken = v.taken;
+  draws = v.draws;
+  cuts = v.cuts;
+  wins = v.wins;
+  losses = v.losses;
+  gives = v.gives;
+  moves = v.moves;
+  role_of = role v;
+}
 
 -- with the held blocks; and with what is recorded too
 abbrev pub holding : View → Standing × List (List ℕ) × List Span
@@ -81,7 +96,15 @@ to_plain v w p = record {
   floor = p.floor;
   next = p.next;
   tickets = p.tickets;
-  more = record { draws = p.more.draws; wins = p.more.wins; losses = p.more.losses; gives = p.more.gives; moves = p.more.moves; cuts = p.more.cuts; taken = p.more.taken };
+  more = record {
+    draws = p.more.draws;
+    wins = p.more.wins;
+    losses = p.more.losses;
+    gives = p.more.gives;
+    moves = p.more.moves;
+    cuts = p.more.cuts;
+    taken = p.more.taken;
+  };
   most = record { draws = p.most.draws; wins = p.most.wins; gives = p.most.gives; cuts = p.most.cuts; taken = p.most.taken; moves = p.most.moves };
   looks = record { used = p.looks.used; heads = p.looks.heads; no_less = p.looks.no_less };
 }
@@ -94,7 +117,15 @@ from_plain v w p = record {
   floor = p.floor;
   next = p.next;
   tickets = p.tickets;
-  more = record { draws = p.more.draws; wins = p.more.wins; losses = p.more.losses; gives = p.more.gives; moves = p.more.moves; cuts = p.more.cuts; taken = p.more.taken };
+  more = record {
+    draws = p.more.draws;
+    wins = p.more.wins;
+    losses = p.more.losses;
+    gives = p.more.gives;
+    moves = p.more.moves;
+    cuts = p.more.cuts;
+    taken = p.more.taken;
+  };
   most = record { draws = p.most.draws; wins = p.most.wins; gives = p.most.gives; cuts = p.most.cuts; taken = p.most.taken; moves = p.most.moves };
   looks = record { used = p.looks.used; heads = p.looks.heads; no_less = p.looks.no_less };
 }
@@ -113,7 +144,8 @@ row_words v u w same words p = record {
 
 -- one that differs in nothing that rows speak of
 pub row_alike : {a : Costs} (v u w : View) → recording w ≡ recording u → ViewRow a v u → ViewRow a v w
-row_alike v u w same p = row_words v u w (ap (λ r. (r.0, r.1, r.2)) same) (λ k held. word_same u w k (ap (λ r. get_or r.3 k None) same) (ap (λ r. get_or r.4 k None) same)) p
+row_alike v u w same p = row_words v u w (ap (λ r. (r.0, r.1, r.2)) same)
+    (λ k held. word_same u w k (ap (λ r. get_or r.3 k None) same) (ap (λ r. get_or r.4 k None) same)) p
 
 -- by an equation of the views
 pub row_as : {a : Costs} (u v w : View) → w ≡ v → ViewRow a u v → ViewRow a u w
@@ -121,9 +153,19 @@ row_as {a} u v w same = subst (ViewRow a u) (sym same)
 
 -- a view that differs in counts, and in the floor, which doesn't fall
 abbrev pub counted : View → View → Standing
-counted v w = record (standing v) { floor = w.floor; taken = w.taken; draws = w.draws; cuts = w.cuts; wins = w.wins; losses = w.losses; gives = w.gives; moves = w.moves }
+counted v w = record (standing v) {
+  floor = w.floor;
+  taken = w.taken;
+  draws = w.draws;
+  cuts = w.cuts;
+  wins = w.wins;
+  losses = w.losses;
+  gives = w.gives;
+  moves = w.moves;
+}
 
-pub passes_counted : {a : Costs} (v w : View) → standing w ≡ counted v w → v.floor ≤ w.floor → w.draws ≤ v.draws → NoneFalls v w → RisesBy a v w → Passes a v w
+pub passes_counted : {a : Costs} (v w : View) → standing w ≡ counted v w → v.floor ≤ w.floor → w.draws ≤ v.draws → NoneFalls v w → RisesBy a v w
+    → Passes a v w
 passes_counted v w same floor few more most = record {
   setup = ap (λ (s : Standing). s.setup) same;
   roots = ap (λ (s : Standing). s.roots) same;
@@ -140,7 +182,8 @@ passes_counted v w same floor few more most = record {
   };
 }
 
-pub row_counted : {a : Costs} (v w : View) → recording w ≡ (counted v w, v.small, v.large, v.volatile, v.durable) → v.floor ≤ w.floor → w.draws ≤ v.draws → NoneFalls v w → RisesBy a v w → ViewRow a v w
+pub row_counted : {a : Costs} (v w : View) → recording w ≡ (counted v w, v.small, v.large, v.volatile, v.durable) → v.floor ≤ w.floor
+    → w.draws ≤ v.draws → NoneFalls v w → RisesBy a v w → ViewRow a v w
 row_counted v w same floor few more most = record {
   passes = passes_counted v w (ap (λ r. r.0) same) floor few more most;
   small = ap (λ r. r.1) same;
@@ -149,45 +192,68 @@ row_counted v w same floor few more most = record {
 }
 
 -- what exchanges count
-falls_none : (v w : View) → v.draws ≤ w.draws → v.wins ≤ w.wins → v.losses ≤ w.losses → v.gives ≤ w.gives → v.moves ≤ w.moves → v.cuts ≤ w.cuts → v.taken ≤ w.taken → NoneFalls v w
-falls_none v w draws wins losses gives moves cuts taken = record { draws = draws; wins = wins; losses = losses; gives = gives; moves = moves; cuts = cuts; taken = taken }
+falls_none : (v w : View) → v.draws ≤ w.draws → v.wins ≤ w.wins → v.losses ≤ w.losses → v.gives ≤ w.gives → v.moves ≤ w.moves → v.cuts ≤ w.cuts
+    → v.taken ≤ w.taken → NoneFalls v w
+falls_none v w draws wins losses gives moves cuts taken = record {
+  draws = draws;
+  wins = wins;
+  losses = losses;
+  gives = gives;
+  moves = moves;
+  cuts = cuts;
+  taken = taken;
+}
 
 pub lost_row : (v : View) (found : ℕ) → ViewRow one_loss v (lost v found)
-lost_row v found = row_counted v (lost v found) refl (omega arith) (omega arith) (falls_none v (lost v found) (omega arith) (omega arith) (omega arith) (omega arith) (omega arith) (omega arith) (omega arith))
+lost_row v found = row_counted v (lost v found) refl (omega arith) (omega arith)
+    (falls_none v (lost v found) (omega arith) (omega arith) (omega arith) (omega arith) (omega arith) (omega arith) (omega arith))
     (record { draws = omega arith; wins = omega arith; gives = omega arith; cuts = omega arith; taken = omega arith; moves = omega arith })
 
 pub won_row : (v : View) → ViewRow one_win v (won v)
-won_row v = row_counted v (won v) refl (omega arith) (omega arith) (falls_none v (won v) (omega arith) (omega arith) (omega arith) (omega arith) (omega arith) (omega arith) (omega arith))
+won_row v = row_counted v (won v) refl (omega arith) (omega arith)
+    (falls_none v (won v) (omega arith) (omega arith) (omega arith) (omega arith) (omega arith) (omega arith) (omega arith))
     (record { draws = omega arith; wins = omega arith; gives = omega arith; cuts = omega arith; taken = omega arith; moves = omega arith })
 
 pub gave_row : (v : View) → ViewRow one_give v (record (won v) { gives = v.gives + 1 })
 gave_row v = let w : View = record (won v) { gives = v.gives + 1 } in
-    row_counted v w refl (omega arith) (omega arith) (falls_none v w (omega arith) (omega arith) (omega arith) (omega arith) (omega arith) (omega arith) (omega arith))
+    row_counted v w refl (omega arith) (omega arith) (falls_none v w (omega arith) (omega arith) (omega arith) (omega arith) (omega arith)
+    (omega arith) (omega arith))
     (record { draws = omega arith; wins = omega arith; gives = omega arith; cuts = omega arith; taken = omega arith; moves = omega arith })
 
 pub moved_row : (v : View) → ViewRow one_move v (record (won v) { moves = v.moves + 1 })
 moved_row v = let w : View = record (won v) { moves = v.moves + 1 } in
-    row_counted v w refl (omega arith) (omega arith) (falls_none v w (omega arith) (omega arith) (omega arith) (omega arith) (omega arith) (omega arith) (omega arith))
+    row_counted v w refl (omega arith) (omega arith) (falls_none v w (omega arith) (omega arith) (omega arith) (omega arith) (omega arith)
+    (omega arith) (omega arith))
     (record { draws = omega arith; wins = omega arith; gives = omega arith; cuts = omega arith; taken = omega arith; moves = omega arith })
 
 pub took_row : (v : View) (n : ℕ) → ViewRow (record one_win { taken = n }) v (record (won v) { taken = v.taken + n })
 took_row v n = let w : View = record (won v) { taken = v.taken + n } in
-    row_counted v w refl (omega arith) (omega arith) (falls_none v w (omega arith) (omega arith) (omega arith) (omega arith) (omega arith) (omega arith) (omega arith))
+    row_counted v w refl (omega arith) (omega arith) (falls_none v w (omega arith) (omega arith) (omega arith) (omega arith) (omega arith)
+    (omega arith) (omega arith))
     (record { draws = omega arith; wins = omega arith; gives = omega arith; cuts = omega arith; taken = omega arith; moves = omega arith })
 
 pub cut_row : (v : View) → ViewRow (record no_costs { cuts = 1 }) v (record v { cuts = v.cuts + 1 })
 cut_row v = let w : View = record v { cuts = v.cuts + 1 } in
-    row_counted v w refl (omega arith) (omega arith) (falls_none v w (omega arith) (omega arith) (omega arith) (omega arith) (omega arith) (omega arith) (omega arith))
+    row_counted v w refl (omega arith) (omega arith) (falls_none v w (omega arith) (omega arith) (omega arith) (omega arith) (omega arith)
+    (omega arith) (omega arith))
     (record { draws = omega arith; wins = omega arith; gives = omega arith; cuts = omega arith; taken = omega arith; moves = omega arith })
 
 pub raised_row : (v : View) (floor : ℕ) → v.floor ≤ floor → ViewRow no_costs v (record v { floor = floor })
 raised_row v floor less = let w : View = record v { floor = floor } in
-    row_counted v w refl less (omega arith) (falls_none v w (omega arith) (omega arith) (omega arith) (omega arith) (omega arith) (omega arith) (omega arith))
+    row_counted v w refl less (omega arith) (falls_none v w (omega arith) (omega arith) (omega arith) (omega arith) (omega arith) (omega arith)
+    (omega arith))
     (record { draws = omega arith; wins = omega arith; gives = omega arith; cuts = omega arith; taken = omega arith; moves = omega arith })
 
 -- what is done at no cost
 pub then_none : {a : Costs} (u v w : View) → ViewRow a u v → ViewRow no_costs v w → ViewRow a u w
-then_none {a} u v w p q = view_row_within a u w (record { draws = omega arith; wins = omega arith; gives = omega arith; cuts = omega arith; taken = omega arith; moves = omega arith }) (view_row_then u v w p q)
+then_none {a} u v w p q = view_row_within a u w (record {
+  draws = omega arith;
+  wins = omega arith;
+  gives = omega arith;
+  cuts = omega arith;
+  taken = omega arith;
+  moves = omega arith;
+}) (view_row_then u v w p q)
 
 -- words that are not own any more are forgotten
 pub trimmed_row : {a : Costs} (v u : View) → ViewRow a v u → ViewRow a v (trimmed u)
@@ -195,8 +261,10 @@ trimmed_row v u p = row_words v u (trimmed u) refl (λ k held. trimmed_word u k 
 
 -- a descriptor more
 pub claimed_row : {a : Costs} (list d : ℕ) (v u : View) → ViewRow a v u → ViewRow a v (claimed u d list)
-claimed_row zero d v u p = row_alike v (record u { floor = max u.floor (d + 1) }) (claimed u d zero) refl (then_none v u (record u { floor = max u.floor (d + 1) }) p (raised_row u (max u.floor (d + 1)) (omega arith)))
-claimed_row (suc class) d v u p = row_alike v (record u { floor = max u.floor (d + 1) }) (claimed u d (suc class)) refl (then_none v u (record u { floor = max u.floor (d + 1) }) p (raised_row u (max u.floor (d + 1)) (omega arith)))
+claimed_row zero d v u p = row_alike v (record u { floor = max u.floor (d + 1) }) (claimed u d zero) refl
+    (then_none v u (record u { floor = max u.floor (d + 1) }) p (raised_row u (max u.floor (d + 1)) (omega arith)))
+claimed_row (suc class) d v u p = row_alike v (record u { floor = max u.floor (d + 1) }) (claimed u d (suc class)) refl
+    (then_none v u (record u { floor = max u.floor (d + 1) }) p (raised_row u (max u.floor (d + 1)) (omega arith)))
 
 -- a ticket
 pub drew_row : (v : View) (ticket : ℕ) → next_of v ≤ ticket → ViewRow one_draw v (drew v ticket)

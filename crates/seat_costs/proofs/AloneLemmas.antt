@@ -45,12 +45,13 @@ pub none_lost : (k : Setup) (m : Memory) (v : View) → Good k m (v ∷ []) → 
 none_lost k m v good = let all = good.lost 0 v (omega arith) refl in omega arith
 
 pub event_won : (event : Event) (v w : View) (found : ℕ) → (e : IsEvent event v found w) → e.before.views ≡ v ∷ [] → w.losses ≡ 0
-event_won event v w found e only = none_lost v.setup (memory_of v.setup.capacity (words_after v.setup e.before.words v event)) w (subst (λ views. Good v.setup (memory_of v.setup.capacity (words_after v.setup e.before.words v event)) views) alone e.kept.good) where
-  first : e.before.seat ≡ 0
-  first = let below = e.before.below in let one = ap length only in omega arith
+event_won event v w found e only = none_lost v.setup (memory_of v.setup.capacity (words_after v.setup e.before.words v event)) w
+    (subst (λ views. Good v.setup (memory_of v.setup.capacity (words_after v.setup e.before.words v event)) views) alone e.kept.good) where
+      first : e.before.seat ≡ 0
+      first = let below = e.before.below in let one = ap length only in omega arith
 
-  alone : set e.before.views e.before.seat w ≡ w ∷ []
-  alone = ap (λ l. set l e.before.seat w) only ∙ ap (λ n. set (v ∷ []) n w) first
+      alone : set e.before.views e.before.seat w ≡ w ∷ []
+      alone = ap (λ l. set l e.before.seat w) only ∙ ap (λ n. set (v ∷ []) n w) first
 
 -- what a look depends on
 pub record SeesAs (v w : View) : Type 0 where
@@ -58,17 +59,21 @@ pub record SeesAs (v w : View) : Type 0 where
   pub head_looks : w.head_looks ≡ v.head_looks
   pub wins : v.wins ≤ w.wins
 
-steady_then : (v w : View) (look : LastLook) (now now' : ℕ) → v.wins ≤ w.wins → (w.wins ≡ v.wins → now' ≡ now) → IsSteady v look now → IsSteady w look now'
+steady_then : (v w : View) (look : LastLook) (now now' : ℕ) → v.wins ≤ w.wins → (w.wins ≡ v.wins → now' ≡ now) → IsSteady v look now
+    → IsSteady w look now'
 steady_then v w look now now' more same is = record {
   least = let l = is.least in omega arith;
   same = λ there e. same (let l = is.least in omega arith) ∙ is.same there (let l = is.least in omega arith);
 }
 
 -- words that are not changed unless an exchange is won
-keeps_steady : (m m' : Memory) (v w : View) → SeesAs v w → (w.wins ≡ v.wins → used m' ≡ used m) → ((list : ℕ) → w.wins ≡ v.wins → head m' list ≡ head m list) → Steady m v → Steady m' w
+keeps_steady : (m m' : Memory) (v w : View) → SeesAs v w → (w.wins ≡ v.wins → used m' ≡ used m)
+    → ((list : ℕ) → w.wins ≡ v.wins → head m' list ≡ head m list) → Steady m v → Steady m' w
 keeps_steady m m' v w sees used_same heads steady = record {
-  used_is = subst (λ l. IsSteady w l (used m')) (sym sees.used_look) (steady_then v w v.used_look (used m) (used m') sees.wins used_same steady.used_is);
-  heads = λ list less. subst (λ l. IsSteady w l (head m' list)) (sym (ap (λ l. get_or l list w.used_look) sees.head_looks ∙ ap (λ l. get_or v.head_looks list l) sees.used_look))
+  used_is = subst (λ l. IsSteady w l (used m')) (sym sees.used_look)
+      (steady_then v w v.used_look (used m) (used m') sees.wins used_same steady.used_is);
+  heads = λ list less. subst (λ l. IsSteady w l (head m' list)) (sym (ap (λ l. get_or l list w.used_look) sees.head_looks
+      ∙ ap (λ l. get_or v.head_looks list l) sees.used_look))
       (steady_then v w (get_or v.head_looks list v.used_look) (head m list) (head m' list) sees.wins (heads list) (steady.heads list less));
 }
 
@@ -81,7 +86,8 @@ shift_sees m v u (Some (Lift class)) s = record { used_look = s.used_look; head_
 shift_sees m v u (Some (Large d n)) s = record { used_look = s.used_look; head_looks = s.head_looks; wins = s.wins }
 shift_sees m v u (Some (Split block)) s = record { used_look = s.used_look; head_looks = s.head_looks; wins = s.wins }
 
-draw_sees : (m : Memory) (v : View) (shift : Option Shift) (found : ℕ) (below : Bool) → SeesAs v (cond below (shifted m (drew v found) shift) (stopped v found))
+draw_sees : (m : Memory) (v : View) (shift : Option Shift) (found : ℕ) (below : Bool)
+    → SeesAs v (cond below (shifted m (drew v found) shift) (stopped v found))
 draw_sees m v shift found true = shift_sees m v (drew v found) shift (record { used_look = refl; head_looks = refl; wins = omega arith })
 draw_sees m v shift found false = record { used_look = refl; head_looks = refl; wins = omega arith }
 
@@ -110,13 +116,17 @@ module _ (m : Memory) (v : View) (steady : Steady m v) where
   -- a step that works on a word which it leaves, or whose change is a win
   by_exchange : (at : Cell) (test : Bool) (a : View) (b : View) (x : ℕ) → SeesAs v a → v.wins < a.wins → SeesAs v b
       → Steady (write m (volatile_at at) (cond test x (m.volatile at))) (cond test a b)
-  by_exchange at true a b x sees_a more sees_b = keeps_steady m (write m (volatile_at at) x) v a sees_a (λ e. absurd (omega arith)) (λ list e. absurd (omega arith)) steady
-  by_exchange at false a b x sees_a more sees_b = keeps_steady m (write m (volatile_at at) (m.volatile at)) v b sees_b (λ e. same_value m.volatile at used_cell) (λ list e. same_value m.volatile at (head_cell list)) steady
+  by_exchange at true a b x sees_a more sees_b = keeps_steady m (write m (volatile_at at) x) v a sees_a (λ e. absurd (omega arith))
+      (λ list e. absurd (omega arith)) steady
+  by_exchange at false a b x sees_a more sees_b = keeps_steady m (write m (volatile_at at) (m.volatile at)) v b sees_b
+      (λ e. same_value m.volatile at used_cell) (λ list e. same_value m.volatile at (head_cell list)) steady
 
-  look_used_steady : (found : ℕ) → found ≡ used m → (w : View) → w.used_look ≡ look v found → w.head_looks ≡ v.head_looks → w.wins ≡ v.wins → ((list : ℕ) → list < lists → list < length v.head_looks) → Steady m w
+  look_used_steady : (found : ℕ) → found ≡ used m → (w : View) → w.used_look ≡ look v found → w.head_looks ≡ v.head_looks → w.wins ≡ v.wins
+      → ((list : ℕ) → list < lists → list < length v.head_looks) → Steady m w
   look_used_steady found is w look_is heads wins long = record {
     used_is = subst (λ l. IsSteady w l (used m)) (sym look_is) (record { least = omega arith; same = λ there e. sym is });
-    heads = λ list less. subst (λ l. IsSteady w l (head m list)) (sym (ap (λ l. get_or l list w.used_look) heads ∙ in_range v.head_looks list w.used_look v.used_look (long list less)))
+    heads = λ list less. subst (λ l. IsSteady w l (head m list)) (sym (ap (λ l. get_or l list w.used_look) heads
+        ∙ in_range v.head_looks list w.used_look v.used_look (long list less)))
         (steady_then v w (get_or v.head_looks list v.used_look) (head m list) (head m list) (omega arith) (λ e. refl) (steady.heads list less));
   } where
     in_range : (xs : List LastLook) (i : ℕ) (a b : LastLook) → i < length xs → get_or xs i a ≡ get_or xs i b
@@ -124,13 +134,18 @@ module _ (m : Memory) (v : View) (steady : Steady m v) where
     in_range (x ∷ xs) zero a b less = refl
     in_range (x ∷ xs) (suc i) a b less = in_range xs i a b (omega arith)
 
-  look_head_steady : (list found : ℕ) → found ≡ head m list → (w : View) → w.used_look ≡ v.used_look → w.head_looks ≡ set v.head_looks list (look v found) → w.wins ≡ v.wins → list < length v.head_looks → Steady m w
+  look_head_steady : (list found : ℕ) → found ≡ head m list → (w : View) → w.used_look ≡ v.used_look
+      → w.head_looks ≡ set v.head_looks list (look v found) → w.wins ≡ v.wins → list < length v.head_looks → Steady m w
   look_head_steady list found is w used_same looks wins less = record {
-    used_is = subst (λ l. IsSteady w l (used m)) (sym used_same) (steady_then v w v.used_look (used m) (used m) (omega arith) (λ e. refl) steady.used_is);
+    used_is = subst (λ l. IsSteady w l (used m)) (sym used_same) (steady_then v w v.used_look (used m) (used m) (omega arith)
+        (λ e. refl) steady.used_is);
     heads = λ k below. elim (cases_eq k list) as (λ _. IsSteady w (get_or w.head_looks k w.used_look) (head m k)) [
-      | inl same ↦ subst (λ l. IsSteady w l (head m k)) (sym (ap (λ l. get_or l k w.used_look) looks ∙ ap (λ n. get_or (set v.head_looks list (look v found)) n w.used_look) same ∙ get_or-set_same v.head_looks list (look v found) w.used_look less))
+      | inl same ↦ subst (λ l. IsSteady w l (head m k)) (sym (ap (λ l. get_or l k w.used_look) looks
+          ∙ ap (λ n. get_or (set v.head_looks list (look v found)) n w.used_look) same
+          ∙ get_or-set_same v.head_looks list (look v found) w.used_look less))
           (record { least = omega arith; same = λ there e. ap (head m) same ∙ sym is })
-      | inr other ↦ subst (λ l. IsSteady w l (head m k)) (sym (ap (λ l. get_or l k w.used_look) looks ∙ get_or-set_other v.head_looks list k (look v found) w.used_look other ∙ ap (λ l. get_or v.head_looks k l) used_same))
+      | inr other ↦ subst (λ l. IsSteady w l (head m k)) (sym (ap (λ l. get_or l k w.used_look) looks
+          ∙ get_or-set_other v.head_looks list k (look v found) w.used_look other ∙ ap (λ l. get_or v.head_looks k l) used_same))
           (steady_then v w (get_or v.head_looks k v.used_look) (head m k) (head m k) (omega arith) (λ e. refl) (steady.heads k below))
     ];
   }
@@ -139,7 +154,8 @@ module _ (m : Memory) (v : View) (steady : Steady m v) where
 looks_steady : (m : Memory) (at : Cell) (w : View) → Steady m w → Steady (write m (volatile_at at) (m.volatile at)) w
 looks_steady m at w steady = record {
   used_is = subst (λ n. IsSteady w w.used_look n) (sym (same_value m.volatile at used_cell)) steady.used_is;
-  heads = λ list less. subst (λ n. IsSteady w (get_or w.head_looks list w.used_look) n) (sym (same_value m.volatile at (head_cell list))) (steady.heads list less);
+  heads = λ list less. subst (λ n. IsSteady w (get_or w.head_looks list w.used_look) n) (sym (same_value m.volatile at (head_cell list)))
+      (steady.heads list less);
 }
 
 claim_sees : (list d : ℕ) (v u : View) → SeesAs v u → SeesAs v (claimed u d list)
@@ -150,50 +166,88 @@ claim_wins : (list d : ℕ) (u : View) → (claimed u d list).wins ≡ u.wins
 claim_wins zero d u = refl
 claim_wins (suc class) d u = refl
 
-push_sees : (test : Bool) (v : View) (d : ℕ) → SeesAs v (cond test (pushed_raw v d) (pushed_classed v d)) × (v.wins < (cond test (pushed_raw v d) (pushed_classed v d)).wins)
+push_sees : (test : Bool) (v : View) (d : ℕ) → SeesAs v (cond test (pushed_raw v d) (pushed_classed v d))
+    × (v.wins < (cond test (pushed_raw v d) (pushed_classed v d)).wins)
 push_sees true v d = (record { used_look = refl; head_looks = refl; wins = omega arith }, omega arith)
 push_sees false v d = (record { used_look = refl; head_looks = refl; wins = omega arith }, omega arith)
 
-give_sees : (test : Bool) (v : View) (d : ℕ) → SeesAs v (trimmed (cond test (claimed (record (won v) { batch = no_batch; seen_anchor = None; gives = v.gives + 1 }) d v.batch.class) (record (won v) { batch = no_batch; seen_anchor = None; gives = v.gives + 1 })))
-    × (v.wins < (trimmed (cond test (claimed (record (won v) { batch = no_batch; seen_anchor = None; gives = v.gives + 1 }) d v.batch.class) (record (won v) { batch = no_batch; seen_anchor = None; gives = v.gives + 1 }))).wins)
+give_sees : (test : Bool) (v : View) (d : ℕ) → SeesAs v (trimmed
+    (cond test (claimed (record (won v) { batch = no_batch; seen_anchor = None; gives = v.gives + 1 }) d v.batch.class)
+    (record (won v) { batch = no_batch; seen_anchor = None; gives = v.gives + 1 })))
+    × (v.wins < (trimmed (cond test (claimed (record (won v) { batch = no_batch; seen_anchor = None; gives = v.gives + 1 }) d v.batch.class)
+    (record (won v) { batch = no_batch; seen_anchor = None; gives = v.gives + 1 }))).wins)
 give_sees true v d = (
-  let s = claim_sees v.batch.class d v (record (won v) { batch = no_batch; seen_anchor = None; gives = v.gives + 1 }) (record { used_look = refl; head_looks = refl; wins = omega arith }) in record { used_look = s.used_look; head_looks = s.head_looks; wins = s.wins },
+  let s = claim_sees v.batch.class d v (record (won v) { batch = no_batch; seen_anchor = None; gives = v.gives + 1 })
+      (record { used_look = refl; head_looks = refl; wins = omega arith }) in
+      record { used_look = s.used_look; head_looks = s.head_looks; wins = s.wins },
   let e = claim_wins v.batch.class d (record (won v) { batch = no_batch; seen_anchor = None; gives = v.gives + 1 }) in omega arith,
 )
 give_sees false v d = (record { used_look = refl; head_looks = refl; wins = omega arith }, omega arith)
 
-pub looks_say : (k : Setup) (m : Memory) (v : View) (event : Event) → Good k m (v ∷ []) → MayStep m v event → Steady m v → Steady (memory_after m v event) (seat_after m v event)
-looks_say k m v (Tick shift) good may steady = keeps_steady m (memory_after m v (Tick shift)) v (seat_after m v (Tick shift)) (draw_sees m v shift m.drawn (nat_lt m.drawn v.setup.budget)) (λ e. refl) (λ list e. refl) steady
-looks_say k m v (Load word) good may steady = looks_steady m (cell_at v.setup.capacity word) (seat_after m v (Load word)) (keeps_steady m m v (seat_after m v (Load word)) (record { used_look = refl; head_looks = refl; wins = omega arith }) (λ e. refl) (λ list e. refl) steady)
+pub looks_say : (k : Setup) (m : Memory) (v : View) (event : Event) → Good k m (v ∷ []) → MayStep m v event → Steady m v
+    → Steady (memory_after m v event) (seat_after m v event)
+looks_say k m v (Tick shift) good may steady = keeps_steady m (memory_after m v (Tick shift)) v (seat_after m v (Tick shift))
+    (draw_sees m v shift m.drawn (nat_lt m.drawn v.setup.budget)) (λ e. refl) (λ list e. refl) steady
+looks_say k m v (Load word) good may steady = looks_steady m (cell_at v.setup.capacity word) (seat_after m v (Load word))
+    (keeps_steady m m v (seat_after m v (Load word)) (record { used_look = refl; head_looks = refl; wins = omega arith }) (λ e. refl)
+    (λ list e. refl) steady)
 looks_say k m v (Store word value) good may steady = keeps_steady m (memory_after m v (Store word value)) v (seat_after m v (Store word value))
     (store_sees v _ (cell_at v.setup.capacity word) value (record { used_look = refl; head_looks = refl; wins = omega arith }))
-    (λ e. with_other m.volatile (cell_at v.setup.capacity word) value used_cell (own_other v (cell_at v.setup.capacity word) may.ready.0 used_cell refl))
-    (λ list e. with_other m.volatile (cell_at v.setup.capacity word) value (head_cell list) (own_other v (cell_at v.setup.capacity word) may.ready.0 (head_cell list) refl)) steady
-looks_say k m v (Settle word) good may steady = keeps_steady m (memory_after m v (Settle word)) v (seat_after m v (Settle word)) (record { used_look = refl; head_looks = refl; wins = omega arith }) (λ e. refl) (λ list e. refl) steady
-looks_say k m v LookUsed good may steady = looks_steady m used_cell (seat_after m v LookUsed) (look_used_steady m v steady (used m) refl (seat_after m v LookUsed) refl refl refl
+    (λ e. with_other m.volatile (cell_at v.setup.capacity word) value used_cell
+    (own_other v (cell_at v.setup.capacity word) may.ready.0 used_cell refl))
+    (λ list e. with_other m.volatile (cell_at v.setup.capacity word) value (head_cell list)
+    (own_other v (cell_at v.setup.capacity word) may.ready.0 (head_cell list) refl)) steady
+looks_say k m v (Settle word) good may steady = keeps_steady m (memory_after m v (Settle word)) v (seat_after m v (Settle word))
+    (record { used_look = refl; head_looks = refl; wins = omega arith }) (λ e. refl) (λ list e. refl) steady
+looks_say k m v LookUsed good may steady = looks_steady m used_cell (seat_after m v LookUsed)
+    (look_used_steady m v steady (used m) refl (seat_after m v LookUsed) refl refl refl
     (λ list less. let long = (good.set_up 0 v (omega arith) refl).looks in omega arith))
-looks_say k m v (TakeFresh n) good may steady = by_exchange m v steady used_cell (nat_eq (used m) (seen v.seen_used)) (taken_fresh v n) _ (used m + n) (record { used_look = refl; head_looks = refl; wins = omega arith }) (omega arith) (record { used_look = refl; head_looks = refl; wins = omega arith })
-looks_say k m v KeepUsed good may steady = keeps_steady m (memory_after m v KeepUsed) v (seat_after m v KeepUsed) (record { used_look = refl; head_looks = refl; wins = omega arith }) (λ e. refl) (λ list e. refl) steady
-looks_say k m v (LookHead list) good may steady = looks_steady m (head_cell list) (seat_after m v (LookHead list)) (look_head_steady m v steady list (head m list) refl (seat_after m v (LookHead list)) refl refl refl
+looks_say k m v (TakeFresh n) good may steady = by_exchange m v steady used_cell (nat_eq (used m) (seen v.seen_used)) (taken_fresh v n) _
+    (used m + n) (record { used_look = refl; head_looks = refl; wins = omega arith }) (omega arith)
+    (record { used_look = refl; head_looks = refl; wins = omega arith })
+looks_say k m v KeepUsed good may steady = keeps_steady m (memory_after m v KeepUsed) v (seat_after m v KeepUsed)
+    (record { used_look = refl; head_looks = refl; wins = omega arith }) (λ e. refl) (λ list e. refl) steady
+looks_say k m v (LookHead list) good may steady = looks_steady m (head_cell list) (seat_after m v (LookHead list))
+    (look_head_steady m v steady list (head m list) refl (seat_after m v (LookHead list)) refl refl refl
     (let less = may.ready in let long = (good.set_up 0 v (omega arith) refl).looks in omega arith))
-looks_say k m v LookLink good may steady = looks_steady m (link_cell (before (head_first (seen_word v.seen_head)))) (seat_after m v LookLink) (keeps_steady m m v (seat_after m v LookLink) (record { used_look = refl; head_looks = refl; wins = omega arith }) (λ e. refl) (λ list e. refl) steady)
-looks_say k m v Pop good may steady = by_exchange m v steady (head_cell (seen_of v.seen_head)) (nat_eq (head m (seen_of v.seen_head)) (seen_word v.seen_head)) (popped v (before (head_first (seen_word v.seen_head)))) _ _
-    (claim_sees (seen_of v.seen_head) _ v _ (record { used_look = refl; head_looks = refl; wins = omega arith })) (let e = claim_wins (seen_of v.seen_head) (before (head_first (seen_word v.seen_head))) (record (won v) { seen_head = None; seen_link = None; seen_anchor = cleared (before (head_first (seen_word v.seen_head))) 1 v.seen_anchor }) in omega arith) (record { used_look = refl; head_looks = refl; wins = omega arith })
+looks_say k m v LookLink good may steady = looks_steady m (link_cell (before (head_first (seen_word v.seen_head)))) (seat_after m v LookLink)
+    (keeps_steady m m v (seat_after m v LookLink) (record { used_look = refl; head_looks = refl; wins = omega arith }) (λ e. refl)
+    (λ list e. refl) steady)
+looks_say k m v Pop good may steady = by_exchange m v steady (head_cell (seen_of v.seen_head))
+    (nat_eq (head m (seen_of v.seen_head)) (seen_word v.seen_head)) (popped v (before (head_first (seen_word v.seen_head)))) _ _
+    (claim_sees (seen_of v.seen_head) _ v _ (record { used_look = refl; head_looks = refl; wins = omega arith }))
+    (let e = claim_wins (seen_of v.seen_head) (before (head_first (seen_word v.seen_head)))
+    (record (won v) {
+      seen_head = None;
+      seen_link = None;
+      seen_anchor =
+          cleared (before (head_first (seen_word v.seen_head))) 1 v.seen_anchor;
+    }) in
+    omega arith) (record { used_look = refl; head_looks = refl; wins = omega arith })
 looks_say k m v (Push d) good may steady = let p = push_sees (nat_lt 0 (times d v.raw + times d v.split)) v d in
-    by_exchange m v steady (head_cell (seen_of v.seen_head)) (nat_eq (head m (seen_of v.seen_head)) (seen_word v.seen_head)) (pushed v d) _ _ p.0 p.1 (record { used_look = refl; head_looks = refl; wins = omega arith })
-looks_say k m v (LookAnchor d) good may steady = looks_steady m (anchor_cell d) (seat_after m v (LookAnchor d)) (keeps_steady m m v (seat_after m v (LookAnchor d)) (record { used_look = refl; head_looks = refl; wins = omega arith }) (λ e. refl) (λ list e. refl) steady)
-looks_say k m v (TakeAll d) good may steady = by_exchange m v steady (anchor_cell d) (nat_eq (m.volatile (anchor_cell d)) (seen_word v.seen_anchor)) (taken_all m v d) _ _ (record { used_look = refl; head_looks = refl; wins = omega arith }) (omega arith) (record { used_look = refl; head_looks = refl; wins = omega arith })
+    by_exchange m v steady (head_cell (seen_of v.seen_head)) (nat_eq (head m (seen_of v.seen_head)) (seen_word v.seen_head))
+    (pushed v d) _ _ p.0 p.1 (record { used_look = refl; head_looks = refl; wins = omega arith })
+looks_say k m v (LookAnchor d) good may steady = looks_steady m (anchor_cell d) (seat_after m v (LookAnchor d))
+    (keeps_steady m m v (seat_after m v (LookAnchor d)) (record { used_look = refl; head_looks = refl; wins = omega arith }) (λ e. refl)
+    (λ list e. refl) steady)
+looks_say k m v (TakeAll d) good may steady = by_exchange m v steady (anchor_cell d)
+    (nat_eq (m.volatile (anchor_cell d)) (seen_word v.seen_anchor)) (taken_all m v d) _ _
+    (record { used_look = refl; head_looks = refl; wins = omega arith }) (omega arith)
+    (record { used_look = refl; head_looks = refl; wins = omega arith })
 looks_say k m v (Give d) good may steady = let p = give_sees (nat_eq (seen_word v.seen_anchor) full_anchor) v d in
-    by_exchange m v steady (anchor_cell d) (nat_eq (m.volatile (anchor_cell d)) (seen_word v.seen_anchor)) (given v d) _ _ p.0 p.1 (record { used_look = refl; head_looks = refl; wins = omega arith })
+    by_exchange m v steady (anchor_cell d) (nat_eq (m.volatile (anchor_cell d)) (seen_word v.seen_anchor)) (given v d) _ _ p.0 p.1
+    (record { used_look = refl; head_looks = refl; wins = omega arith })
 
 -- nothing was looked at yet
 unlooked_steady : (v : View) (word now : ℕ) → IsSteady v (unlooked word) now
 unlooked_steady v word now = record { least = omega arith; same = λ there e. absurd (not_there there) }
 
-pub opened_steady : (k : Setup) (held : List Block) (block_owners root_owners : List ℕ) (i : ℕ) (m : Memory) → Steady m (opened_view k held block_owners root_owners i)
+pub opened_steady : (k : Setup) (held : List Block) (block_owners root_owners : List ℕ) (i : ℕ) (m : Memory)
+    → Steady m (opened_view k held block_owners root_owners i)
 opened_steady k held block_owners root_owners i m = record {
   used_is = unlooked_steady v k.used (used m);
-  heads = λ list less. subst (λ l. IsSteady v l (head m list)) (sym (tabulate_at (λ n. unlooked (slice_index k.opened (head_word n))) 0 lists list (unlooked k.used) less))
+  heads = λ list less. subst (λ l. IsSteady v l (head m list)) (sym
+      (tabulate_at (λ n. unlooked (slice_index k.opened (head_word n))) 0 lists list (unlooked k.used) less))
       (unlooked_steady v (slice_index k.opened (head_word (0 + list))) (head m list));
 } where
   v : View
@@ -208,7 +262,8 @@ one_at (u ∷ w ∷ views) i v one below at = absurd (omega arith)
 
 one_of : (views : List View) (v : View) → length views ≡ 1 → Contains views v → views ≡ v ∷ []
 one_of [] v one has = absurd (omega arith)
-one_of (u ∷ []) v one has = elim (head_or_rest u v [] has) as (λ _. u ∷ [] ≡ v ∷ []) [ inl same ↦ ap (λ x. x ∷ []) same | inr rest ↦ absurd (in_none v rest) ]
+one_of (u ∷ []) v one has = elim (head_or_rest u v [] has) as (λ _. u ∷ [] ≡ v ∷ [])
+    [ inl same ↦ ap (λ x. x ∷ []) same | inr rest ↦ absurd (in_none v rest) ]
 one_of (u ∷ w ∷ views) v one has = absurd (omega arith)
 
 -- the view that was set is the one that is there
@@ -218,12 +273,19 @@ one_set views i w v below only = sym (get_or-set_same views i w w below) ∙ ap 
   first = let e = length-set views i w in let one = ap length only in omega (arith, e, one)
 
 -- of what a heap comes to whose one seat is steady and has offered nothing, it is steady
-reached_steady : (k : Setup) (start : TableState) → Sound k start.words start.views → AreSeatsAndCarriers k start.views → ((v : View) → start.views ≡ v ∷ [] → Steady (memory_of k.capacity start.words) v)
-    → (words : List ℕ) (views : List View) → IsReached k start words views → (v : View) → views ≡ v ∷ [] → v.offers ≡ 0 → Steady (memory_of k.capacity words) v
+reached_steady : (k : Setup) (start : TableState) → Sound k start.words start.views → AreSeatsAndCarriers k start.views
+    → ((v : View) → start.views ≡ v ∷ [] → Steady (memory_of k.capacity start.words) v)
+    → (words : List ℕ) (views : List View) → IsReached k start words views → (v : View) → views ≡ v ∷ [] → v.offers ≡ 0
+    → Steady (memory_of k.capacity words) v
 reached_steady k start sound counted begins _ _ at_opening v only none = begins v only
-reached_steady k start sound counted begins _ _ (by_event words views i u event before below at seat may) v only none = subst (Steady (memory_of k.capacity (words_after k words u event))) (one_set views i (seat_after m u event) v below only)
-    (subst (λ n. Steady n (seat_after m u event)) (sym (memory_set k.capacity words (place_of u event) _ so_far.long (in_table k m views i u below at so_far.good event may)))
-    (looks_say k m u event (subst (Good k m) alone so_far.good) may (reached_steady k start sound counted begins words views before u alone (ap (λ (r : Role). r.offers) (sym (role_after m u event (found_by m u event))) ∙ ap (λ (x : View). x.offers) (one_set views i (seat_after m u event) v below only) ∙ none)))) where
+reached_steady k start sound counted begins _ _ (by_event words views i u event before below at seat may) v only none =
+    subst (Steady (memory_of k.capacity (words_after k words u event))) (one_set views i (seat_after m u event) v below only)
+    (subst (λ n. Steady n (seat_after m u event)) (sym (memory_set k.capacity words (place_of u event) _ so_far.long
+    (in_table k m views i u below at so_far.good event may)))
+    (looks_say k m u event (subst (Good k m) alone so_far.good) may
+    (reached_steady k start sound counted begins words views before u alone
+    (ap (λ (r : Role). r.offers) (sym (role_after m u event (found_by m u event)))
+    ∙ ap (λ (x : View). x.offers) (one_set views i (seat_after m u event) v below only) ∙ none)))) where
       m : Memory
       m = memory_of k.capacity words
 
@@ -232,30 +294,45 @@ reached_steady k start sound counted begins _ _ (by_event words views i u event 
 
       alone : views ≡ u ∷ []
       alone = one_at views i u (sym (length-set views i (seat_after m u event)) ∙ ap length only) below at
-reached_steady k start sound counted begins _ _ (by_record words views i u word before below at own) v only none = subst (Steady (memory_of k.capacity words)) (one_set views i (learned u word (get_or words word 0)) v below only)
-    (keeps_steady (memory_of k.capacity words) (memory_of k.capacity words) u (learned u word (get_or words word 0)) (record { used_look = refl; head_looks = refl; wins = omega arith }) (λ e. refl) (λ list e. refl)
-    (reached_steady k start sound counted begins words views before u (one_at views i u (sym (length-set views i (learned u word (get_or words word 0))) ∙ ap length only) below at) (ap (λ (x : View). x.offers) (one_set views i (learned u word (get_or words word 0)) v below only) ∙ none)))
-reached_steady k start sound counted begins _ _ (by_offer words views i u b before below at may held) v only none = absurd (let l = ap length only in let a = length-append (set views i (offered u b.first_word)) (carrier_of u b.first_word ∷ []) in let n = length-set views i (offered u b.first_word) in omega (arith, l, a, n, below))
+reached_steady k start sound counted begins _ _ (by_record words views i u word before below at own) v only none =
+    subst (Steady (memory_of k.capacity words)) (one_set views i (learned u word (get_or words word 0)) v below only)
+    (keeps_steady (memory_of k.capacity words) (memory_of k.capacity words) u (learned u word (get_or words word 0))
+    (record { used_look = refl; head_looks = refl; wins = omega arith }) (λ e. refl) (λ list e. refl)
+    (reached_steady k start sound counted begins words views before u
+    (one_at views i u (sym (length-set views i (learned u word (get_or words word 0))) ∙ ap length only) below at)
+    (ap (λ (x : View). x.offers) (one_set views i (learned u word (get_or words word 0)) v below only) ∙ none)))
+reached_steady k start sound counted begins _ _ (by_offer words views i u b before below at may held) v only none =
+    absurd (let l = ap length only in let a = length-append (set views i (offered u b.first_word)) (carrier_of u b.first_word ∷ []) in
+    let n = length-set views i (offered u b.first_word) in omega (arith, l, a, n, below))
 reached_steady k start sound counted begins _ _ (by_accept words old new u c before has_u has_c may carries less) v only none = absurd
-    (let s = less.sums (λ (x : View). x.offers) in let t = ap (total (λ (x : View). x.offers)) only in let are = reached_counted k start counted words old before in
-    let held = are.carriers in let one = total_at one_if_carrier old has_c.0 c has_c.1 has_c.2 in let is = ap (λ n. one_if (nat_eq n 1)) carries.is_one in let h = carries.handed.0 in omega (arith, s, t, held, one, is, h, none))
-reached_steady k start sound counted begins _ _ (in_another_order words old new before same) v only none = reached_steady k start sound counted begins words old before v
-    (one_of old v (length_total old ∙ sym (same.sums (λ (u : View). 1)) ∙ sym (length_total new) ∙ ap length only) (same.members v (subst (λ l. Contains l v) (sym only) (in_head v [])))) none
+    (let s = less.sums (λ (x : View). x.offers) in let t = ap (total (λ (x : View). x.offers)) only in
+    let are = reached_counted k start counted words old before in
+    let held = are.carriers in let one = total_at one_if_carrier old has_c.0 c has_c.1 has_c.2 in
+    let is = ap (λ n. one_if (nat_eq n 1)) carries.is_one in let h = carries.handed.0 in omega (arith, s, t, held, one, is, h, none))
+reached_steady k start sound counted begins _ _ (in_another_order words old new before same) v only none =
+    reached_steady k start sound counted begins words old before v
+    (one_of old v (length_total old ∙ sym (same.sums (λ (u : View). 1)) ∙ sym (length_total new) ∙ ap length only)
+    (same.members v (subst (λ l. Contains l v) (sym only) (in_head v [])))) none
 
-pub left_steady : (o : Opening) (now kept : List ℕ) (v : View) → IsReady o.words o.held → AreOwners o.held o.seats o.block_owners o.root_owners → IsClosedReached o now kept (v ∷ [])
-    → v.offers ≡ 0 → IsSteady v v.used_look (slice_index now used_word) × ((list : ℕ) → list < lists → IsSteady v (get_or v.head_looks list v.used_look) (slice_index now (head_word list)))
+pub left_steady : (o : Opening) (now kept : List ℕ) (v : View) → IsReady o.words o.held → AreOwners o.held o.seats o.block_owners o.root_owners
+    → IsClosedReached o now kept (v ∷ [])
+    → v.offers ≡ 0 → IsSteady v v.used_look (slice_index now used_word)
+    × ((list : ℕ) → list < lists → IsSteady v (get_or v.head_looks list v.used_look) (slice_index now (head_word list)))
 left_steady o now kept v ready owners closed none = (
   subst (IsSteady v v.used_look) (at_now used_word (let l = closed.now_long in omega (arith, l))) steady.used_is,
-  λ list less. subst (IsSteady v (get_or v.head_looks list v.used_look)) (pick (nat_lt list lists) _ 0 (lt-ltb list lists less) ∙ at_now (head_word list) (let l = closed.now_long in omega (arith, l, less))) (steady.heads list less),
+  λ list less. subst (IsSteady v (get_or v.head_looks list v.used_look)) (pick (nat_lt list lists) _ 0 (lt-ltb list lists less)
+      ∙ at_now (head_word list) (let l = closed.now_long in omega (arith, l, less))) (steady.heads list less),
 ) where
   at_now : (n : ℕ) → n < length now → get_or (now ++ (kept ++ (closed.drawn ∷ []))) n 0 ≡ slice_index now n
   at_now n less = get_or_append_left now (kept ++ (closed.drawn ∷ [])) 0 n less
 
   opened_one : (u : View) → (state_of o).views ≡ u ∷ [] → Steady (memory_of (setup_for o).capacity (state_of o).words) u
-  opened_one u only = subst (Steady (memory_of (setup_for o).capacity (state_of o).words)) (sym (tabulate_at (opened_view_of o) 0 o.seats 0 u one) ∙ ap (λ l. get_or l 0 u) only)
+  opened_one u only = subst (Steady (memory_of (setup_for o).capacity (state_of o).words))
+      (sym (tabulate_at (opened_view_of o) 0 o.seats 0 u one) ∙ ap (λ l. get_or l 0 u) only)
       (opened_steady (setup_for o) o.held o.block_owners o.root_owners 0 (memory_of (setup_for o).capacity (state_of o).words)) where
         one : 0 < o.seats
         one = let e = length_tabulate (opened_view_of o) 0 o.seats in let l = ap length only in omega (arith, e, l)
 
   steady : Steady (memory_of (setup_for o).capacity (now ++ (kept ++ (closed.drawn ∷ [])))) v
-  steady = reached_steady (setup_for o) (state_of o) (opened o.words o.held o.budget o.seats o.block_owners o.root_owners ready owners) (opened_counted o) opened_one _ (v ∷ []) closed.reached v refl none
+  steady = reached_steady (setup_for o) (state_of o) (opened o.words o.held o.budget o.seats o.block_owners o.root_owners ready owners)
+      (opened_counted o) opened_one _ (v ∷ []) closed.reached v refl none

@@ -28,7 +28,8 @@ module _ (v early : View) (has : HasSoundState v) (settles : Settles v early) wh
 
   shows_still : (cell : Cell) (x : ℕ) → is_cell v.setup.capacity cell ≡ true → Shows v cell x → Shows u cell x
   shows_still cell x is shows =
-      (early_words v early settles (index_of cell) (subst (IsOwn v) (sym (cell_at_index v.setup.capacity cell is)) ((has.sound.good.words has.seat v has.below has.at).volatile cell x is shows).0)).volatile x shows
+      (early_words v early settles (index_of cell) (subst (IsOwn v) (sym (cell_at_index v.setup.capacity cell is))
+      ((has.sound.good.words has.seat v has.below has.at).volatile cell x is shows).0)).volatile x shows
 
   empty_still : (d : ℕ) → is_cell v.setup.capacity (anchor_cell d) ≡ true → ShowsEmpty v d → ShowsEmpty u d
   empty_still d is (by_claim raw) = by_claim raw
@@ -72,19 +73,42 @@ module _ (v early : View) (has : HasSoundState v) (settles : Settles v early) wh
     | inl same ↦ subst (λ x. Can x (Tick shift)) (sym same) can
     | inr settled ↦ settled_can v early settled.0 settled.2.0 settled.2.1 shift can
   ]
-  can_still (Load word) can = back (Load word) (record { going = can.going; ticket = can.ticket; shown = own_still (cell_at v.setup.capacity word) can.shown })
+  can_still (Load word) can = back (Load word) (record {
+    going = can.going;
+    ticket = can.ticket;
+    shown = own_still (cell_at v.setup.capacity word) can.shown;
+  })
   can_still (Store word value) can = back (Store word value) (record {
     going = can.going;
     ticket = can.ticket;
-    shown = (own_still (cell_at v.setup.capacity word) can.shown.0, store_still (cell_at v.setup.capacity word) value (own_there v word can.shown.0) can.shown.1);
+    shown = (
+      own_still (cell_at v.setup.capacity word) can.shown.0,
+      store_still (cell_at v.setup.capacity word) value (own_there v word can.shown.0) can.shown.1,
+    );
   })
-  can_still (Settle word) can = back (Settle word) (record { going = can.going; ticket = can.ticket; shown = own_still (cell_at v.setup.capacity word) can.shown })
+  can_still (Settle word) can = back (Settle word) (record {
+    going = can.going;
+    ticket = can.ticket;
+    shown = own_still (cell_at v.setup.capacity word) can.shown;
+  })
   can_still LookUsed can = back LookUsed (record { going = can.going; ticket = can.ticket; shown = can.shown })
-  can_still (TakeFresh n) can = back (TakeFresh n) (record { going = can.going; ticket = can.ticket; shown = record { is_seen = can.shown.is_seen; some = can.shown.some; room = can.shown.room } })
+  can_still (TakeFresh n) can = back (TakeFresh n) (record {
+    going = can.going;
+    ticket = can.ticket;
+    shown = record { is_seen = can.shown.is_seen; some = can.shown.some; room = can.shown.room };
+  })
   can_still KeepUsed can = back KeepUsed (record { going = can.going; ticket = can.ticket; shown = can.shown })
   can_still (LookHead list) can = back (LookHead list) (record { going = can.going; ticket = can.ticket; shown = can.shown })
-  can_still LookLink can = back LookLink (record { going = can.going; ticket = can.ticket; shown = record { is_seen = can.shown.is_seen; some = can.shown.some } })
-  can_still Pop can = back Pop (record { going = can.going; ticket = can.ticket; shown = record { is_seen = can.shown.is_seen; link = can.shown.link } })
+  can_still LookLink can = back LookLink (record {
+    going = can.going;
+    ticket = can.ticket;
+    shown = record { is_seen = can.shown.is_seen; some = can.shown.some };
+  })
+  can_still Pop can = back Pop (record {
+    going = can.going;
+    ticket = can.ticket;
+    shown = record { is_seen = can.shown.is_seen; link = can.shown.link };
+  })
   can_still (Push d) can = let below = claimed_below d (list_claimed d _ can.shown.listed) in back (Push d) (record {
     going = can.going;
     ticket = can.ticket;
@@ -106,7 +130,13 @@ module _ (v early : View) (has : HasSoundState v) (settles : Settles v early) wh
   can_still (TakeAll d) can = back (TakeAll d) (record {
     going = can.going;
     ticket = can.ticket;
-    shown = record { claimed = can.shown.claimed; is_seen = can.shown.is_seen; of = can.shown.of; partial = can.shown.partial; uncached = can.shown.uncached };
+    shown = record {
+      claimed = can.shown.claimed;
+      is_seen = can.shown.is_seen;
+      of = can.shown.of;
+      partial = can.shown.partial;
+      uncached = can.shown.uncached;
+    };
   })
   can_still (Give d) can = let there = last_there v.batch.blocks can.shown.some in back (Give d) (record {
     going = can.going;
@@ -116,6 +146,7 @@ module _ (v early : View) (has : HasSoundState v) (settles : Settles v early) wh
       some = can.shown.some;
       is_seen = can.shown.is_seen;
       of = can.shown.of;
-      linked = λ more. shows_still (data_cell (last_of v.batch.blocks)) _ (block_cell v has (last_of v.batch.blocks) (omega arith)) (can.shown.linked more);
+      linked = λ more. shows_still (data_cell (last_of v.batch.blocks)) _ (block_cell v has (last_of v.batch.blocks) (omega arith))
+          (can.shown.linked more);
     };
   })

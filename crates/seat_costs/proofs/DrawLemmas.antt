@@ -47,7 +47,8 @@ module _ (v early : View) (settles : Settles v early) where
     early_later = let same = ap next_of early_rest in let most = rises shift early w found event in omega arith
 
     stop_is : (step : ℕ) → v.stopped ≡ None → w.stopped ≡ Some step → w ≡ record (stopped v step) { volatile = early.volatile; durable = early.durable }
-    stop_is step went stop = draw_stops shift early w found step event (ap (λ (u : View). u.stopped) early_rest ∙ went) stop ∙ ap (λ (u : View). stopped u step) early_rest
+    stop_is step went stop = draw_stops shift early w found step event (ap (λ (u : View). u.stopped) early_rest ∙ went) stop
+        ∙ ap (λ (u : View). stopped u step) early_rest
 
     pub stop_step : (step : ℕ) → v.stopped ≡ None → w.stopped ≡ Some step → (step ≡ found) × (v.setup.budget ≤ step)
     stop_step step went stop = let told = stop_told shift early w found step event (ap (λ (u : View). u.stopped) early_rest ∙ went) stop in
@@ -65,7 +66,8 @@ module _ (v early : View) (settles : Settles v early) where
 
     pub row_of_stop : (step : ℕ) → v.stopped ≡ None → w.stopped ≡ Some step → ViewRow one_draw v w
     row_of_stop step went stop = row_words v (drew v step) w (ap holding (stop_is step went stop))
-        (λ k held. subst (λ (x : View). KeepsWord (drew v step) x k) (sym (stop_is step went stop)) (let p = early_words k (owns_held v k held) in record { volatile = p.volatile; durable = p.durable }))
+        (λ k held. subst (λ (x : View). KeepsWord (drew v step) x k) (sym (stop_is step went stop))
+        (let p = early_words k (owns_held v k held) in record { volatile = p.volatile; durable = p.durable }))
         (drew_row v step (let m = early_later in let s = (stop_step step went stop).0 in omega arith))
 
     -- a ticket that is in hand, once a word may have been settled
@@ -74,11 +76,14 @@ module _ (v early : View) (settles : Settles v early) where
         (λ k held. let p = early_words k (owns_held v k held) in record { volatile = p.volatile; durable = p.durable }) (drew_row v found early_later)
 
     -- a draw that goes on leaves its change
-    pub shifted_is : w.stopped ≡ None → w ≡ shifted (memory_of early.setup.capacity event.before.words) (record (drew v found) { volatile = early.volatile; durable = early.durable }) shift
-    shifted_is going = draw_done shift early w found event going ∙ ap (λ (u : View). shifted (memory_of early.setup.capacity event.before.words) (drew u found) shift) early_rest
+    pub shifted_is : w.stopped ≡ None → w ≡ shifted (memory_of early.setup.capacity event.before.words)
+        (record (drew v found) { volatile = early.volatile; durable = early.durable }) shift
+    shifted_is going = draw_done shift early w found event going ∙ ap
+        (λ (u : View). shifted (memory_of early.setup.capacity event.before.words) (drew u found) shift) early_rest
 
     pub shift_room : w.stopped ≡ None → v.draws < v.setup.budget
-    shift_room going = let told = drawn_told shift early w found event going in let a = told.1 in let b = told.2 in let c = ap (λ (u : View). u.setup.budget) early_rest in let d = ap (λ (u : View). u.draws) early_rest in omega arith
+    shift_room going = let told = drawn_told shift early w found event going in let a = told.1 in let b = told.2 in
+        let c = ap (λ (u : View). u.setup.budget) early_rest in let d = ap (λ (u : View). u.draws) early_rest in omega arith
 
     -- whether it goes on or stops, its ticket is a later one
     pub drew_later : v.stopped ≡ None → next_of v < next_of w
@@ -95,7 +100,8 @@ module _ (v early : View) (settles : Settles v early) where
       by_stop : (o : Option ℕ) → w.stopped ≡ o → next_of v < next_of w
       by_stop None going =
           let last : w.last_ticket ≡ Some found = ap (λ (u : View). u.last_ticket) (shifted_is going)
-          ∙ last_of (memory_of early.setup.capacity event.before.words) (record (drew v found) { volatile = early.volatile; durable = early.durable }) shift in
+          ∙ last_of (memory_of early.setup.capacity event.before.words)
+          (record (drew v found) { volatile = early.volatile; durable = early.durable }) shift in
           let is = ap after_ticket last in let least = early_later in omega arith
       by_stop (Some step) stop =
           let last : w.last_ticket ≡ Some step = ap (λ (u : View). u.last_ticket) (stop_is step went stop) in
@@ -115,7 +121,8 @@ module _ (v early : View) (settles : Settles v early) where
 
       by_stop : (o : Option ℕ) → w.stopped ≡ o → w.losses ≡ v.losses
       by_stop None going = ap (λ (u : View). u.losses) (shifted_is going)
-          ∙ losses_of (memory_of early.setup.capacity event.before.words) (record (drew v found) { volatile = early.volatile; durable = early.durable }) shift
+          ∙ losses_of (memory_of early.setup.capacity event.before.words)
+          (record (drew v found) { volatile = early.volatile; durable = early.durable }) shift
       by_stop (Some step) stop = ap (λ (u : View). u.losses) (stop_is step went stop)
 
   module _ (w : View) (found : ℕ) (event : IsEvent (Tick None) early found w) where
@@ -127,13 +134,16 @@ module _ (v early : View) (settles : Settles v early) where
       went = went;
       ticket = found;
       left = subst (λ u. u ≡ record (drew v found) { volatile = u.volatile; durable = u.durable }) (sym (drawn_is going)) refl;
-      words = λ k own. subst (λ u. KeepsWord v u k) (sym (drawn_is going)) (let p = early_words k own in record { volatile = p.volatile; durable = p.durable });
+      words = λ k own. subst (λ u. KeepsWord v u k) (sym (drawn_is going)) (let p = early_words k own in
+          record { volatile = p.volatile; durable = p.durable });
       later = early_later None w found event;
-      room = let told = drawn_told None early w found event going in let a = told.1 in let b = told.2 in let c = ap (λ (u : View). u.setup.budget) early_rest in let d = ap (λ (u : View). u.draws) early_rest in omega arith;
+      room = let told = drawn_told None early w found event going in let a = told.1 in let b = told.2 in
+          let c = ap (λ (u : View). u.setup.budget) early_rest in let d = ap (λ (u : View). u.draws) early_rest in omega arith;
     }
 
     row_of_drawn : w.stopped ≡ None → ViewRow one_draw v w
-    row_of_drawn going = row_as v (record (drew v found) { volatile = early.volatile; durable = early.durable }) w (drawn_is going) (ticket_row None w found event)
+    row_of_drawn going = row_as v (record (drew v found) { volatile = early.volatile; durable = early.durable }) w (drawn_is going)
+        (ticket_row None w found event)
 
     pub row_of_draw : v.stopped ≡ None → ViewRow one_draw v w
     row_of_draw went = by_stop w.stopped refl where
@@ -149,7 +159,8 @@ module _ (v early : View) (settles : Settles v early) where
           record { used = ap (λ (u : View). u.used_look) is; heads = ap (λ (u : View). u.head_looks) is }
 
 -- the clauses of a draw, by what the seat was
-module _ (shift : Option Shift) (v w : View) (event : v.stopped ≡ None → (early : View) × Settles v early × (found : ℕ) × IsEvent (Tick shift) early found w) (idle : (step : ℕ) → v.stopped ≡ Some step → w ≡ v) where
+module _ (shift : Option Shift) (v w : View) (event : v.stopped ≡ None → (early : View) × Settles v early × (found : ℕ)
+    × IsEvent (Tick shift) early found w) (idle : (step : ℕ) → v.stopped ≡ Some step → w ≡ v) where
   pub was_going : w.stopped ≡ None → v.stopped ≡ None
   was_going going = by_stop v.stopped refl where
     by_stop : (o : Option ℕ) → v.stopped ≡ o → v.stopped ≡ None
@@ -182,7 +193,8 @@ module _ (shift : Option Shift) (v w : View) (event : v.stopped ≡ None → (ea
     by_stop (Some before) had = ap (λ (x : View). x.losses) (idle before had)
 
 -- one with no change
-module _ (v w : View) (event : v.stopped ≡ None → (early : View) × Settles v early × (found : ℕ) × IsEvent (Tick None) early found w) (idle : (step : ℕ) → v.stopped ≡ Some step → w ≡ v) where
+module _ (v w : View) (event : v.stopped ≡ None → (early : View) × Settles v early × (found : ℕ) × IsEvent (Tick None) early found w)
+    (idle : (step : ℕ) → v.stopped ≡ Some step → w ≡ v) where
   pub told_drawn : (result : Result ⊤ Stopped) → TellsDraw w result → OnOk result (HasDrawn v w)
   told_drawn (Ok x) going = let went = was_going None v w event idle going in let e = event went in drawn v e.0 e.1 w e.2 e.3 went going
   told_drawn (Err e) told = tt
@@ -191,7 +203,15 @@ module _ (v w : View) (event : v.stopped ≡ None → (early : View) × Settles 
   told_row = by_stop v.stopped refl where
     by_stop : (o : Option ℕ) → v.stopped ≡ o → ViewRow one_draw v w
     by_stop None went = let e = event went in row_of_draw v e.0 e.1 w e.2 e.3 went
-    by_stop (Some before) had = subst (ViewRow one_draw v) (sym (idle before had)) (view_row_within one_draw v v (record { draws = omega arith; wins = omega arith; gives = omega arith; cuts = omega arith; taken = omega arith; moves = omega arith }) (view_row_none v))
+    by_stop (Some before) had = subst (ViewRow one_draw v) (sym (idle before had))
+        (view_row_within one_draw v v (record {
+          draws = omega arith;
+          wins = omega arith;
+          gives = omega arith;
+          cuts = omega arith;
+          taken = omega arith;
+          moves = omega arith;
+        }) (view_row_none v))
 
   pub told_looks : SameLooks v w
   told_looks = by_stop v.stopped refl where

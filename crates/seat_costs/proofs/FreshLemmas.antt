@@ -28,9 +28,12 @@ module _ (v : View) (k : ℕ) (held : IsHeldWord v k) where
   fresh_word values u zero room = refl
   fresh_word values u (suc n) room =
       fresh_word (learn (learn (learn values (info_word u) 0) (anchor_word u) 0) (link_word u) 0) (u + 1) n (omega arith)
-      ∙ get_or-set_other (learn (learn values (info_word u) 0) (anchor_word u) 0) (link_word u) k (Some 0) None (not_at (link_cell u) (link_word u) (cell_at_index v.setup.capacity (link_cell u) below) refl)
-      ∙ get_or-set_other (learn values (info_word u) 0) (anchor_word u) k (Some 0) None (not_at (anchor_cell u) (anchor_word u) (cell_at_index v.setup.capacity (anchor_cell u) below) refl)
-      ∙ get_or-set_other values (info_word u) k (Some 0) None (not_at (info_cell u) (info_word u) (cell_at_index v.setup.capacity (info_cell u) below) refl) where
+      ∙ get_or-set_other (learn (learn values (info_word u) 0) (anchor_word u) 0) (link_word u) k (Some 0) None
+      (not_at (link_cell u) (link_word u) (cell_at_index v.setup.capacity (link_cell u) below) refl)
+      ∙ get_or-set_other (learn values (info_word u) 0) (anchor_word u) k (Some 0) None
+      (not_at (anchor_cell u) (anchor_word u) (cell_at_index v.setup.capacity (anchor_cell u) below) refl)
+      ∙ get_or-set_other values (info_word u) k (Some 0) None (not_at (info_cell u) (info_word u)
+      (cell_at_index v.setup.capacity (info_cell u) below) refl) where
         below : nat_lt u v.setup.capacity ≡ true
         below = lt-ltb u v.setup.capacity (omega arith)
 
@@ -38,7 +41,8 @@ pub fresh_row : (n : ℕ) (v w : View) (found : ℕ) → IsEvent (TakeFresh n) v
 fresh_row n v w found e = by_test (nat_eq found (seen v.seen_used)) e.after where
   by_test : (test : Bool) → w ≡ cond test (taken_fresh v n) (record (lost v found) { seen_used = None }) → ViewRow (record one_win { taken = n }) v w
   by_test true after = row_as v (taken_fresh v n) w after (row_words v (record (won v) { taken = v.taken + n }) (taken_fresh v n) refl
-      (λ k held. word_same (record (won v) { taken = v.taken + n }) (taken_fresh v n) k (fresh_word v k held v.volatile (seen v.seen_used) n e.may.ready.room) (fresh_word v k held v.durable (seen v.seen_used) n e.may.ready.room))
+      (λ k held. word_same (record (won v) { taken = v.taken + n }) (taken_fresh v n) k
+      (fresh_word v k held v.volatile (seen v.seen_used) n e.may.ready.room) (fresh_word v k held v.durable (seen v.seen_used) n e.may.ready.room))
       (took_row v n))
   by_test false after = either_row v w found (omega arith) (omega arith) (ap recording after)
 
@@ -55,7 +59,11 @@ module _ (v u : View) (drawn : HasDrawn v u) (row : ViewRow one_draw v u) where
   }
 
   pub look_head_row : (list found : ℕ) (w : View) → IsEvent (LookHead list) u found w → ViewRow one_draw v w
-  look_head_row list found w e = row_as v (record (used_up u) { seen_head = Some (record { of = list; word = found }); seen_link = None; head_looks = set u.head_looks list (look u found) }) w e.after (record {
+  look_head_row list found w e = row_as v (record (used_up u) {
+    seen_head = Some (record { of = list; word = found });
+    seen_link = None;
+    head_looks = set u.head_looks list (look u found);
+  }) w e.after (record {
     passes = record {
       setup = row.passes.setup;
       roots = row.passes.roots;
@@ -63,7 +71,15 @@ module _ (v u : View) (drawn : HasDrawn v u) (row : ViewRow one_draw v u) where
       floor = row.passes.floor;
       next = row.passes.next;
       tickets = row.passes.tickets;
-      more = let m = row.passes.more in record { draws = m.draws; wins = m.wins; losses = m.losses; gives = m.gives; moves = m.moves; cuts = m.cuts; taken = m.taken };
+      more = let m = row.passes.more in record {
+        draws = m.draws;
+        wins = m.wins;
+        losses = m.losses;
+        gives = m.gives;
+        moves = m.moves;
+        cuts = m.cuts;
+        taken = m.taken;
+      };
       most = let m = row.passes.most in record { draws = m.draws; wins = m.wins; gives = m.gives; cuts = m.cuts; taken = m.taken; moves = m.moves };
       looks = record { used = row.passes.looks.used; heads = heads; no_less = row.passes.looks.no_less };
     };
@@ -73,9 +89,13 @@ module _ (v u : View) (drawn : HasDrawn v u) (row : ViewRow one_draw v u) where
   }) where
     heads : (k : ℕ) → IsKeptOrMade v u (head_look v k) (get_or (set u.head_looks list (look u found)) k u.used_look)
     heads k = elim (cases_eq k list) as (λ _. IsKeptOrMade v u (head_look v k) (get_or (set u.head_looks list (look u found)) k u.used_look)) [
-      | inl same ↦ inr (subst (IsMade (next_of v) (next_of u) v.taken u.taken) (sym (ap (λ n. get_or (set u.head_looks list (look u found)) n u.used_look) same ∙ get_or-set_same u.head_looks list (look u found) u.used_look
-          (let long = (e.before.sound.good.set_up e.before.seat u e.before.below e.before.at).looks in let less = e.may.ready in omega arith))) (made found))
-      | inr other ↦ subst (IsKeptOrMade v u (head_look v k)) (sym (get_or-set_other u.head_looks list k (look u found) u.used_look other)) (row.passes.looks.heads k)
+      | inl same ↦ inr (subst (IsMade (next_of v) (next_of u) v.taken u.taken)
+          (sym (ap (λ n. get_or (set u.head_looks list (look u found)) n u.used_look) same
+          ∙ get_or-set_same u.head_looks list (look u found) u.used_look
+          (let long = (e.before.sound.good.set_up e.before.seat u e.before.below e.before.at).looks in let less = e.may.ready in omega arith)))
+          (made found))
+      | inr other ↦ subst (IsKeptOrMade v u (head_look v k)) (sym (get_or-set_other u.head_looks list k (look u found) u.used_look other))
+          (row.passes.looks.heads k)
     ]
 
   pub look_used_row : (found : ℕ) (w : View) → IsEvent LookUsed u found w → ViewRow one_draw v w
@@ -87,7 +107,15 @@ module _ (v u : View) (drawn : HasDrawn v u) (row : ViewRow one_draw v u) where
       floor = row.passes.floor;
       next = row.passes.next;
       tickets = row.passes.tickets;
-      more = let m = row.passes.more in record { draws = m.draws; wins = m.wins; losses = m.losses; gives = m.gives; moves = m.moves; cuts = m.cuts; taken = m.taken };
+      more = let m = row.passes.more in record {
+        draws = m.draws;
+        wins = m.wins;
+        losses = m.losses;
+        gives = m.gives;
+        moves = m.moves;
+        cuts = m.cuts;
+        taken = m.taken;
+      };
       most = let m = row.passes.most in record { draws = m.draws; wins = m.wins; gives = m.gives; cuts = m.cuts; taken = m.taken; moves = m.moves };
       looks = record { used = inr (made found); heads = heads; no_less = less };
     };
@@ -112,7 +140,8 @@ module _ (v u : View) (drawn : HasDrawn v u) (row : ViewRow one_draw v u) where
       past_end (x ∷ xs) (suc i) a past = past_end xs i a (omega arith)
 
     less : v.used_look.word + u.taken ≤ found + v.used_look.taken
-    less = let told = (e.before.sound.good.knows e.before.seat u e.before.below e.before.at).looked in let is = e.found_is in let same = ap (λ (x : View). x.used_look) drawn.left in
+    less = let told = (e.before.sound.good.knows e.before.seat u e.before.below e.before.at).looked in let is = e.found_is in
+        let same = ap (λ (x : View). x.used_look) drawn.left in
         let word = ap (λ (l : LastLook). l.word) same in let taken = ap (λ (l : LastLook). l.taken) same in omega arith
 
 -- what is recorded
@@ -122,11 +151,18 @@ seen_words v = (v.volatile, v.durable)
 -- with the marks
 module _ (v u : SeatView) (drawn : HasDrawn v.view u.view) (row : Row one_draw v u) where
   look_marks : (w : SeatView) → seen_words u.view ≡ seen_words w.view → KeepsStores u w → KeepsMarks (IsHeldWord v.view) v w
-  look_marks w same stores k held marked = marks_then v u w k (word_same u.view w.view k (ap (λ s. get_or s.0 k None) (sym same)) (ap (λ s. get_or s.1 k None) (sym same)))
+  look_marks w same stores k held marked = marks_then v u w k (word_same u.view w.view k (ap (λ s. get_or s.0 k None) (sym same))
+      (ap (λ s. get_or s.1 k None) (sym same)))
       (row.marks k held) (λ still. inl (ap (λ marks. mark_at marks k) stores.marks ∙ still)) marked
 
   pub head_seat_row : (list found : ℕ) (w : SeatView) → IsEvent (LookHead list) u.view found w.view → KeepsStores u w → Row one_draw v w
-  head_seat_row list found w e stores = record { view = look_head_row v.view u.view drawn row.view list found w.view e; marks = look_marks w (sym (ap seen_words e.after)) stores }
+  head_seat_row list found w e stores = record {
+    view = look_head_row v.view u.view drawn row.view list found w.view e;
+    marks = look_marks w (sym (ap seen_words e.after)) stores;
+  }
 
   pub used_seat_row : (found : ℕ) (w : SeatView) → IsEvent LookUsed u.view found w.view → KeepsStores u w → Row one_draw v w
-  used_seat_row found w e stores = record { view = look_used_row v.view u.view drawn row.view found w.view e; marks = look_marks w (sym (ap seen_words e.after)) stores }
+  used_seat_row found w e stores = record {
+    view = look_used_row v.view u.view drawn row.view found w.view e;
+    marks = look_marks w (sym (ap seen_words e.after)) stores;
+  }

@@ -18,10 +18,16 @@ none_cached (suc n) (suc class) = none_cached n class
 opened_idle : (k : Setup) (held : List Block) (block_owners root_owners : List ℕ) (i : ℕ) → IsIdle (opened_view k held block_owners root_owners i)
 opened_idle k held block_owners root_owners i = record { batch = refl; raw = refl; split = refl; cutting = refl; classed = refl }
 
-opened_short : (k : Setup) (held : List Block) (block_owners root_owners : List ℕ) (i : ℕ) → HasShortCaches (opened_view k held block_owners root_owners i)
-opened_short k held block_owners root_owners i = record { each = λ class is. let none = ap length (none_cached lists class) in let four = four_blocks class is in omega arith }
+opened_short : (k : Setup) (held : List Block) (block_owners root_owners : List ℕ) (i : ℕ)
+    → HasShortCaches (opened_view k held block_owners root_owners i)
+opened_short k held block_owners root_owners i = record {
+  each = λ class is. let none = ap length (none_cached lists class) in
+      let four = four_blocks class is in omega arith;
+}
 
-pub opened_seats : (k : Setup) (held : List Block) (block_owners root_owners : List ℕ) (shared : SharedView) (seats : List SeatView) → AreOpenedSeats shared (opened_view k held block_owners root_owners) seats
+pub opened_seats : (k : Setup) (held : List Block) (block_owners root_owners : List ℕ) (shared : SharedView) (seats : List SeatView)
+    → AreOpenedSeats shared (opened_view k held block_owners root_owners) seats
     → (i : ℕ) (seat : SeatView) → i < length seats → get_or seats i seat ≡ seat → IsIdle seat.view × HasShortCaches seat.view
 opened_seats k held block_owners root_owners shared seats are i seat less at =
-    subst (λ (v : View). IsIdle v × HasShortCaches v) (sym (are.each i seat less at).1) (opened_idle k held block_owners root_owners i, opened_short k held block_owners root_owners i)
+    subst (λ (v : View). IsIdle v × HasShortCaches v) (sym (are.each i seat less at).1)
+    (opened_idle k held block_owners root_owners i, opened_short k held block_owners root_owners i)

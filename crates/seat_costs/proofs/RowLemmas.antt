@@ -16,7 +16,15 @@ passes_none v = record {
   floor = omega arith;
   next = omega arith;
   tickets = omega arith;
-  more = record { draws = omega arith; wins = omega arith; losses = omega arith; gives = omega arith; moves = omega arith; cuts = omega arith; taken = omega arith };
+  more = record {
+    draws = omega arith;
+    wins = omega arith;
+    losses = omega arith;
+    gives = omega arith;
+    moves = omega arith;
+    cuts = omega arith;
+    taken = omega arith;
+  };
   most = record { draws = omega arith; wins = omega arith; gives = omega arith; cuts = omega arith; taken = omega arith; moves = omega arith };
   looks = record { used = inl refl; heads = λ list. inl refl; no_less = omega arith };
 }
@@ -30,7 +38,15 @@ row_none v = record { view = view_row_none v.view; marks = λ k held marked. inl
 -- a look that was made earlier or later in a row
 made_then : (u v w : View) (before now later : LastLook) → next_of u ≤ next_of v → next_of v ≤ next_of w → u.taken ≤ v.taken → v.taken ≤ w.taken
     → IsKeptOrMade u v before now → IsKeptOrMade v w now later → IsKeptOrMade u w before later
-made_then u v w before now later first next few more p (inr made) = inr (record { ticket = made.ticket; by = made.by; since = let s = made.since in omega arith; below = made.below; taken_least = let t = made.taken_least in omega arith; taken_most = made.taken_most })
+made_then u v w before now later first next few more p (inr made) =
+    inr (record {
+      ticket = made.ticket;
+      by = made.by;
+      since = let s = made.since in omega arith;
+      below = made.below;
+      taken_least = let t = made.taken_least in omega arith;
+      taken_most = made.taken_most;
+    })
 made_then u v w before now later first next few more (inl same) (inl stays) = inl (stays ∙ same)
 made_then u v w before now later first next few more (inr made) (inl stays) = let taken = ap (λ (l : LastLook). l.taken) stays in inr (record {
   ticket = made.ticket;
@@ -41,7 +57,8 @@ made_then u v w before now later first next few more (inr made) (inl stays) = le
   taken_most = let t = made.taken_most in omega arith;
 })
 
-looks_then : (u v w : View) → next_of u ≤ next_of v → next_of v ≤ next_of w → u.taken ≤ v.taken → v.taken ≤ w.taken → KeepsLooks u v → KeepsLooks v w → KeepsLooks u w
+looks_then : (u v w : View) → next_of u ≤ next_of v → next_of v ≤ next_of w → u.taken ≤ v.taken → v.taken ≤ w.taken → KeepsLooks u v
+    → KeepsLooks v w → KeepsLooks u w
 looks_then u v w first next few more p q = record {
   used = made_then u v w u.used_look v.used_look w.used_look first next few more p.used q.used;
   heads = λ list. made_then u v w (head_look u list) (head_look v list) (head_look w list) first next few more (p.heads list) (q.heads list);
@@ -98,7 +115,8 @@ view_row_then u v w p q = record {
 }
 
 -- a mark behind another row
-pub marks_then : (u v w : SeatView) (k : ℕ) → KeepsWord v.view w.view k → (IsMarked u.marks k → IsMarked v.marks k ⊎ IsDurableAt v.view k) → (IsMarked v.marks k → IsMarked w.marks k ⊎ IsDurableAt w.view k)
+pub marks_then : (u v w : SeatView) (k : ℕ) → KeepsWord v.view w.view k → (IsMarked u.marks k → IsMarked v.marks k ⊎ IsDurableAt v.view k)
+    → (IsMarked v.marks k → IsMarked w.marks k ⊎ IsDurableAt w.view k)
     → IsMarked u.marks k → IsMarked w.marks k ⊎ IsDurableAt w.view k
 marks_then u v w k keeps p q marked = elim (p marked) [
   | inl still ↦ q still
@@ -106,8 +124,10 @@ marks_then u v w k keeps p q marked = elim (p marked) [
 ]
 
 -- the marks behind one row more
-pub marks_behind : {a b : Costs} (u v w : SeatView) → ViewRow a u.view v.view → KeepsMarks (IsHeldWord u.view) u v → Row b v w → KeepsMarks (IsHeldWord u.view) u w
-marks_behind u v w p marks q k held = let now = row_holds u.view v.view p k held in marks_then u v w k (q.view.words k now) (marks k held) (q.marks k now)
+pub marks_behind : {a b : Costs} (u v w : SeatView) → ViewRow a u.view v.view → KeepsMarks (IsHeldWord u.view) u v → Row b v w
+    → KeepsMarks (IsHeldWord u.view) u w
+marks_behind u v w p marks q k held = let now = row_holds u.view v.view p k held in
+    marks_then u v w k (q.view.words k now) (marks k held) (q.marks k now)
 
 pub row_then : {a b : Costs} (u v w : SeatView) → Row a u v → Row b v w → Row (sum_of a b) u w
 row_then u v w p q = record { view = view_row_then u.view v.view w.view p.view q.view; marks = marks_behind u v w p.view p.marks q }
@@ -151,7 +171,14 @@ row_moves v w p = record {
       next = p.view.passes.next;
       tickets = p.view.passes.tickets;
       more = p.view.passes.more;
-      most = let m = p.view.passes.most in record { draws = m.draws; wins = m.wins; gives = m.gives; cuts = m.cuts; taken = m.taken; moves = omega arith };
+      most = let m = p.view.passes.most in record {
+        draws = m.draws;
+        wins = m.wins;
+        gives = m.gives;
+        cuts = m.cuts;
+        taken = m.taken;
+        moves = omega arith;
+      };
       looks = p.view.passes.looks;
     };
     small = p.view.small;
@@ -162,10 +189,12 @@ row_moves v w p = record {
 }
 
 -- what a row draws, by what it lost and moved
-pub row_draws : {a : Costs} (v w : SeatView) → Row a v w → w.view.draws + a.credit ≤ v.view.draws + a.draws + 4 * (w.view.losses - v.view.losses) + 16 * (w.view.moves - v.view.moves)
+pub row_draws : {a : Costs} (v w : SeatView) → Row a v w → w.view.draws + a.credit ≤ v.view.draws + a.draws + 4 *
+    (w.view.losses - v.view.losses) + 16 * (w.view.moves - v.view.moves)
 row_draws v w p = let d = p.view.passes.most.draws in let l = p.view.passes.more.losses in let m = p.view.passes.more.moves in omega arith
 
-pub row_draws_exact : {a : Costs} (v w : SeatView) → Row a v w → w.view.draws + a.credit ≤ v.view.draws + a.draws + 4 * (w.view.losses - v.view.losses) + 16 * a.moves
+pub row_draws_exact : {a : Costs} (v w : SeatView) → Row a v w → w.view.draws + a.credit ≤ v.view.draws + a.draws + 4 *
+    (w.view.losses - v.view.losses) + 16 * a.moves
 row_draws_exact v w p = let d = row_draws v w p in let m = p.view.passes.most.moves in omega arith
 
 -- a row whose marks all stay
@@ -181,14 +210,17 @@ pub holding_then : {a b : Costs} (u v w : SeatView) → HoldingRow a u v → Row
 holding_then u v w p q = record {
   passes = passes_then u.view v.view w.view p.passes q.view.passes;
   words = λ k both. let now = row_held v.view w.view q.view k both.1 in word_then u.view v.view w.view k (p.words k (both.0, now)) (q.view.words k now);
-  marks = λ k both. let now = row_held v.view w.view q.view k both.1 in marks_then u v w k (q.view.words k now) (p.marks k (both.0, now)) (q.marks k now);
+  marks = λ k both. let now = row_held v.view w.view q.view k both.1 in
+      marks_then u v w k (q.view.words k now) (p.marks k (both.0, now)) (q.marks k now);
 }
 
 pub then_holding : {a b : Costs} (u v w : SeatView) → Row a u v → HoldingRow b v w → HoldingRow (sum_of a b) u w
 then_holding u v w p q = record {
   passes = passes_then u.view v.view w.view p.view.passes q.passes;
-  words = λ k both. let now = row_holds u.view v.view p.view k both.0 in word_then u.view v.view w.view k (p.view.words k both.0) (q.words k (now, both.1));
-  marks = λ k both. let now = row_holds u.view v.view p.view k both.0 in marks_then u v w k (q.words k (now, both.1)) (p.marks k both.0) (q.marks k (now, both.1));
+  words = λ k both. let now = row_holds u.view v.view p.view k both.0 in
+      word_then u.view v.view w.view k (p.view.words k both.0) (q.words k (now, both.1));
+  marks = λ k both. let now = row_holds u.view v.view p.view k both.0 in
+      marks_then u v w k (q.words k (now, both.1)) (p.marks k both.0) (q.marks k (now, both.1));
 }
 
 -- one before or behind a store to a held word
@@ -212,7 +244,8 @@ then_storing word u v w p q = record {
   but = record {
     passes = passes_then u.view v.view w.view p.view.passes q.but.passes;
     words = λ k both. word_then u.view v.view w.view k (p.view.words k both.0) (q.but.words k (row_holds u.view v.view p.view k both.0, both.1));
-    marks = λ k both. marks_then u v w k (q.but.words k (row_holds u.view v.view p.view k both.0, both.1)) (p.marks k both.0) (q.but.marks k (row_holds u.view v.view p.view k both.0, both.1));
+    marks = λ k both. marks_then u v w k (q.but.words k (row_holds u.view v.view p.view k both.0, both.1)) (p.marks k both.0)
+        (q.but.marks k (row_holds u.view v.view p.view k both.0, both.1));
   };
 }
 
@@ -227,8 +260,13 @@ but_then u v w p q = record {
   marks = λ k kept. marks_then u v w k (q.words k kept) (p.marks k kept) (q.marks k kept);
 }
 
-pub but_fewer : {Kept : ℕ → Type 0} (Fewer : ℕ → Type 0) {a : Costs} (b : Costs) (v w : SeatView) → ((k : ℕ) → Fewer k → Kept k) → IsWithin a b → RowBut Kept a v w → RowBut Fewer b v w
-but_fewer Fewer b v w fewer less p = record { passes = passes_within b v.view w.view less p.passes; words = λ k kept. p.words k (fewer k kept); marks = λ k kept. p.marks k (fewer k kept) }
+pub but_fewer : {Kept : ℕ → Type 0} (Fewer : ℕ → Type 0) {a : Costs} (b : Costs) (v w : SeatView) → ((k : ℕ) → Fewer k → Kept k) → IsWithin a b
+    → RowBut Kept a v w → RowBut Fewer b v w
+but_fewer Fewer b v w fewer less p = record {
+  passes = passes_within b v.view w.view less p.passes;
+  words = λ k kept. p.words k (fewer k kept);
+  marks = λ k kept. p.marks k (fewer k kept);
+}
 
 pub row_but : {a : Costs} (v w : SeatView) → Row a v w → RowBut (IsHeldWord v.view) a v w
 row_but v w p = record { passes = p.view.passes; words = p.view.words; marks = p.marks }

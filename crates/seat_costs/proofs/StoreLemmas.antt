@@ -21,7 +21,8 @@ use Rattle.seat_costs.proofs.WordLemmas.{at_cell, learned_word, owns_held, settl
 
 pub load_row : (word : ℕ) (v w : View) (found : ℕ) → IsEvent (Load word) v found w → ViewRow no_costs v w
 load_row word v w found e = row_words v v w (ap holding e.after)
-    (λ k held. subst (λ (x : View). KeepsWord v x k) (sym e.after) (let p = learned_word v e.before word found e.may.ready e.found_is k in record { volatile = p.volatile; durable = p.durable }))
+    (λ k held. subst (λ (x : View). KeepsWord v x k) (sym e.after) (let p = learned_word v e.before word found e.may.ready e.found_is k in
+    record { volatile = p.volatile; durable = p.durable }))
     (view_row_none v)
 
 pub settle_row : (word : ℕ) (v w : View) (found : ℕ) → IsEvent (Settle word) v found w → ViewRow no_costs v w
@@ -52,7 +53,8 @@ module _ (word value : ℕ) (v w : View) (found : ℕ) (e : IsEvent (Store word 
 
   -- a store to a word that is not held
   pub store_row : (IsHeldWord v word → ⊥) → ViewRow no_costs v w
-  store_row not_held = row_words v v w (ap (λ r. (r.0, r.1, r.2)) same) (λ k held. other_word k (λ is. not_held (subst (IsHeldWord v) is held))) (view_row_none v)
+  store_row not_held = row_words v v w (ap (λ r. (r.0, r.1, r.2)) same) (λ k held. other_word k (λ is. not_held (subst (IsHeldWord v) is held)))
+      (view_row_none v)
 
 -- its mark is taken back, and no other
 other_mark : (v w : SeatView) (word : ℕ) → HasNewStore word v w → (k : ℕ) → k ≢ word → mark_at w.marks k ≡ mark_at v.marks k
@@ -65,7 +67,8 @@ row_of_store v w word new not_held p = record {
 }
 
 -- a store to a held word
-pub storing_row : (word value : ℕ) (v w : SeatView) (found : ℕ) → IsEvent (Store word value) v.view found w.view → HasNewStore word v w → StoringRow word no_costs v w
+pub storing_row : (word value : ℕ) (v w : SeatView) (found : ℕ) → IsEvent (Store word value) v.view found w.view → HasNewStore word v w
+    → StoringRow word no_costs v w
 storing_row word value v w found e new = let is = same word value v.view w.view found e in record {
   small = ap (λ r. r.1) is;
   large = ap (λ r. r.2) is;

@@ -68,7 +68,8 @@ pub owns_held : (v : View) (word : ℕ) → IsHeldWord v word → Owns v word
 owns_held v word held = let most = held_own v (cell_at v.setup.capacity word) in omega arith
 
 -- where the same is held, the same words are
-held_same : (v w : View) (cell : Cell) → w.setup ≡ v.setup → w.small ≡ v.small → w.large ≡ v.large → w.roots ≡ v.roots → times_held w cell ≡ times_held v cell
+held_same : (v w : View) (cell : Cell) → w.setup ≡ v.setup → w.small ≡ v.small → w.large ≡ v.large → w.roots ≡ v.roots
+    → times_held w cell ≡ times_held v cell
 held_same v w used_cell setup small large roots = refl
 held_same v w (head_cell list) setup small large roots = refl
 held_same v w (info_cell d) setup small large roots = refl
@@ -81,7 +82,8 @@ held_same v w (data_cell word) setup small large roots =
     ∙ ap (λ (k : Setup). times_in_classes word 0 v.small + times_large (superblock_at k.capacity word) v.large) setup
 held_same v w no_cell setup small large roots = refl
 
-pub still_held : (v w : View) → w.setup ≡ v.setup → w.small ≡ v.small → w.large ≡ v.large → w.roots ≡ v.roots → (word : ℕ) → IsHeldWord v word → IsHeldWord w word
+pub still_held : (v w : View) → w.setup ≡ v.setup → w.small ≡ v.small → w.large ≡ v.large → w.roots ≡ v.roots → (word : ℕ) → IsHeldWord v word
+    → IsHeldWord w word
 still_held v w setup small large roots word held =
     let same : times_held w (cell_at w.setup.capacity word) ≡ times_held v (cell_at v.setup.capacity word) =
     held_same v w (cell_at w.setup.capacity word) setup small large roots ∙ ap (λ (k : Setup). times_held v (cell_at k.capacity word)) setup in
@@ -92,7 +94,8 @@ pub at_cell : (v : View) (word : ℕ) → Owns v word → (values : List (Option
 at_cell v word own values = ap (λ n. get_or values n None) (own_index v word own)
 
 -- what was recorded of an own word is so
-pub word_shown : (v : View) (s : HasSoundState v) (word value : ℕ) → Owns v word → seen_at v word ≡ Some value → (memory_of v.setup.capacity s.words).volatile (cell_at v.setup.capacity word) ≡ value
+pub word_shown : (v : View) (s : HasSoundState v) (word value : ℕ) → Owns v word → seen_at v word ≡ Some value
+    → (memory_of v.setup.capacity s.words).volatile (cell_at v.setup.capacity word) ≡ value
 word_shown v s word value own is = shown v s (cell_at v.setup.capacity word) value (own_there v word own) (at_cell v word own v.volatile ∙ is)
 
 -- a word that is settled, and the others
@@ -129,7 +132,8 @@ trimmed_word v word own = word_same v (trimmed v) word
     (only_at v 0 word v.durable (subst (λ j. 0 < times_own v (cell_at v.setup.capacity j)) (let e : word ≡ 0 + word = omega arith in e) own))
 
 -- a word that is loaded is recorded, and the others stay
-pub learned_word : (v : View) (s : HasSoundState v) (word value : ℕ) → Owns v word → value ≡ (memory_of v.setup.capacity s.words).volatile (cell_at v.setup.capacity word)
+pub learned_word : (v : View) (s : HasSoundState v) (word value : ℕ) → Owns v word
+    → value ≡ (memory_of v.setup.capacity s.words).volatile (cell_at v.setup.capacity word)
     → (k : ℕ) → KeepsWord v (record v { volatile = learn v.volatile word value }) k
 learned_word v s word value own is k = elim (cases_eq k word) as (λ _. KeepsWord v (record v { volatile = learn v.volatile word value }) k) [
   | inl same ↦ record {
@@ -143,4 +147,5 @@ learned_word v s word value own is k = elim (cases_eq k word) as (λ _. KeepsWor
 
 -- another word that is stored
 pub stored_other : (v : View) (word value k : ℕ) → k ≢ word → KeepsWord v (record v { volatile = learn v.volatile word value }) k
-stored_other v word value k other = word_same v (record v { volatile = learn v.volatile word value }) k (get_or-set_other v.volatile word k (Some value) None other) refl
+stored_other v word value k other = word_same v (record v { volatile = learn v.volatile word value }) k
+    (get_or-set_other v.volatile word k (Some value) None other) refl

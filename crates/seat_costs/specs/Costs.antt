@@ -4,7 +4,8 @@ use Rattle.core_model.specs.declared.event.Shift.{Shift}
 use Rattle.core_model.specs.declared.event.Shift.TheVariants.{Cut}
 use Rattle.core_model.specs.View.{View}
 
--- how many tickets it draws, exchanges it wins, batches it gives, and superblocks it cuts, takes and moves to the list of the free ones, at most; the credit is paid by lost exchanges, and it and the refund by moves
+-- how many tickets it draws, exchanges it wins, batches it gives, and superblocks it cuts, takes and moves to the list
+-- of the free ones, at most; the credit is paid by lost exchanges, and it and the refund by moves
 pub record Costs : Type 0 where
   pub draws : ℕ
   pub credit : ℕ
@@ -19,7 +20,8 @@ pub record Costs : Type 0 where
 abbrev pub no_costs : Costs
 no_costs = record { draws = 0; credit = 0; wins = 0; refund = 0; gives = 0; cuts = 0; taken = 0; moves = 0 }
 
--- a ticket; an exchange that is lost, or won; one that may put a superblock on a list, or moves one of a class to the list of the free ones, or gives a batch
+-- a ticket; an exchange that is lost, or won; one that may put a superblock on a list, or moves one of a class to the
+-- list of the free ones, or gives a batch
 abbrev pub one_draw : Costs
 one_draw = record no_costs { draws = 1 }
 
@@ -40,7 +42,16 @@ one_move = record no_costs { credit = 16; wins = 1; refund = 2; moves = 1 }
 
 -- those of one row and of another
 abbrev pub sum_of : Costs → Costs → Costs
-sum_of a b = record { draws = a.draws + b.draws; credit = a.credit + b.credit; wins = a.wins + b.wins; refund = a.refund + b.refund; gives = a.gives + b.gives; cuts = a.cuts + b.cuts; taken = a.taken + b.taken; moves = a.moves + b.moves }
+sum_of a b = record {
+  draws = a.draws + b.draws;
+  credit = a.credit + b.credit;
+  wins = a.wins + b.wins;
+  refund = a.refund + b.refund;
+  gives = a.gives + b.gives;
+  cuts = a.cuts + b.cuts;
+  taken = a.taken + b.taken;
+  moves = a.moves + b.moves;
+}
 
 -- what costs so much costs no more than that
 pub record IsWithin (a b : Costs) : Type 0 where

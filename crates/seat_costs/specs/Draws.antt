@@ -10,7 +10,8 @@ use Rattle.heap_table.specs.Plays.{IsEvent}
 abbrev pub Settles : View → View → Type 0
 Settles v w = (w ≡ v) ⊎ ((word : ℕ) × Owns v word × ((found : ℕ) × IsEvent (Settle word) v found w))
 
--- chance gave a number, with which the word of one of the last stores was settled, where it is own; and what is recorded of what a crash leaves is as that left it
+-- chance gave a number, with which the word of one of the last stores was settled, where it is own; and what is
+-- recorded of what a crash leaves is as that left it
 pub record LeavesAsSettled {C : Type 0} (gives : C → ℕ → C → Type 0) (v w : SeatView) (old new : C) : Type 0 where
   pub number : ℕ
   pub given : gives old number new

@@ -33,7 +33,8 @@ use Rattle.seat_model.proofs.OrderlyLemmas.{anchored, chain_once, free_list, fre
 use Rattle.seat_model.proofs.ClosedPlaceLemmas.{IsInLarge, in_large, in_small, large_behind, large_first, large_not_class, place, taken}
 use Rattle.seat_model.proofs.WordLemmas.{anchor_is, capacity_is, info_is, used_is}
 
-module _ (k : Setup) (words : List ℕ) (views : List View) (sound : Sound k words views) (nothing : Each views KeepsNothing) (image : Image) (closed : IsClosedImage (volatile_image k.capacity words) image) where
+module _ (k : Setup) (words : List ℕ) (views : List View) (sound : Sound k words views) (nothing : Each views KeepsNothing) (image : Image)
+    (closed : IsClosedImage (volatile_image k.capacity words) image) where
   abbrev m : Memory
   m = memory_of k.capacity words
 
@@ -55,19 +56,26 @@ module _ (k : Setup) (words : List ℕ) (views : List View) (sound : Sound k wor
   -- a taken superblock that is not in the free list is cut, or of a large block
   outside_free : (d : ℕ) → d < used_of image → (listed : List ℕ) → IsListOf image 0 listed → (Contains listed d → ⊥) → cut d + large d ≡ 1
   outside_free d less listed is outside =
-      let same = one_following (λ e. image (link_word e)) (capacity_of image) (head_first (image (head_word 0))) listed free is (free_listed k words views sound nothing image closed) in
+      let same = one_following (λ e. image (link_word e)) (capacity_of image) (head_first (image (head_word 0))) listed free is
+      (free_listed k words views sound nothing image closed) in
       let none = times_none d free (subst (λ (ds : List ℕ). Contains ds d → ⊥) same outside) in
       let one = place k words views sound nothing d in
       let u = used_is k words views sound image closed in
       let now = below_is d (used m) (omega arith) in
       omega arith
 
-  module _ (b : Block) (class d index : ℕ) (less : d < used_of image) (is : IsClass class) (info_at : image (info_word d) ≡ class) (of : IsBlockOfClass (capacity_of image) class d index b) where
+  module _ (b : Block) (class d index : ℕ) (less : d < used_of image) (is : IsClass class) (info_at : image (info_word d) ≡ class)
+      (of : IsBlockOfClass (capacity_of image) class d index b) where
     info_now : info m d ≡ class
     info_now = sym (info_is k words views sound image closed d (in_room k words views sound nothing image closed d less)) ∙ info_at
 
     block_at : IsCutBlock k.capacity class d b.first_word
-    block_at = record { index = index; below = of.below; at = of.at ∙ ap (λ c. start_word c d + index * words_of_class class) (capacity_is k words views sound image closed) }
+    block_at = record {
+      index = index;
+      below = of.below;
+      at = of.at
+          ∙ ap (λ c. start_word c d + index * words_of_class class) (capacity_is k words views sound image closed);
+    }
 
     cut_by : cut d + large d ≡ 1 → 0 < cut d
     cut_by one = let none = large_not_class k words views sound nothing d class is info_now in omega arith
@@ -84,7 +92,8 @@ module _ (k : Setup) (words : List ℕ) (views : List View) (sound : Sound k wor
           view = small.view;
           below = small.below_count;
           at = small.at;
-          holds = subst (IsHeld small.view) (same_fields (record { first_word = b.first_word; words = words_of_class class }) b refl (sym of.size)) (a_small class b.first_word small.there);
+          holds = subst (IsHeld small.view) (same_fields (record { first_word = b.first_word; words = words_of_class class }) b refl
+              (sym of.size)) (a_small class b.first_word small.there);
         }
 
   -- a partial anchor leads along one chain
@@ -94,7 +103,8 @@ module _ (k : Setup) (words : List ℕ) (views : List View) (sound : Sound k wor
       sym (walks_chain image from xs a.linked.walks) ∙ ap (walked image from) (sym a.count ∙ b.count) ∙ walks_chain image from ys b.linked.walks
 
   -- which is that of the superblock
-  its_chain : (d class : ℕ) → d < used_of image → 0 < cut d → info m d ≡ class → anchor_state (image (anchor_word d)) ≡ partial_state → HasPartialChain image class d (g.chains d)
+  its_chain : (d class : ℕ) → d < used_of image → 0 < cut d → info m d ≡ class → anchor_state (image (anchor_word d)) ≡ partial_state
+      → HasPartialChain image class d (g.chains d)
   its_chain d class less some now state =
       let a = anchored k words views sound nothing image closed d some in
       let at = anchor_is k words views sound image closed d (in_room k words views sound nothing image closed d less) in
@@ -103,7 +113,8 @@ module _ (k : Setup) (words : List ℕ) (views : List View) (sound : Sound k wor
       (λ all. let e : ◌≡◌ {A = ℕ} 1 0 = sym state ∙ ap anchor_state at ∙ a.empty.1 all in omega (arith, e)))
 
   -- a large block that begins in superblock d, by an info of so many superblocks, is a seat's
-  held_span : (b : Block) (d count : ℕ) → 1 ≤ count → info m d ≡ large_info count → b.first_word ≡ start_word (capacity_of image) d → b.words ≡ superblock_words * count
+  held_span : (b : Block) (d count : ℕ) → 1 ≤ count → info m d ≡ large_info count → b.first_word ≡ start_word (capacity_of image) d
+      → b.words ≡ superblock_words * count
       → IsInLarge k words views sound nothing d → IsHeldBy views b
   held_span b d count some now first size l = by_first here where
     here : l.span.first ≡ d
@@ -124,7 +135,10 @@ module _ (k : Setup) (words : List ℕ) (views : List View) (sound : Sound k wor
       view = l.view;
       below = l.below_count;
       at = l.at;
-      holds = subst (IsHeld l.view) (same_fields (record { first_word = start_word l.view.setup.capacity l.span.first; words = superblock_words * count }) b
+      holds = subst (IsHeld l.view) (same_fields (record {
+        first_word = start_word l.view.setup.capacity l.span.first;
+        words = superblock_words * count;
+      }) b
           (let e = capacity_is k words views sound image closed in let c = cap in omega arith) (sym size))
           (a_large l.span.first count (omega arith) as_many);
     }
@@ -140,11 +154,14 @@ module _ (k : Setup) (words : List ℕ) (views : List View) (sound : Sound k wor
         let size = of.size in
         let at = of.at in
         let index = of.below in
-        let first : b.first_word ≡ start_word (capacity_of image) d = at ∙ ap (λ i. start_word (capacity_of image) out.block.superblock + i * out.block.words) (let none : out.block.index ≡ 0 = omega arith in none)
-        ∙ (let start : start_word (capacity_of image) out.block.superblock + 0 * out.block.words ≡ start_word (capacity_of image) out.block.superblock = omega arith in start) ∙ ap (start_word (capacity_of image)) same_d in
+        let first : b.first_word ≡ start_word (capacity_of image) d = at
+        ∙ ap (λ i. start_word (capacity_of image) out.block.superblock + i * out.block.words) (let none : out.block.index ≡ 0 = omega arith in none)
+        ∙ (let start : start_word (capacity_of image) out.block.superblock + 0 * out.block.words ≡ start_word
+        (capacity_of image) out.block.superblock = omega arith in start) ∙ ap (start_word (capacity_of image)) same_d in
         let less : d < used_of image = omega arith in
         let one = outside_free d less listed is (out.outside d (record { begins = omega arith; ends = omega arith })) in
-        let now : info m d ≡ large_info count = sym (info_is k words views sound image closed d (in_room k words views sound nothing image closed d less)) ∙ info_at in
+        let now : info m d ≡ large_info count = sym (info_is k words views sound image closed d
+        (in_room k words views sound nothing image closed d less)) ∙ info_at in
         let not_cut : cut d ≡ 0 = elim (cases_lt 0 (cut d)) as (λ _. cut d ≡ 0) [
           | inl there ↦ let class = good.shaped.chained.is_class d there in let last = class.last in absurd (omega arith)
           | inr none ↦ omega arith
@@ -166,7 +183,8 @@ module _ (k : Setup) (words : List ℕ) (views : List View) (sound : Sound k wor
       let some = cut_by b class d index less is info_at of (outside_free d less listed out.listed out.outside) in
       let mine = its_chain d class less some (info_now b class d index less is info_at of) chained.state in
       let same = one_chain class d chain (g.chains d) chained mine in
-      has_owner b class d index less is info_at of some (times_none b.first_word (g.chains d) (subst (λ (bs : List ℕ). Contains bs b.first_word → ⊥) same unchained))
+      has_owner b class d index less is info_at of some (times_none b.first_word (g.chains d)
+      (subst (λ (bs : List ℕ). Contains bs b.first_word → ⊥) same unchained))
   held_by_seats b (held_as_large listed is out) = held_large b listed is out
 
   held_by_anchors : (i : ℕ) (v : View) → i < length views → get_or views i v ≡ v → (b : Block) → IsHeld v b → IsHeldByAnchors image b
@@ -187,21 +205,34 @@ module _ (k : Setup) (words : List ℕ) (views : List View) (sound : Sound k wor
       let info_at = info_is k words views sound image closed d room ∙ now in
       let anchor_at = anchor_is k words views sound image closed d room in
       let a = anchored k words views sound nothing image closed d some in
-      let out : IsOutsideFreeList image free d = record { taken = less; listed = free_listed k words views sound nothing image closed; outside = not_free k words views sound nothing image closed d (omega arith) } in
+      let out : IsOutsideFreeList image free d = record {
+        taken = less;
+        listed = free_listed k words views sound nothing image closed;
+        outside = not_free k words views sound nothing image closed d (omega arith);
+      } in
       let of : IsBlockOfClass (capacity_of image) class d block_at.index (record { first_word = first; words = words_of_class class }) =
-      record { below = block_at.below; at = block_at.at ∙ ap (λ c. start_word c d + block_at.index * words_of_class class) (sym (capacity_is k words views sound image closed)); size = refl } in
+      record {
+        below = block_at.below;
+        at = block_at.at ∙ ap (λ c. start_word c d + block_at.index * words_of_class class)
+            (sym (capacity_is k words views sound image closed));
+        size = refl;
+      } in
       elim (cases_eq (length (g.chains d)) 0) as (λ _. IsHeldByAnchors image (record { first_word = first; words = words_of_class class })) [
         | inl none ↦ in_full free class d block_at.index out is info_at (anchor_at ∙ a.full.1 none) of
-        | inr not_none ↦ elim (cases_eq (length (g.chains d)) (blocks_of (info m d))) as (λ _. IsHeldByAnchors image (record { first_word = first; words = words_of_class class })) [
-          | inl all ↦
-              let there_too = all_home k.capacity (info m d) d (g.chains d) (good.shaped.chained.is_class d some) all (λ x p. good.shaped.chained.chained d x some p)
-              (λ x at. chain_once k words views sound nothing image closed d x some) first home.1 in absurd (omega arith)
-          | inr not_all ↦ in_partial free (g.chains d) class d block_at.index out is info_at
-              (subst (λ c. HasPartialChain image c d (g.chains d)) now (partial k words views sound nothing image closed d less some not_none not_all)) of
-              (λ p. let listed_too = times_of first (g.chains d) p in omega arith)
-        ]
+        | inr not_none ↦ elim (cases_eq (length (g.chains d)) (blocks_of (info m d))) as
+            (λ _. IsHeldByAnchors image (record { first_word = first; words = words_of_class class })) [
+              | inl all ↦
+                  let there_too = all_home k.capacity (info m d) d (g.chains d) (good.shaped.chained.is_class d some) all
+                  (λ x p. good.shaped.chained.chained d x some p)
+                  (λ x at. chain_once k words views sound nothing image closed d x some) first home.1 in absurd (omega arith)
+              | inr not_all ↦ in_partial free (g.chains d) class d block_at.index out is info_at
+                  (subst (λ c. HasPartialChain image c d (g.chains d)) now (partial k words views sound nothing image closed d less some not_none
+                  not_all)) of
+                  (λ p. let listed_too = times_of first (g.chains d) p in omega arith)
+            ]
       ]
-  held_by_anchors i v below at b (a_large d n some count) = held_as_large free (free_listed k words views sound nothing image closed) (large_outside k words views sound nothing image closed i v below at d n some count)
+  held_by_anchors i v below at b (a_large d n some count) = held_as_large free (free_listed k words views sound nothing image closed)
+      (large_outside k words views sound nothing image closed i v below at d n some count)
 
   pub held_alike : (b : Block) → IsHeldByAnchors image b ↔ IsHeldBy views b
   held_alike b = (held_by_seats b, λ held. held_by_anchors held.seat held.view held.below held.at b held.holds)

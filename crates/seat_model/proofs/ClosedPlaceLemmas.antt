@@ -25,34 +25,38 @@ pub record IsSpanned (d : ℕ) (spans : List Span) : Type 0 where
   pub high : d < first + span_count first spans
 
 -- a superblock that spans take is in one of them, where they take none twice
-pub spanned : (d : ℕ) (spans : List Span) → ((e : ℕ) → times_large e spans ≤ 1) → ((span : Span) → Contains spans span → 1 ≤ span.count) → 0 < times_large d spans → IsSpanned d spans
+pub spanned : (d : ℕ) (spans : List Span) → ((e : ℕ) → times_large e spans ≤ 1) → ((span : Span) → Contains spans span → 1 ≤ span.count)
+    → 0 < times_large d spans → IsSpanned d spans
 spanned d [] once some there = absurd (omega arith)
-spanned d (span ∷ spans) once some there = by_test (spanned d spans (λ e. let most = once e in omega arith) (λ s p. some s (in_rest span s spans p))) (takes d span) refl where
-  head : span_count span.first (span ∷ spans) ≡ span.count
-  head = ap (λ t. cond t span.count (span_count span.first spans)) (eq-eqb span.first span.first refl)
+spanned d (span ∷ spans) once some there = by_test (spanned d spans (λ e. let most = once e in
+    omega arith) (λ s p. some s (in_rest span s spans p))) (takes d span) refl where
+      head : span_count span.first (span ∷ spans) ≡ span.count
+      head = ap (λ t. cond t span.count (span_count span.first spans)) (eq-eqb span.first span.first refl)
 
-  begins : (e : ℕ) → span.first ≡ e → times_large e (span ∷ spans) ≡ 1 + times_large e spans
-  begins e same =
-      let first = some span (in_head span spans) in
-      let one = one_if_true (takes e span) (and_is (nat_le span.first e) (nat_lt e (span.first + span.count)) (le-leb span.first e (omega (arith, same))) (lt-ltb e (span.first + span.count) (omega (arith, same)))) in omega arith
+      begins : (e : ℕ) → span.first ≡ e → times_large e (span ∷ spans) ≡ 1 + times_large e spans
+      begins e same =
+          let first = some span (in_head span spans) in
+          let one = one_if_true (takes e span) (and_is (nat_le span.first e) (nat_lt e (span.first + span.count))
+          (le-leb span.first e (omega (arith, same))) (lt-ltb e (span.first + span.count) (omega (arith, same)))) in omega arith
 
-  by_test : (0 < times_large d spans → IsSpanned d spans) → (t : Bool) → takes d span ≡ t → IsSpanned d (span ∷ spans)
-  by_test behind true is =
-      let both = and_both (nat_le span.first d) (nat_lt d (span.first + span.count)) is in
-      record {
-        first = span.first;
-        low = leb-true span.first d both.0;
-        high = (let less = ltb-true d (span.first + span.count) both.1 in omega (arith, head));
-      }
-  by_test behind false not =
-      let none : one_if (takes d span) ≡ 0 = ap one_if not in
-      let rest = behind (omega arith) in
-      let low = rest.low in
-      let high = rest.high in
-      let other : span.first ≢ rest.first = λ same. (let covers = span_covers rest.first rest.first spans (omega arith) (omega arith) (omega arith) in
-      let o = once rest.first in let b = begins rest.first same in omega arith) in
-      let skip_it : span_count rest.first (span ∷ spans) ≡ span_count rest.first spans = ap (λ t. cond t span.count (span_count rest.first spans)) (ne_eqb span.first rest.first other) in
-      record { first = rest.first; low = low; high = omega arith }
+      by_test : (0 < times_large d spans → IsSpanned d spans) → (t : Bool) → takes d span ≡ t → IsSpanned d (span ∷ spans)
+      by_test behind true is =
+          let both = and_both (nat_le span.first d) (nat_lt d (span.first + span.count)) is in
+          record {
+            first = span.first;
+            low = leb-true span.first d both.0;
+            high = (let less = ltb-true d (span.first + span.count) both.1 in omega (arith, head));
+          }
+      by_test behind false not =
+          let none : one_if (takes d span) ≡ 0 = ap one_if not in
+          let rest = behind (omega arith) in
+          let low = rest.low in
+          let high = rest.high in
+          let other : span.first ≢ rest.first = λ same. (let covers = span_covers rest.first rest.first spans (omega arith) (omega arith) (omega arith) in
+          let o = once rest.first in let b = begins rest.first same in omega arith) in
+          let skip_it : span_count rest.first (span ∷ spans) ≡ span_count rest.first spans =
+          ap (λ t. cond t span.count (span_count rest.first spans)) (ne_eqb span.first rest.first other) in
+          record { first = rest.first; low = low; high = omega arith }
 
 module _ (k : Setup) (words : List ℕ) (views : List View) (sound : Sound k words views) (nothing : Each views KeepsNothing) where
   abbrev m : Memory
@@ -108,26 +112,29 @@ module _ (k : Setup) (words : List ℕ) (views : List View) (sound : Sound k wor
 
   -- its info is 0, or that of a large block
   pub large_first : (d : ℕ) (l : IsInLarge d) → info m l.span.first ≡ large_info (span_count l.span.first l.view.large)
-  large_first d l = ((good.claims l.seat l.view l.below_count l.at).is_large l.span.first (let low = l.span.low in let high = l.span.high in omega arith)).0
+  large_first d l = ((good.claims l.seat l.view l.below_count l.at).is_large l.span.first (let low = l.span.low in let high = l.span.high in
+      omega arith)).0
 
   pub large_behind : (d : ℕ) (l : IsInLarge d) → l.span.first ≢ d → info m d ≡ 0
-  large_behind d l other = ((good.claims l.seat l.view l.below_count l.at).is_large l.span.first (let low = l.span.low in let high = l.span.high in omega arith)).1 d
+  large_behind d l other = ((good.claims l.seat l.view l.below_count l.at).is_large l.span.first (let low = l.span.low in
+      let high = l.span.high in omega arith)).1 d
       (let low = l.span.low in omega (arith, low, other)) l.span.high
 
   pub large_not_class : (d class : ℕ) → IsClass class → info m d ≡ class → total (λ (v : View). times_large d v.large) views ≡ 0
-  large_not_class d class is same = elim (cases_lt 0 (total (λ (v : View). times_large d v.large) views)) as (λ _. total (λ (v : View). times_large d v.large) views ≡ 0) [
-    | inl some ↦
-        let l = in_large d some in
-        let least = is.some in
-        let most = is.last in
-        let high = l.span.high in
-        let low = l.span.low in
-        elim (cases_eq l.span.first d) as (λ _. total (λ (v : View). times_large d v.large) views ≡ 0) [
-          | inl first ↦ let e = ap (info m) (sym first) ∙ large_first d l in absurd (omega (arith, e, same, least, most, high, low))
-          | inr other ↦ let e = large_behind d l other in absurd (omega (arith, e, same, least))
-        ]
-    | inr none ↦ omega arith
-  ]
+  large_not_class d class is same = elim (cases_lt 0 (total (λ (v : View). times_large d v.large) views)) as
+      (λ _. total (λ (v : View). times_large d v.large) views ≡ 0) [
+        | inl some ↦
+            let l = in_large d some in
+            let least = is.some in
+            let most = is.last in
+            let high = l.span.high in
+            let low = l.span.low in
+            elim (cases_eq l.span.first d) as (λ _. total (λ (v : View). times_large d v.large) views ≡ 0) [
+              | inl first ↦ let e = ap (info m) (sym first) ∙ large_first d l in absurd (omega (arith, e, same, least, most, high, low))
+              | inr other ↦ let e = large_behind d l other in absurd (omega (arith, e, same, least))
+            ]
+        | inr none ↦ omega arith
+      ]
 
   -- a block that has an owner is in a seat's list of the class of its superblock
   pub record IsInSmall (class b : ℕ) : Type 0 where
@@ -147,7 +154,8 @@ module _ (k : Setup) (words : List ℕ) (views : List View) (sound : Sound k wor
         let mine = total_at (times_block b) views i v below at in
         let cap : v.setup.capacity ≡ k.capacity = ap (λ (s : Setup). s.capacity) (good.set_up i v below at).setup in
         let cut = (good.shaped.chained.inside b (omega arith)).0 in
-        let class_is : IsClass c.n = subst IsClass (ap (λ n. info m (superblock_at n b)) (sym cap) ∙ info_is) (good.shaped.chained.is_class (superblock_at k.capacity b) cut) in
+        let class_is : IsClass c.n = subst IsClass (ap (λ n. info m (superblock_at n b)) (sym cap) ∙ info_is)
+        (good.shaped.chained.is_class (superblock_at k.capacity b) cut) in
         let none = ap (times b) ((nothing i v below at).empty c.n class_is) in
         absurd (omega (arith, there, none))
     | inr none ↦ omega arith

@@ -91,8 +91,13 @@ pub record IsSmall (class : ℕ) (lists : List (List ℕ)) (b : Block) : Type 0 
 pub small_there : (class : ℕ) (lists : List (List ℕ)) (b : Block) → Contains (small_blocks class lists) b → IsSmall class lists b
 small_there class [] b c = absurd (let l = c.1 in omega arith)
 small_there class (bs ∷ lists) b c = elim (Contains-append_cases (blocks_of_words (words_of_class class) bs) (small_blocks (class + 1) lists) b c) [
-  | inl here ↦ let h = words_there (words_of_class class) bs b here in record { n = 0; there = h.0; words = h.1 ∙ ap words_of_class (let e : class ≡ class + 0 = omega arith in e) }
-  | inr more ↦ let h = small_there (class + 1) lists b more in record { n = suc h.n; there = h.there; words = h.words ∙ ap words_of_class (let e : class + 1 + h.n ≡ class + suc h.n = omega arith in e) }
+  | inl here ↦ let h = words_there (words_of_class class) bs b here in
+      record { n = 0; there = h.0; words = h.1 ∙ ap words_of_class (let e : class ≡ class + 0 = omega arith in e) }
+  | inr more ↦ let h = small_there (class + 1) lists b more in record {
+    n = suc h.n;
+    there = h.there;
+    words = h.words ∙ ap words_of_class (let e : class + 1 + h.n ≡ class + suc h.n = omega arith in e);
+  }
 ]
 
 -- the superblocks of a large one
@@ -104,39 +109,44 @@ record IsLarge (capacity : ℕ) (spans : List Span) (b : Block) : Type 0 where
   words : b.words ≡ superblock_words * span_count d spans
 
 begins : (d : ℕ) (span : Span) → span.first ≡ d → 1 ≤ span.count → takes d span ≡ true
-begins d span is some = and_is (nat_le span.first d) (nat_lt d (span.first + span.count)) (le-leb span.first d (omega (arith, is))) (lt-ltb d (span.first + span.count) (omega (arith, is)))
+begins d span is some = and_is (nat_le span.first d) (nat_lt d (span.first + span.count)) (le-leb span.first d (omega (arith, is)))
+    (lt-ltb d (span.first + span.count) (omega (arith, is)))
 
-large_there : (capacity : ℕ) (spans : List Span) (b : Block) → ((d : ℕ) → times_large d spans ≤ 1) → ((span : Span) → Contains spans span → 1 ≤ span.count) → Contains (large_blocks capacity spans) b → IsLarge capacity spans b
+large_there : (capacity : ℕ) (spans : List Span) (b : Block) → ((d : ℕ) → times_large d spans ≤ 1)
+    → ((span : Span) → Contains spans span → 1 ≤ span.count) → Contains (large_blocks capacity spans) b → IsLarge capacity spans b
 large_there capacity [] b once some c = absurd (let l = c.1 in omega arith)
-large_there capacity (span ∷ spans) b once some c = elim (contains_cons (record { first_word = start_word capacity span.first; words = superblock_words * span.count }) b (large_blocks capacity spans) c.0 c.1 c.2) [
-  | inl same ↦ record {
-    d = span.first;
-    some = let one = one_if_true (takes span.first span) (begins span.first span refl first_some) in omega arith;
-    count = subst (λ n. 0 < n) (sym head) first_some;
-    first = sym (ap (λ (y : Block). y.first_word) same);
-    words = sym (ap (λ (y : Block). y.words) same) ∙ ap (λ n. superblock_words * n) (sym head);
-  }
-  | inr more ↦ by_rest (large_there capacity spans b (λ d. let o = once d in omega arith) (λ x there. some x (suc there.0, let l = there.1 in omega arith, there.2)) more)
-] where
-  first_some : 1 ≤ span.count
-  first_some = some span (0, omega arith, refl)
+large_there capacity (span ∷ spans) b once some c = elim (contains_cons
+    (record { first_word = start_word capacity span.first; words = superblock_words * span.count }) b (large_blocks capacity spans) c.0 c.1 c.2) [
+      | inl same ↦ record {
+        d = span.first;
+        some = let one = one_if_true (takes span.first span) (begins span.first span refl first_some) in omega arith;
+        count = subst (λ n. 0 < n) (sym head) first_some;
+        first = sym (ap (λ (y : Block). y.first_word) same);
+        words = sym (ap (λ (y : Block). y.words) same) ∙ ap (λ n. superblock_words * n) (sym head);
+      }
+      | inr more ↦ by_rest (large_there capacity spans b (λ d. let o = once d in
+          omega arith) (λ x there. some x (suc there.0, let l = there.1 in omega arith, there.2)) more)
+    ] where
+      first_some : 1 ≤ span.count
+      first_some = some span (0, omega arith, refl)
 
-  head : span_count span.first (span ∷ spans) ≡ span.count
-  head = ap (λ t. cond t span.count (span_count span.first spans)) (eq-eqb span.first span.first refl)
+      head : span_count span.first (span ∷ spans) ≡ span.count
+      head = ap (λ t. cond t span.count (span_count span.first spans)) (eq-eqb span.first span.first refl)
 
-  by_rest : IsLarge capacity spans b → IsLarge capacity (span ∷ spans) b
-  by_rest rest = record {
-    d = rest.d;
-    some = let r = rest.some in omega arith;
-    count = subst (λ n. 0 < n) (sym skip_it) rest.count;
-    first = rest.first;
-    words = rest.words ∙ ap (λ n. superblock_words * n) (sym skip_it);
-  } where
-    other : span.first ≢ rest.d
-    other same = let one = one_if_true (takes rest.d span) (begins rest.d span same first_some) in let r = rest.some in let o = once rest.d in omega arith
+      by_rest : IsLarge capacity spans b → IsLarge capacity (span ∷ spans) b
+      by_rest rest = record {
+        d = rest.d;
+        some = let r = rest.some in omega arith;
+        count = subst (λ n. 0 < n) (sym skip_it) rest.count;
+        first = rest.first;
+        words = rest.words ∙ ap (λ n. superblock_words * n) (sym skip_it);
+      } where
+        other : span.first ≢ rest.d
+        other same = let one = one_if_true (takes rest.d span) (begins rest.d span same first_some) in let r = rest.some in let o = once rest.d in
+            omega arith
 
-    skip_it : span_count rest.d (span ∷ spans) ≡ span_count rest.d spans
-    skip_it = ap (λ t. cond t span.count (span_count rest.d spans)) (ne_eqb span.first rest.d other)
+        skip_it : span_count rest.d (span ∷ spans) ≡ span_count rest.d spans
+        skip_it = ap (λ t. cond t span.count (span_count rest.d spans)) (ne_eqb span.first rest.d other)
 
 contains_times : (xs : List ℕ) (x : ℕ) → Contains xs x → 0 < times x xs
 contains_times [] x c = absurd (let l = c.1 in omega arith)
@@ -152,7 +162,8 @@ may_of (Some y) x is = is y refl
 -- the words of held blocks are so for the core
 pub word_of_block : (v : View) (b : Block) → IsHeld v b → (word : ℕ) → IsIn b word → 0 < times_held v (data_cell word)
 word_of_block v b (a_small class first there) word within = let from = within.from in let until = within.until in
-    let own = in_classes_word word first 0 class v.small from (let e = ap words_of_class (let p : class ≡ 0 + class = omega arith in p) in omega arith) there in omega arith
+    let own = in_classes_word word first 0 class v.small from (let e = ap words_of_class (let p : class ≡ 0 + class = omega arith in p) in
+    omega arith) there in omega arith
 word_of_block v b (a_large d n some count) word within = let from = within.from in let until = within.until in
     let own = span_covers d (superblock_at v.setup.capacity word) v.large (omega arith) (omega arith) (omega arith) in omega arith
 
@@ -160,14 +171,19 @@ module _ (v : View) (s : HasSoundState v) where
   pub held_is : (b : Block) → Contains (held_blocks v) b → IsHeld v b
   held_is b c = elim (Contains-append_cases (small_blocks 0 v.small) (large_blocks v.setup.capacity v.large) b c) [
     | inl small ↦ let h = small_there 0 v.small b small in
-        subst (IsHeld v) (same_fields (record { first_word = b.first_word; words = words_of_class h.n }) b refl (ap words_of_class (let e : h.n ≡ 0 + h.n = omega arith in e) ∙ sym h.words)) (a_small h.n b.first_word h.there)
+        subst (IsHeld v) (same_fields (record { first_word = b.first_word; words = words_of_class h.n }) b refl
+        (ap words_of_class (let e : h.n ≡ 0 + h.n = omega arith in e) ∙ sym h.words)) (a_small h.n b.first_word h.there)
     | inr large ↦ let h = large_there v.setup.capacity v.large b (one_large v s) ((s.sound.good.claims s.seat v s.below s.at).some) large in
-        subst (IsHeld v) (same_fields (record { first_word = start_word v.setup.capacity h.d; words = superblock_words * span_count h.d v.large }) b (sym h.first) (sym h.words)) (a_large h.d (span_count h.d v.large) h.count refl)
+        subst (IsHeld v) (same_fields (record {
+          first_word = start_word v.setup.capacity h.d;
+          words = superblock_words * span_count h.d v.large;
+        }) b (sym h.first) (sym h.words)) (a_large h.d (span_count h.d v.large) h.count refl)
   ]
 
   pub placed_block : (b : Block) → Contains (held_blocks v) b → IsPlaced b
   unfolding largest_capacity
-  placed_block b c = let placed = held_placed v s b (held_is b c) in let from = placed.from in let until = placed.until in let low = placed.low in let some = placed.some in
+  placed_block b c = let placed = held_placed v s b (held_is b c) in let from = placed.from in let until = placed.until in
+      let low = placed.low in let some = placed.some in
       let small = s.sound.good.small in record { behind = omega arith; some = omega arith; short = omega arith }
 
   pub apart_blocks : (a b : Block) → Contains (held_blocks v) a → Contains (held_blocks v) b → AreOneOrApart a b
@@ -181,19 +197,24 @@ module _ (v : View) (s : HasSoundState v) where
 
   -- they lie in the superblocks
   pub block_cell : (b : Block) → IsHeld v b → (word : ℕ) → IsIn b word → cell_at v.setup.capacity word ≡ data_cell word
-  block_cell b held word within = let placed = held_placed v s b held in let low = placed.from in let high = placed.until in let most = placed.low in let from = within.from in let until = within.until in
+  block_cell b held word within = let placed = held_placed v s b held in let low = placed.from in let high = placed.until in
+      let most = placed.low in let from = within.from in let until = within.until in
       cell_at_index v.setup.capacity (data_cell word)
-      (and_is (nat_le (start_word v.setup.capacity 0) word) (nat_lt word (superblocks_end v.setup.capacity)) (le-leb (start_word v.setup.capacity 0) word (omega arith)) (lt-ltb word (superblocks_end v.setup.capacity) (omega arith)))
+      (and_is (nat_le (start_word v.setup.capacity 0) word) (nat_lt word (superblocks_end v.setup.capacity))
+      (le-leb (start_word v.setup.capacity 0) word (omega arith)) (lt-ltb word (superblocks_end v.setup.capacity) (omega arith)))
 
   pub word_held : (word : ℕ) → IsOwnWord (held_blocks v) v.roots word → IsHeldWord v word
-  word_held word (in_block b w c within) = subst (λ (cell : Cell). 0 < times_held v cell) (sym (block_cell b (held_is b c) word within)) (block_word b (held_is b c) word within)
+  word_held word (in_block b w c within) = subst (λ (cell : Cell). 0 < times_held v cell) (sym (block_cell b (held_is b c) word within))
+      (block_word b (held_is b c) word within)
   word_held word (in_root i w c is) = subst (λ n. IsHeldWord v n) (sym is)
-      (subst (λ (cell : Cell). 0 < times_held v cell) (sym (cell_at_index v.setup.capacity (root_cell i) (lt-ltb i roots (root_below i c)))) (contains_times v.roots i c))
+      (subst (λ (cell : Cell). 0 < times_held v cell) (sym (cell_at_index v.setup.capacity (root_cell i) (lt-ltb i roots (root_below i c))))
+      (contains_times v.roots i c))
 
   -- a crash leaves it as it is durable
   pub word_lasts : (word : ℕ) → IsOwnWord (held_blocks v) v.roots word → Lasts (cell_at v.setup.capacity word)
   word_lasts word (in_block b w c within) = (block_words_own v s b (held_is b c) word within).1
-  word_lasts word (in_root i w c is) = subst (λ n. Lasts (cell_at v.setup.capacity n)) (sym is) (root_own v i (root_below i c) (contains_times v.roots i c)).1
+  word_lasts word (in_root i w c is) = subst (λ n. Lasts (cell_at v.setup.capacity n)) (sym is)
+      (root_own v i (root_below i c) (contains_times v.roots i c)).1
 
   pub stop_told : (ticket : ℕ) → v.stopped ≡ Some ticket → (v.setup.budget ≤ ticket) × (next_of v ≡ ticket + 1)
   stop_told ticket at = let told = (s.sound.good.tickets s.seat v s.below s.at).state.stopping ticket at in (told.0, ap after_ticket told.1)
@@ -203,12 +224,14 @@ seat_law s = record {
   placed = λ b c. decided (is_placed b) (λ (has : HasSoundState s.view). placed_block s.view has b c) s.sound;
   apart = λ a b in_a in_b. decided (one_or_apart a b) (λ (has : HasSoundState s.view). apart_blocks s.view has a b in_a in_b) s.sound;
   roots_are = λ i c. decided (at_most (suc i) roots) (λ (has : HasSoundState s.view). root_below s.view has i c) s.sound;
-  stopping = λ ticket at. decided (both (at_most s.view.setup.budget ticket) (cases_eq (next_of s.view) (ticket + 1))) (λ (has : HasSoundState s.view). stop_told s.view has ticket at) s.sound;
+  stopping = λ ticket at. decided (both (at_most s.view.setup.budget ticket) (cases_eq (next_of s.view) (ticket + 1)))
+      (λ (has : HasSoundState s.view). stop_told s.view has ticket at) s.sound;
 }
 
 -- an own word is a held one
 pub own_held : (s : CacheState) (word : ℕ) → IsOwnWord (held_blocks s.view) s.view.roots word → IsHeldWord s.view word
-own_held s word own = decided (at_most 1 (times_held s.view (cell_at s.view.setup.capacity word))) (λ (has : HasSoundState s.view). word_held s.view has word own) s.sound
+own_held s word own = decided (at_most 1 (times_held s.view (cell_at s.view.setup.capacity word)))
+    (λ (has : HasSoundState s.view). word_held s.view has word own) s.sound
 
 -- some sound state has the view of what is left
 left_state : (v : View) (image : Image) → MayBeLeft v image → HasSoundState v
@@ -222,7 +245,8 @@ named_law s image is b c = left_named s.view image is b (held_is s.view (left_st
 pub mixed_law : (s : CacheState) (image : Image) → MayBeLeft s.view image → MixesOwn (heap_view s) image
 mixed_law s image is = record {
   each = λ word own. let has = owns_held s.view word (own_held s word own) in
-      elim ((left_mixes s.view image is).each word has (word_lasts s.view (left_state s.view image is) word own)) as (λ _. MayRead (heap_view s) word (image word)) [
+      elim ((left_mixes s.view image is).each word has (word_lasts s.view (left_state s.view image is) word own)) as
+      (λ _. MayRead (heap_view s) word (image word)) [
         | inl volatile ↦ inl (may_of (seen_at s.view word) (image word) (λ value e. volatile value (at_cell s.view word has s.view.volatile ∙ e)))
         | inr durable ↦ inr (may_of (left_at s.view word) (image word) (λ value e. durable value (at_cell s.view word has s.view.durable ∙ e)))
       ];
@@ -240,19 +264,25 @@ stored_law s image is = record {
 }
 
 -- no step changes the setup, which has the kinds
-pub kinds_law : (a : Costs) (s t : CacheState) (v w : SeatView) → IsStateOf s v → IsStateOf t w → Passes a v.view w.view → (heap_view t).kinds ≡ (heap_view s).kinds
-kinds_law a s t v w of_s of_t passes = ap opened_kinds (ap (λ (u : View). u.setup) (sym of_t.view) ∙ passes.setup ∙ ap (λ (u : View). u.setup) of_s.view)
+pub kinds_law : (a : Costs) (s t : CacheState) (v w : SeatView) → IsStateOf s v → IsStateOf t w → Passes a v.view w.view
+    → (heap_view t).kinds ≡ (heap_view s).kinds
+kinds_law a s t v w of_s of_t passes = ap opened_kinds (ap (λ (u : View). u.setup) (sym of_t.view) ∙ passes.setup
+    ∙ ap (λ (u : View). u.setup) of_s.view)
 
 pub may_be_law : (s : CacheState) (choice : ℕ → Bool) → ∥ ((image : Image) × MayBeLeft s.view image × HasPicked (heap_view s) choice image) ∥₁
-may_be_law s choice = ∥∥₁_elim s.sound (λ a b. squash₁ a b) (λ (has : HasSoundState s.view). let p = picked_image s.view has choice in ∣ (p.0, mixed p.1, record { each = λ word value own e. by_choice word value own p.0 p.2 (choice word) refl e }) ∣₁) where
-  by_choice : (word value : ℕ) → IsOwnWord (held_blocks s.view) s.view.roots word → (pic : Image) → HasPickedRecords s.view choice pic → (test : Bool) → choice word ≡ test
-      → cond (choice word) (seen_at s.view word) (left_at s.view word) ≡ Some value → pic word ≡ value
-  by_choice word value own pic records true is e = let has = owns_held s.view word (own_held s word own) in
-      records.each word has value (ap (λ t. known (cond t s.view.volatile s.view.durable) (cell_at s.view.setup.capacity word)) is ∙ at_cell s.view word has s.view.volatile
-      ∙ sym (ap (λ t. cond t (seen_at s.view word) (left_at s.view word)) is) ∙ e)
-  by_choice word value own pic records false is e = let has = owns_held s.view word (own_held s word own) in
-      records.each word has value (ap (λ t. known (cond t s.view.volatile s.view.durable) (cell_at s.view.setup.capacity word)) is ∙ at_cell s.view word has s.view.durable
-      ∙ sym (ap (λ t. cond t (seen_at s.view word) (left_at s.view word)) is) ∙ e)
+may_be_law s choice = ∥∥₁_elim s.sound (λ a b. squash₁ a b) (λ (has : HasSoundState s.view). let p = picked_image s.view has choice in
+    ∣ (p.0, mixed p.1, record { each = λ word value own e. by_choice word value own p.0 p.2 (choice word) refl e }) ∣₁) where
+      by_choice : (word value : ℕ) → IsOwnWord (held_blocks s.view) s.view.roots word → (pic : Image) → HasPickedRecords s.view choice pic
+          → (test : Bool) → choice word ≡ test
+          → cond (choice word) (seen_at s.view word) (left_at s.view word) ≡ Some value → pic word ≡ value
+      by_choice word value own pic records true is e = let has = owns_held s.view word (own_held s word own) in
+          records.each word has value (ap (λ t. known (cond t s.view.volatile s.view.durable) (cell_at s.view.setup.capacity word)) is
+          ∙ at_cell s.view word has s.view.volatile
+          ∙ sym (ap (λ t. cond t (seen_at s.view word) (left_at s.view word)) is) ∙ e)
+      by_choice word value own pic records false is e = let has = owns_held s.view word (own_held s word own) in
+          records.each word has value (ap (λ t. known (cond t s.view.volatile s.view.durable) (cell_at s.view.setup.capacity word)) is
+          ∙ at_cell s.view word has s.view.durable
+          ∙ sym (ap (λ t. cond t (seen_at s.view word) (left_at s.view word)) is) ∙ e)
 
 -- what is known of a word, for the core and for the heap
 to_mine : (o : Option ℕ) (value : ℕ) → MayBe o value → MayBeOf o value
@@ -263,22 +293,26 @@ from_mine : (o : Option ℕ) (value : ℕ) → MayBeOf o value → MayBe o value
 from_mine None value may = tt
 from_mine (Some x) value may = may
 
-pub read_to : (v : View) (word value : ℕ) → MayBe (seen_at v word) value ⊎ MayBe (left_at v word) value → MayBeOf (seen_at v word) value ⊎ MayBeOf (left_at v word) value
+pub read_to : (v : View) (word value : ℕ) → MayBe (seen_at v word) value ⊎ MayBe (left_at v word) value
+    → MayBeOf (seen_at v word) value ⊎ MayBeOf (left_at v word) value
 read_to v word value (inl seen) = inl (to_mine (seen_at v word) value seen)
 read_to v word value (inr left) = inr (to_mine (left_at v word) value left)
 
-pub read_from : (v : View) (word value : ℕ) → MayBeOf (seen_at v word) value ⊎ MayBeOf (left_at v word) value → MayBe (seen_at v word) value ⊎ MayBe (left_at v word) value
+pub read_from : (v : View) (word value : ℕ) → MayBeOf (seen_at v word) value ⊎ MayBeOf (left_at v word) value
+    → MayBe (seen_at v word) value ⊎ MayBe (left_at v word) value
 read_from v word value (inl seen) = inl (from_mine (seen_at v word) value seen)
 read_from v word value (inr left) = inr (from_mine (left_at v word) value left)
 
 -- a word that is not stored to
-pub word_law : (v x : View) (marks marks' : List Bool) (n n' : CallCounts) (word : ℕ) → KeepsRowWord v x word → KeepsWord (heap_view_of v marks n) (heap_view_of x marks' n') word
+pub word_law : (v x : View) (marks marks' : List Bool) (n n' : CallCounts) (word : ℕ) → KeepsRowWord v x word
+    → KeepsWord (heap_view_of v marks n) (heap_view_of x marks' n') word
 word_law v x marks marks' n n' word p = record {
   volatile = p.volatile;
   durable = λ value may. read_from v word value (p.durable value (to_mine (left_at x word) value may));
 }
 
-pub kept_at : {a : Costs} (s : CacheState) (x : View) (w : HeapView) → w.held ≡ held_blocks x → w.roots ≡ x.roots → w.volatile ≡ seen_at x → w.durable ≡ left_at x → ViewRow a s.view x → KeepsOwn (heap_view s) w
+pub kept_at : {a : Costs} (s : CacheState) (x : View) (w : HeapView) → w.held ≡ held_blocks x → w.roots ≡ x.roots → w.volatile ≡ seen_at x
+    → w.durable ≡ left_at x → ViewRow a s.view x → KeepsOwn (heap_view s) w
 kept_at s x w held_are roots_are volatile_is durable_is row = record {
   held = held_are ∙ ap (λ l. small_blocks 0 l ++ large_blocks x.setup.capacity x.large) row.small
       ∙ ap (λ l. small_blocks 0 s.view.small ++ large_blocks x.setup.capacity l) row.large
@@ -286,7 +320,8 @@ kept_at s x w held_are roots_are volatile_is durable_is row = record {
   roots = roots_are ∙ row.passes.roots;
   words = λ word own. let p = row.words word (own_held s word own) in record {
     volatile = λ value is. ap (λ (f : ℕ → Option ℕ). f word) volatile_is ∙ p.volatile value is;
-    durable = λ value may. read_from s.view word value (p.durable value (to_mine (left_at x word) value (subst (λ (f : ℕ → Option ℕ). MayBe (f word) value) durable_is may)));
+    durable = λ value may. read_from s.view word value (p.durable value
+        (to_mine (left_at x word) value (subst (λ (f : ℕ → Option ℕ). MayBe (f word) value) durable_is may)));
   };
 }
 
@@ -294,16 +329,25 @@ pub row_from : {a : Costs} (u v w : View) → u ≡ v → ViewRow a u w → View
 row_from {a} u v w same = subst (λ x. ViewRow a x w) same
 
 -- pending write-backs
-pub pending_at : {a : Costs} (s : CacheState) (v x : SeatView) (w : HeapView) → IsStateOf s v → w.volatile ≡ seen_at x.view → w.durable ≡ left_at x.view → w.pending ≡ marked_words x.marks → Row a v x
+pub pending_at : {a : Costs} (s : CacheState) (v x : SeatView) (w : HeapView) → IsStateOf s v → w.volatile ≡ seen_at x.view
+    → w.durable ≡ left_at x.view → w.pending ≡ marked_words x.marks → Row a v x
     → (word : ℕ) → IsOwnWord (held_blocks s.view) s.view.roots word → KeepsPending (heap_view s) w word
 pending_at s v x w of_s volatile_is durable_is pending_is row word own pending =
-    elim (row.marks word (subst (λ (u : View). IsHeldWord u word) (sym of_s.view) (own_held s word own)) (ap (λ marks. mark_at marks word) of_s.marks ∙ marked_words-only s.marks word pending)) [
+    elim (row.marks word (subst (λ (u : View). IsHeldWord u word) (sym of_s.view) (own_held s word own))
+    (ap (λ marks. mark_at marks word) of_s.marks ∙ marked_words-only s.marks word pending)) [
       | inl marked ↦ inl (subst (λ words. Contains words word) (sym pending_is) (marked_words-has x.marks word marked))
-      | inr durable ↦ inr (record { value = durable.value; seen = ap (λ (f : ℕ → Option ℕ). f word) volatile_is ∙ durable.seen; left = ap (λ (f : ℕ → Option ℕ). f word) durable_is ∙ durable.left })
+      | inr durable ↦ inr (record {
+        value = durable.value;
+        seen = ap (λ (f : ℕ → Option ℕ). f word) volatile_is ∙ durable.seen;
+        left = ap (λ (f : ℕ → Option ℕ). f word) durable_is ∙ durable.left;
+      })
     ]
 
-pub pending_law : (a : Costs) (s t : CacheState) (v w : SeatView) → IsStateOf s v → IsStateOf t w → Row a v w → (word : ℕ) → IsOwnWord (held_blocks s.view) s.view.roots word → KeepsPending (heap_view s) (heap_view t) word
-pending_law a s t v w of_s of_t row = pending_at s v w (heap_view t) of_s (ap seen_at (sym of_t.view)) (ap left_at (sym of_t.view)) (ap marked_words (sym of_t.marks)) row
+pub pending_law : (a : Costs) (s t : CacheState) (v w : SeatView) → IsStateOf s v → IsStateOf t w → Row a v w → (word : ℕ)
+    → IsOwnWord (held_blocks s.view) s.view.roots word → KeepsPending (heap_view s) (heap_view t) word
+pending_law a s t v w of_s of_t row = pending_at s v w (heap_view t) of_s (ap seen_at (sym of_t.view)) (ap left_at (sym of_t.view))
+    (ap marked_words (sym of_t.marks)) row
 
 pub row_law : (a : Costs) (s t : CacheState) (v w : SeatView) → IsStateOf s v → IsStateOf t w → Row a v w → KeepsOwn (heap_view s) (heap_view t)
-row_law a s t v w of_s of_t row = kept_at s t.view (heap_view t) refl refl refl refl (subst (λ (u : View). ViewRow a s.view u) of_t.view (row_from v.view s.view w.view of_s.view row.view))
+row_law a s t v w of_s of_t row = kept_at s t.view (heap_view t) refl refl refl refl
+    (subst (λ (u : View). ViewRow a s.view u) of_t.view (row_from v.view s.view w.view of_s.view row.view))

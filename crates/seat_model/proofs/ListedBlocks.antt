@@ -24,31 +24,49 @@ words_in words (y ∷ bs) x some = elim (cases_eq y x) as (λ _. Contains (block
       (words_in words bs x (let none = ne-eqb-none y x other in omega arith))
 ]
 
-pub small_in : (class : ℕ) (lists : List (List ℕ)) (n x : ℕ) → 0 < times x (get_or lists n []) → Contains (small_blocks class lists) (record { first_word = x; words = words_of_class (class + n) })
+pub small_in : (class : ℕ) (lists : List (List ℕ)) (n x : ℕ) → 0 < times x (get_or lists n [])
+    → Contains (small_blocks class lists) (record { first_word = x; words = words_of_class (class + n) })
 small_in class [] n x some = absurd (omega arith)
-small_in class (bs ∷ lists) zero x some = Contains-append_left (blocks_of_words (words_of_class class) bs) (small_blocks (class + 1) lists) (record { first_word = x; words = words_of_class (class + 0) })
-    (subst (λ c. Contains (blocks_of_words (words_of_class class) bs) (record { first_word = x; words = words_of_class c })) (let e : class ≡ class + 0 = omega arith in e) (words_in (words_of_class class) bs x some))
-small_in class (bs ∷ lists) (suc n) x some = Contains-append_right (blocks_of_words (words_of_class class) bs) (small_blocks (class + 1) lists) (record { first_word = x; words = words_of_class (class + suc n) })
-    (subst (λ c. Contains (small_blocks (class + 1) lists) (record { first_word = x; words = words_of_class c })) (let e : class + 1 + n ≡ class + suc n = omega arith in e) (small_in (class + 1) lists n x some))
+small_in class (bs ∷ lists) zero x some = Contains-append_left (blocks_of_words (words_of_class class) bs) (small_blocks (class + 1) lists)
+    (record { first_word = x; words = words_of_class (class + 0) })
+    (subst (λ c. Contains (blocks_of_words (words_of_class class) bs) (record { first_word = x; words = words_of_class c }))
+    (let e : class ≡ class + 0 = omega arith in e) (words_in (words_of_class class) bs x some))
+small_in class (bs ∷ lists) (suc n) x some = Contains-append_right (blocks_of_words (words_of_class class) bs) (small_blocks (class + 1) lists)
+    (record { first_word = x; words = words_of_class (class + suc n) })
+    (subst (λ c. Contains (small_blocks (class + 1) lists) (record { first_word = x; words = words_of_class c }))
+    (let e : class + 1 + n ≡ class + suc n = omega arith in e) (small_in (class + 1) lists n x some))
 
-large_in : (capacity : ℕ) (spans : List Span) (d : ℕ) → 0 < span_count d spans → Contains (large_blocks capacity spans) (record { first_word = start_word capacity d; words = superblock_words * span_count d spans })
+large_in : (capacity : ℕ) (spans : List Span) (d : ℕ) → 0 < span_count d spans
+    → Contains (large_blocks capacity spans) (record { first_word = start_word capacity d; words = superblock_words * span_count d spans })
 large_in capacity [] d some = absurd (omega arith)
-large_in capacity (span ∷ spans) d some = elim (cases_eq span.first d) as (λ _. Contains (large_blocks capacity (span ∷ spans)) (record { first_word = start_word capacity d; words = superblock_words * span_count d (span ∷ spans) })) [
-  | inl same ↦ (
-    0,
-    omega arith,
-    ap (λ e. record { first_word = start_word capacity e; words = superblock_words * span.count }) same
-        ∙ ap (λ n. record { first_word = start_word capacity d; words = superblock_words * n }) (sym (ap (λ t. cond t span.count (span_count d spans)) (eq-eqb span.first d same))),
-  )
-  | inr other ↦
-      let skip : span_count d (span ∷ spans) ≡ span_count d spans = ap (λ t. cond t span.count (span_count d spans)) (ne_eqb span.first d other) in
-      there_later (record { first_word = start_word capacity span.first; words = superblock_words * span.count }) (record { first_word = start_word capacity d; words = superblock_words * span_count d (span ∷ spans) }) (large_blocks capacity spans)
-      (subst (λ n. Contains (large_blocks capacity spans) (record { first_word = start_word capacity d; words = superblock_words * n })) (sym skip)
-      (large_in capacity spans d (omega arith)))
-]
+large_in capacity (span ∷ spans) d some = elim (cases_eq span.first d) as
+    (λ _. Contains (large_blocks capacity (span ∷ spans)) (record {
+      first_word = start_word capacity d;
+      words = superblock_words * span_count d (span ∷ spans);
+    })) [
+      | inl same ↦ (
+        0,
+        omega arith,
+        ap (λ e. record { first_word = start_word capacity e; words = superblock_words * span.count }) same
+            ∙ ap (λ n. record { first_word = start_word capacity d; words = superblock_words * n })
+            (sym (ap (λ t. cond t span.count (span_count d spans)) (eq-eqb span.first d same))),
+      )
+      | inr other ↦
+          let skip : span_count d (span ∷ spans) ≡ span_count d spans = ap (λ t. cond t span.count (span_count d spans)) (ne_eqb span.first d other) in
+          there_later (record { first_word = start_word capacity span.first; words = superblock_words * span.count })
+          (record { first_word = start_word capacity d; words = superblock_words * span_count d (span ∷ spans) }) (large_blocks capacity spans)
+          (subst (λ n. Contains (large_blocks capacity spans) (record { first_word = start_word capacity d; words = superblock_words * n })) (sym skip)
+          (large_in capacity spans d (omega arith)))
+    ]
 
 pub listed : (v : View) (b : Block) → IsHeld v b → Contains (held_blocks v) b
-listed v b (a_small class x there) = Contains-append_left (small_blocks 0 v.small) (large_blocks v.setup.capacity v.large) (record { first_word = x; words = words_of_class class })
-    (subst (λ c. Contains (small_blocks 0 v.small) (record { first_word = x; words = words_of_class c })) (let e : 0 + class ≡ class = omega arith in e) (small_in 0 v.small class x there))
-listed v b (a_large d n some count) = Contains-append_right (small_blocks 0 v.small) (large_blocks v.setup.capacity v.large) (record { first_word = start_word v.setup.capacity d; words = superblock_words * n })
-    (subst (λ m. Contains (large_blocks v.setup.capacity v.large) (record { first_word = start_word v.setup.capacity d; words = superblock_words * m })) count (large_in v.setup.capacity v.large d (omega arith)))
+listed v b (a_small class x there) = Contains-append_left (small_blocks 0 v.small) (large_blocks v.setup.capacity v.large)
+    (record { first_word = x; words = words_of_class class })
+    (subst (λ c. Contains (small_blocks 0 v.small) (record { first_word = x; words = words_of_class c }))
+    (let e : 0 + class ≡ class = omega arith in e) (small_in 0 v.small class x there))
+listed v b (a_large d n some count) = Contains-append_right (small_blocks 0 v.small) (large_blocks v.setup.capacity v.large)
+    (record { first_word = start_word v.setup.capacity d; words = superblock_words * n })
+    (subst (λ m. Contains (large_blocks v.setup.capacity v.large) (record {
+      first_word = start_word v.setup.capacity d;
+      words = superblock_words * m;
+    })) count (large_in v.setup.capacity v.large d (omega arith)))

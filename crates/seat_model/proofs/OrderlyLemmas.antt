@@ -39,10 +39,12 @@ use Rattle.seat_model.proofs.WordLemmas.{anchor_is, capacity_is, data_is, head_i
 pub all_differ : (xs : List ℕ) → ((x : ℕ) → times x xs ≤ 1) → AllPairs (λ x y. x ≢ y) xs
 all_differ [] once = λ i j d less within. absurd (omega (arith, within))
 all_differ (x ∷ xs) once = AllPairs-cons (λ a b. a ≢ b) x xs
-    (λ i d within same. let there = times_of x xs (i, within, get_or_default xs i x d within ∙ sym same) in let one = eq-eqb-one x x refl in let most = once x in omega arith)
+    (λ i d within same. let there = times_of x xs (i, within, get_or_default xs i x d within ∙ sym same) in let one = eq-eqb-one x x refl in
+    let most = once x in omega arith)
     (all_differ xs (λ y. let most = once y in omega arith))
 
-module _ (k : Setup) (words : List ℕ) (views : List View) (sound : Sound k words views) (nothing : Each views KeepsNothing) (image : Image) (closed : IsClosedImage (volatile_image k.capacity words) image) where
+module _ (k : Setup) (words : List ℕ) (views : List View) (sound : Sound k words views) (nothing : Each views KeepsNothing) (image : Image)
+    (closed : IsClosedImage (volatile_image k.capacity words) image) where
   abbrev m : Memory
   m = memory_of k.capacity words
 
@@ -70,10 +72,12 @@ module _ (k : Setup) (words : List ℕ) (views : List View) (sound : Sound k wor
 
   pub free_listed : IsListOf image 0 free_list
   free_listed =
-      subst (λ n. Follows (λ d. image (link_word d)) (capacity_of image) n free_list) (ap head_first (sym (head_is k words views sound image closed 0 (omega arith))))
+      subst (λ n. Follows (λ d. image (link_word d)) (capacity_of image) n free_list)
+      (ap head_first (sym (head_is k words views sound image closed 0 (omega arith))))
       (subst (λ c. Follows (λ d. image (link_word d)) c (head_first (head m 0)) free_list) (sym (capacity_is k words views sound image closed))
       (follows_same (link m) (λ d. image (link_word d)) k.capacity (head_first (head m 0)) free_list
-      (λ d there. link_is k words views sound image closed d (inside k words views sound nothing d (listed_below d there))) (good.shaped.lists.follows 0 (omega arith))))
+      (λ d there. link_is k words views sound image closed d (inside k words views sound nothing d (listed_below d there)))
+      (good.shaped.lists.follows 0 (omega arith))))
 
   -- the chain of a cut superblock
   pub anchored : (d : ℕ) → 0 < cut d → IsAnchoredBy (next m) k.capacity (info m d) d (anchor m d) (g.chains d)
@@ -111,7 +115,8 @@ module _ (k : Setup) (words : List ℕ) (views : List View) (sound : Sound k wor
           some = omega arith;
           not_all = let s = short in omega arith;
           linked = record {
-            walks = subst (λ n. Walks image n (g.chains d)) (ap (λ c. start_word c d + anchor_first (anchor m d) * words_of_class (info m d)) (sym cap) ∙ ap (λ w. start_word (capacity_of image) d + anchor_first w * words_of_class (info m d)) (sym anchor_at))
+            walks = subst (λ n. Walks image n (g.chains d)) (ap (λ c. start_word c d + anchor_first (anchor m d) * words_of_class (info m d))
+                (sym cap) ∙ ap (λ w. start_word (capacity_of image) d + anchor_first w * words_of_class (info m d)) (sym anchor_at))
                 (walks_alike (next m) image (start_word k.capacity d + anchor_first (anchor m d) * words_of_class (info m d)) (g.chains d)
                 (λ b there. block_there d (info m d) b class_is (home b there) (in_room d less)) a.walks);
             blocks = λ b there. let at = home b (times_of b (g.chains d) there) in (
@@ -136,7 +141,8 @@ module _ (k : Setup) (words : List ℕ) (views : List View) (sound : Sound k wor
 
   -- a superblock that is cut, or of a large block, is not in the free list
   pub not_free : (d : ℕ) → 0 < cut d + large d → Contains free_list d → ⊥
-  not_free d some there = let one = place k words views sound nothing d in let listed = times_of d free_list there in let most = one_at_most (nat_lt d (used m)) in omega arith
+  not_free d some there = let one = place k words views sound nothing d in let listed = times_of d free_list there in
+      let most = one_at_most (nat_lt d (used m)) in omega arith
 
   -- a held large block
   pub large_outside : (i : ℕ) (v : View) → i < length views → get_or views i v ≡ v → (d n : ℕ) → 0 < n → span_count d v.large ≡ n
@@ -173,11 +179,13 @@ module _ (k : Setup) (words : List ℕ) (views : List View) (sound : Sound k wor
       let u = used_is k words views sound image closed in
       let is = below_is d (used m) (omega arith) in
       elim (cases_lt 0 (cut d)) as (λ _. IsOrderlyOutside image free_list d) [
-        | inl some ↦ of_class (info m d) (good.shaped.chained.is_class d some) (info_is k words views sound image closed d (in_room d less)) (orderly_anchor d less some)
+        | inl some ↦ of_class (info m d) (good.shaped.chained.is_class d some) (info_is k words views sound image closed d (in_room d less))
+            (orderly_anchor d less some)
         | inr not_cut ↦ large_orderly d (in_large k words views sound nothing d (omega arith))
       ]
 
-  pub orderly : IsWellFormed (8 * length k.opened) (slice_index k.opened) → (limit : Option ℕ) → HasKindsBelow limit (slice_index k.opened) → IsOrderly limit (8 * image_words k.capacity) image
+  pub orderly : IsWellFormed (8 * length k.opened) (slice_index k.opened) → (limit : Option ℕ) → HasKindsBelow limit (slice_index k.opened)
+      → IsOrderly limit (8 * image_words k.capacity) image
   orderly formed limit kinds = record {
     header = good_header limit (8 * image_words k.capacity) image (closed_header k words views sound image closed formed limit kinds);
     closed = closed.state;
@@ -186,7 +194,8 @@ module _ (k : Setup) (words : List ℕ) (views : List View) (sound : Sound k wor
     free_are = λ d there.
         let below = listed_below d there in (
           (let u = used_is k words views sound image closed in omega arith),
-          ap anchor_state (anchor_is k words views sound image closed d (inside k words views sound nothing d below)) ∙ good.shaped.listed.free d (times_of d free_list there),
+          ap anchor_state (anchor_is k words views sound image closed d (inside k words views sound nothing d below))
+              ∙ good.shaped.listed.free d (times_of d free_list there),
         );
     others = orderly_outside;
     untaken = λ d past less.

@@ -11,14 +11,16 @@ use Rattle.core_model.specs.Sound.{Sound}
 use Rattle.core_model.specs.View.{Setup, View}
 use Rattle.core_model.proofs.PlaceLemmas.{and_is, pick}
 
-module _ (k : Setup) (words : List ℕ) (views : List View) (sound : Sound k words views) (image : Image) (closed : IsClosedImage (volatile_image k.capacity words) image) where
+module _ (k : Setup) (words : List ℕ) (views : List View) (sound : Sound k words views) (image : Image)
+    (closed : IsClosedImage (volatile_image k.capacity words) image) where
   abbrev pub m : Memory
   m = memory_of k.capacity words
 
   at_word : (word : ℕ) → word < image_words k.capacity → word ≢ state_word → image word ≡ get_or words word 0
   at_word word inside other = closed.others word other ∙ pick (nat_lt word (image_words k.capacity)) _ _ (lt-ltb word (image_words k.capacity) inside)
 
-  at_cell : (cell : Cell) → is_cell k.capacity cell ≡ true → index_of cell < image_words k.capacity → index_of cell ≢ state_word → image (index_of cell) ≡ m.volatile cell
+  at_cell : (cell : Cell) → is_cell k.capacity cell ≡ true → index_of cell < image_words k.capacity → index_of cell ≢ state_word
+      → image (index_of cell) ≡ m.volatile cell
   at_cell cell is inside other = at_word (index_of cell) inside other ∙ sym (pick (is_cell k.capacity cell) _ _ is)
 
   pub capacity_is : capacity_of image ≡ k.capacity
@@ -41,5 +43,6 @@ module _ (k : Setup) (words : List ℕ) (views : List View) (sound : Sound k wor
 
   pub data_is : (word : ℕ) → start_word k.capacity 0 ≤ word → word < superblocks_end k.capacity → image word ≡ next m word
   data_is word low high = at_cell (data_cell word)
-      (and_is (nat_le (start_word k.capacity 0) word) (nat_lt word (superblocks_end k.capacity)) (le-leb (start_word k.capacity 0) word low) (lt-ltb word (superblocks_end k.capacity) high))
+      (and_is (nat_le (start_word k.capacity 0) word) (nat_lt word (superblocks_end k.capacity)) (le-leb (start_word k.capacity 0) word low)
+      (lt-ltb word (superblocks_end k.capacity) high))
       (omega arith) (λ e. omega (arith, e))

@@ -55,7 +55,10 @@ small_blocks class (bs ∷ lists) = blocks_of_words (words_of_class class) bs ++
 
 abbrev pub large_blocks : ℕ → List Span → List Block
 large_blocks capacity [] = []
-large_blocks capacity (span ∷ spans) = record { first_word = start_word capacity span.first; words = superblock_words * span.count } ∷ large_blocks capacity spans
+large_blocks capacity (span ∷ spans) = record {
+  first_word = start_word capacity span.first;
+  words = superblock_words * span.count;
+} ∷ large_blocks capacity spans
 
 abbrev pub held_blocks : View → List Block
 held_blocks v = small_blocks 0 v.small ++ large_blocks v.setup.capacity v.large
@@ -98,7 +101,13 @@ heap_view_of v marks counts = record {
 }
 
 abbrev pub counts_of : CacheState → CallCounts
-counts_of s = record { small_calls = s.small_calls; large_calls = s.large_calls; refusals = s.refusals; refused_bytes = s.refused_bytes; refused_looks = s.refused_looks }
+counts_of s = record {
+  small_calls = s.small_calls;
+  large_calls = s.large_calls;
+  refusals = s.refusals;
+  refused_bytes = s.refused_bytes;
+  refused_looks = s.refused_looks;
+}
 
 abbrev pub heap_view : CacheState → HeapView
 heap_view s = heap_view_of s.view s.marks (counts_of s)

@@ -35,7 +35,8 @@ use Rattle.run_model.specs.Workers.{root_owner}
 use Rattle.seat_owners.specs.Owning.{AreOwnersByRoot}
 use Rattle.seat_owners.proofs.OwnerLemmas.{reached_by_one}
 
-module _ (words : List ℕ) (held : List Block) (workers budget : ℕ) (block_owners root_owners : List ℕ) (by_root : AreOwnersByRoot (slice_index words) held workers block_owners root_owners) (i : ℕ) where
+module _ (words : List ℕ) (held : List Block) (workers budget : ℕ) (block_owners root_owners : List ℕ)
+    (by_root : AreOwnersByRoot (slice_index words) held workers block_owners root_owners) (i : ℕ) where
   abbrev k : Setup
   k = setup_of words budget workers
 
@@ -47,7 +48,8 @@ module _ (words : List ℕ) (held : List Block) (workers budget : ℕ) (block_ow
 
   -- the seat has exactly the roots that belong to the worker
   owner_at : (root : ℕ) → root < roots → get_or root_owners root (i + 1) ≡ root_owner workers root
-  owner_at root below = ap (λ os. get_or os root (i + 1)) by_root.roots_are ∙ get_or-words_from (root_owner workers) 0 roots root (i + 1) below ∙ ap (root_owner workers) (let e : 0 + root ≡ root = omega arith in e)
+  owner_at root below = ap (λ os. get_or os root (i + 1)) by_root.roots_are ∙ get_or-words_from (root_owner workers) 0 roots root (i + 1) below
+      ∙ ap (root_owner workers) (let e : 0 + root ≡ root = omega arith in e)
 
   pub root_of : (root : ℕ) → Contains v.roots root → root_owner workers root ≡ i
   root_of root there = let owns = (owns_root i roots root_owners root).0 (times_of root v.roots there) in sym (owner_at root owns.0) ∙ owns.1
@@ -63,30 +65,45 @@ module _ (words : List ℕ) (held : List Block) (workers budget : ℕ) (block_ow
       views = tabulate (opened_view k held block_owners root_owners) 0 workers;
       seat = i;
       sound = opened words held budget workers block_owners root_owners ready by_root.fits;
-      counted = opened_counted (record { words = words; held = held; block_owners = block_owners; root_owners = root_owners; seats = workers; budget = budget });
+      counted = opened_counted (record {
+        words = words;
+        held = held;
+        block_owners = block_owners;
+        root_owners = root_owners;
+        seats = workers;
+        budget = budget;
+      });
       is_seat = refl;
       below = (let l = length_tabulate (opened_view k held block_owners root_owners) 0 workers in omega arith);
-      at = tabulate_at (opened_view k held block_owners root_owners) 0 workers i v below ∙ ap (opened_view k held block_owners root_owners) (let e : 0 + i ≡ i = omega arith in e);
+      at = tabulate_at (opened_view k held block_owners root_owners) 0 workers i v below
+          ∙ ap (opened_view k held block_owners root_owners) (let e : 0 + i ≡ i = omega arith in e);
     }
 
     -- the owner of a held block that a root reaches
-    owner_by : (at root kind : ℕ) (b : Block) → at < length held → get_or held at b ≡ b → root < roots → ReachFrom image (λ r. r ≡ root) (kinds_of image) dict_links b kind
+    owner_by : (at root kind : ℕ) (b : Block) → at < length held → get_or held at b ≡ b → root < roots
+        → ReachFrom image (λ r. r ≡ root) (kinds_of image) dict_links b kind
         → get_or block_owners at (i + 1) ≡ root_owner workers root
     owner_by at root kind b inside is small reach =
-        get_or_default block_owners at (i + 1) workers (let l = by_root.fits.blocks in omega arith) ∙ by_root.blocks at root kind b inside is small reach
+        get_or_default block_owners at (i + 1) workers (let l = by_root.fits.blocks in omega arith)
+        ∙ by_root.blocks at root kind b inside is small reach
 
     reached_of : (b : Block) → IsOwnerOf held block_owners i b → IsReachedFrom image (Contains v.roots) b
     reached_of b o =
         let reached = (has.exact b).0 (o.at, o.inside, o.is) in
         let one = reached_by_one image (kinds_of image) dict_links b reached.kind reached.reach in
         let mine : root_owner workers one.root ≡ i = sym (owner_by o.at one.root reached.kind b o.inside o.is one.below one.reach) ∙ o.owner in
-        let owned : (r : ℕ) → r ≡ one.root → Contains v.roots r = λ r is. has_root r (subst (λ n. n < roots) (sym is) one.below) (ap (root_owner workers) is ∙ mine) in
+        let owned : (r : ℕ) → r ≡ one.root → Contains v.roots r = λ r is. has_root r (subst (λ n. n < roots) (sym is) one.below)
+        (ap (root_owner workers) is ∙ mine) in
         record { kind = reached.kind; reach = more_roots {chosen' = Contains v.roots} image (kinds_of image) dict_links owned b reached.kind one.reach }
 
     owner_of : (b : Block) → IsReachedFrom image (Contains v.roots) b → IsOwnerOf held block_owners i b
     owner_of b reached =
         let one = reached_by_one image (kinds_of image) dict_links b reached.kind reached.reach in
-        let there = (has.exact b).1 (record { kind = reached.kind; reach = more_roots {chosen' = AnyRoot} image (kinds_of image) dict_links (λ r is. tt) b reached.kind one.reach }) in
+        let there = (has.exact b).1 (record {
+          kind = reached.kind;
+          reach =
+              more_roots {chosen' = AnyRoot} image (kinds_of image) dict_links (λ r is. tt) b reached.kind one.reach;
+        }) in
         record {
           at = there.0;
           inside = there.1;
@@ -101,10 +118,12 @@ module _ (words : List ℕ) (held : List Block) (workers budget : ℕ) (block_ow
         (λ there. reached_of b (exactly.0 (held_is v has_state b there)), λ reached. listed v b (exactly.1 (owner_of b reached)))
 
     -- an own word is durable as it stands in the image
-    word_known : (values : List ℕ) (word : ℕ) → word < length values → get_or (map (λ (value : ℕ). Some value) values) word None ≡ Some (slice_index values word)
+    word_known : (values : List ℕ) (word : ℕ) → word < length values
+        → get_or (map (λ (value : ℕ). Some value) values) word None ≡ Some (slice_index values word)
     word_known values word inside = get_or-map (λ (value : ℕ). Some value) values word 0 None inside
 
-    word_durable : (marks : List Bool) (counts : CallCounts) (word : ℕ) → IsOwn (held_blocks v) v.roots word → IsDurableAt (heap_view_of v marks counts) word (image word)
+    word_durable : (marks : List Bool) (counts : CallCounts) (word : ℕ) → IsOwn (held_blocks v) v.roots word
+        → IsDurableAt (heap_view_of v marks counts) word (image word)
     word_durable marks counts word own =
         let p = plain_view k (picked i held block_owners) (picked i (steps 0 1 roots) root_owners) in
         let owns = owns_held v word (word_held v has_state word own) in
@@ -119,7 +138,8 @@ module _ (words : List ℕ) (held : List Block) (workers budget : ℕ) (block_ow
     over_image : (marks : List Bool) (counts : CallCounts) → IsOpenedOver image (heap_view_of v marks counts)
     over_image marks counts = record {
       kinds = record {
-        each = λ root small. sym (get_or-words_from image (kind_word k.capacity 0) roots root 0 small ∙ ap image (let e : kind_word k.capacity 0 + root ≡ kind_word k.capacity root = omega arith in e));
+        each = λ root small. sym (get_or-words_from image (kind_word k.capacity 0) roots root 0 small
+            ∙ ap image (let e : kind_word k.capacity 0 + root ≡ kind_word k.capacity root = omega arith in e));
       };
       nothing_outside = has.nothing_outside;
       maps = has.maps;

@@ -25,7 +25,8 @@ pub record IsReachedByOne (image : Image) (chosen : ℕ → Type 0) (kinds : ℕ
   pub reach : ReachFrom image (λ r. r ≡ root) kinds links b kind
 
 -- what some roots reach, one of them does
-pub reached_by_one : {chosen : ℕ → Type 0} (image : Image) (kinds : ℕ → ℕ) (links : Links) (b : Block) (kind : ℕ) → ReachFrom image chosen kinds links b kind
+pub reached_by_one : {chosen : ℕ → Type 0} (image : Image) (kinds : ℕ → ℕ) (links : Links) (b : Block) (kind : ℕ)
+    → ReachFrom image chosen kinds links b kind
     → IsReachedByOne image chosen kinds links b kind
 reached_by_one {chosen} image kinds links = closure_least (IsReachedByOne image chosen kinds links)
     (λ b kind start. record {
@@ -34,7 +35,12 @@ reached_by_one {chosen} image kinds links = closure_least (IsReachedByOne image 
       is_chosen = start.is_chosen;
       reach = by_start b kind (record { root = start.root; below = start.below; is_chosen = refl; kind_is = start.kind_is; leads = start.leads });
     })
-    (λ a b from kind reached one link. record { root = one.root; below = one.below; is_chosen = one.is_chosen; reach = by_link a b from kind one.reach link })
+    (λ a b from kind reached one link. record {
+      root = one.root;
+      below = one.below;
+      is_chosen = one.is_chosen;
+      reach = by_link a b from kind one.reach link;
+    })
 
 -- a shard's root has the worker of the shard, and any other root the first one
 pub shard_owner : (workers root : ℕ) → root < shards → root_owner workers root ≡ root % workers
@@ -58,7 +64,8 @@ owners_none workers owners is = record {
   others = λ root least less. ap (λ os. get_or os root 0) is ∙ get_or-replicate roots root 0 0 less;
 }
 
-pub owners_next : (workers shard : ℕ) (owners : List ℕ) → shard < shards → HasOwnersBelow workers shard owners → HasOwnersBelow workers (shard + 1) (set owners shard (shard % workers))
+pub owners_next : (workers shard : ℕ) (owners : List ℕ) → shard < shards → HasOwnersBelow workers shard owners
+    → HasOwnersBelow workers (shard + 1) (set owners shard (shard % workers))
 owners_next workers shard owners small has = record {
   long = length-set owners shard (shard % workers) ∙ has.long;
   few = omega arith;
@@ -70,8 +77,10 @@ owners_next workers shard owners small has = record {
 }
 
 pub owners_all : (workers : ℕ) (owners : List ℕ) → HasOwnersBelow workers shards owners → owners ≡ words_from (root_owner workers) 0 roots
-owners_all workers owners has = same_number_lists owners (words_from (root_owner workers) 0 roots) (has.long ∙ sym (length-words_from (root_owner workers) 0 roots))
-    (λ root less. at root (let l = has.long in omega arith) ∙ sym (get_or-words_from (root_owner workers) 0 roots root 0 (let l = has.long in omega arith) ∙ ap (root_owner workers) (let e : 0 + root ≡ root = omega arith in e))) where
+owners_all workers owners has = same_number_lists owners (words_from (root_owner workers) 0 roots) (has.long
+    ∙ sym (length-words_from (root_owner workers) 0 roots))
+    (λ root less. at root (let l = has.long in omega arith) ∙ sym (get_or-words_from (root_owner workers) 0 roots root 0 (let l = has.long in
+    omega arith) ∙ ap (root_owner workers) (let e : 0 + root ≡ root = omega arith in e))) where
       at : (root : ℕ) → root < roots → get_or owners root 0 ≡ root_owner workers root
       at root inside = elim (cases_lt root shards) as (λ _. get_or owners root 0 ≡ root_owner workers root) [
         | inl small ↦ has.shard root small ∙ sym (shard_owner workers root small)
@@ -107,20 +116,23 @@ module _ (image : Image) (workers : ℕ) (b : Block) where
 
 module _ (image : Image) (workers : ℕ) (blocks : List Block) where
   -- one block more has its owner
-  pub owned_next : (i owner : ℕ) (b : Block) (owners : List ℕ) → i < length blocks → get_or blocks i b ≡ b → IsOwnedBy image workers b owner → AreOwnedUpTo image workers blocks i owners
+  pub owned_next : (i owner : ℕ) (b : Block) (owners : List ℕ) → i < length blocks → get_or blocks i b ≡ b → IsOwnedBy image workers b owner
+      → AreOwnedUpTo image workers blocks i owners
       → AreOwnedUpTo image workers blocks (i + 1) (set owners i owner)
   owned_next i owner b owners inside is owned has = record {
     long = length-set owners i owner ∙ has.long;
     each = λ at a less at_is. elim (cases_eq at i) as (λ _. IsOwnedBy image workers a (get_or (set owners i owner) at workers)) [
       | inl same ↦
           let one : b ≡ a = sym is ∙ get_or_default blocks i b a inside ∙ subst (λ n. get_or blocks n a ≡ a) same at_is in
-          subst (IsOwnedBy image workers a) (sym (get_or-set_at owners i at owner workers same (let l = has.long in omega arith))) (subst (λ (x : Block). IsOwnedBy image workers x owner) one owned)
+          subst (IsOwnedBy image workers a) (sym (get_or-set_at owners i at owner workers same (let l = has.long in omega arith)))
+          (subst (λ (x : Block). IsOwnedBy image workers x owner) one owned)
       | inr other ↦ subst (IsOwnedBy image workers a) (sym (get_or-set_other owners i at owner workers other)) (has.each at a (omega arith) at_is)
     ];
   }
 
   -- where all have, and the roots have theirs, they are owners by root
-  pub owned_by_root : (block_owners root_owners : List ℕ) → 1 ≤ workers → AreOwnedUpTo image workers blocks (length blocks) block_owners → root_owners ≡ words_from (root_owner workers) 0 roots
+  pub owned_by_root : (block_owners root_owners : List ℕ) → 1 ≤ workers → AreOwnedUpTo image workers blocks (length blocks) block_owners
+      → root_owners ≡ words_from (root_owner workers) 0 roots
       → AreOwnersByRoot image blocks workers block_owners root_owners
   owned_by_root block_owners root_owners some owned are = record {
     fits = record {
@@ -136,11 +148,13 @@ module _ (image : Image) (workers : ℕ) (blocks : List Block) where
     block_seat owner at inside is =
         let b = get_or blocks at (record { first_word = 0; words = 0 }) in
         let within : at < length blocks = let l = owned.long in omega arith in
-        subst (λ n. n < workers) (get_or_default block_owners at workers owner inside ∙ is) (owned.each at b within (get_or_default blocks at b (record { first_word = 0; words = 0 }) within)).below
+        subst (λ n. n < workers) (get_or_default block_owners at workers owner inside ∙ is)
+        (owned.each at b within (get_or_default blocks at b (record { first_word = 0; words = 0 }) within)).below
 
     root_seat : (owner : ℕ) → Contains (words_from (root_owner workers) 0 roots) owner → owner < workers
     root_seat owner there = subst (λ n. n < workers)
-        (sym (get_or-words_from (root_owner workers) 0 roots there.0 owner (let l = length-words_from (root_owner workers) 0 roots in let t = there.1 in omega arith)) ∙ there.2) (below_workers (0 + there.0)) where
+        (sym (get_or-words_from (root_owner workers) 0 roots there.0 owner (let l = length-words_from (root_owner workers) 0 roots in
+        let t = there.1 in omega arith)) ∙ there.2) (below_workers (0 + there.0)) where
           below_workers : (root : ℕ) → root_owner workers root < workers
           below_workers root = elim (cases_lt root shards) as (λ _. root_owner workers root < workers) [
             | inl small ↦ subst (λ n. n < workers) (sym (shard_owner workers root small)) (omega arith)

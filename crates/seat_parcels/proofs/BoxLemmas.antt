@@ -11,7 +11,8 @@ use Rattle.seat_parcels.specs.Parcels.{IsParcelOf}
 use Rattle.seat_parcels.proofs.PutLemmas.{put_rightly, still_parts}
 use Rattle.seat_parcels.proofs.PutLemmas.{as_many as as_many_then}
 
-pub new_box : (table : TableId) (row queues : List QueueView) (passes : List (PassView Parcel)) (box : BoxView) → box.queues ≡ queues → box.passes ≡ passes
+pub new_box : (table : TableId) (row queues : List QueueView) (passes : List (PassView Parcel)) (box : BoxView) → box.queues ≡ queues
+    → box.passes ≡ passes
     → queues ≡ row → 1 ≤ box.workers → length queues ≡ box.workers → ArePassesOf queues passes → HaveParts 1 passes → ArePutRightly box.workers 0 passes
     → All (IsParcelOf table) box.kept → IsPostBox table row box
 new_box table row queues passes box same_queues same_passes are some each all parts rightly kept = record {
@@ -41,8 +42,10 @@ module _ (table : TableId) (row : List QueueView) (old : BoxView) (box : IsPostB
     to_it = omega (arith, is)
 
   -- or kept
-  pub with_kept : (queues : List QueueView) (passes : List (PassView Parcel)) (kept : List Parcel) (spare : ℕ) → queues ≡ old.queues → passes ≡ old.passes
-      → kept ≡ old.kept ++ x ∷ [] → IsParcelOf table x → IsPostBox table row (record old { queues = queues; passes = passes; kept = kept; spare = spare })
+  pub with_kept : (queues : List QueueView) (passes : List (PassView Parcel)) (kept : List Parcel) (spare : ℕ) → queues ≡ old.queues
+      → passes ≡ old.passes
+      → kept ≡ old.kept ++ x ∷ [] → IsParcelOf table x → IsPostBox table row
+      (record old { queues = queues; passes = passes; kept = kept; spare = spare })
   with_kept queues passes kept spare same same_passes more is = record {
     queues_are = same ∙ box.queues_are;
     some = box.some;

@@ -17,5 +17,6 @@ module _ {T : Type 0} where
   pub all_came : (fact : T → Type 0) (before after : Account T) (kept came sorted : List T) → before.taken ≡ [] → HasTaken fact before after kept came
       → IsDelivered after → IsPermutation came sorted → IsPermutation (before.put ++ kept) sorted
   all_came fact before after kept came sorted none taken all order = follow (IsPermutation-append_comm before.put kept)
-      (follow (upto (IsPermutation-append_right kept before.put taken.parcels (all_taken before after taken.parcels none taken.account all)) (sym taken.list))
+      (follow (upto (IsPermutation-append_right kept before.put taken.parcels (all_taken before after taken.parcels none taken.account all))
+      (sym taken.list))
       order)

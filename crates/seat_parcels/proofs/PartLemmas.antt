@@ -34,21 +34,24 @@ module _ (workers : ℕ) (x : Parcel) (xs : List Parcel) where
   behind at (suc count) below = ap (λ (l : List Parcel). l ++ parts workers (x ∷ xs) (at + 1) count) (another at (λ e. omega (arith, e, below)))
       ∙ ap (λ (l : List Parcel). parcels_for workers at xs ++ l) (behind (at + 1) count (omega (arith, below)))
 
-  in_one : (at count : ℕ) → at ≤ goes_to workers x → goes_to workers x < at + count → IsPermutation (x ∷ parts workers xs at count) (parts workers (x ∷ xs) at count)
+  in_one : (at count : ℕ) → at ≤ goes_to workers x → goes_to workers x < at + count
+      → IsPermutation (x ∷ parts workers xs at count) (parts workers (x ∷ xs) at count)
   in_one at zero low high = absurd (omega (arith, low, high))
-  in_one at (suc count) low high = elim (cases_eq (goes_to workers x) at) as (λ _. IsPermutation (x ∷ parts workers xs at (suc count)) (parts workers (x ∷ xs) at (suc count))) [
-    | inl same ↦ upto (IsPermutation-refl (x ∷ parts workers xs at (suc count)))
-        (sym (ap (λ (l : List Parcel). l ++ parts workers (x ∷ xs) (at + 1) count) (its_own at same)
-        ∙ ap (λ (l : List Parcel). x ∷ (parcels_for workers at xs ++ l)) (behind (at + 1) count (omega (arith, same)))))
-    | inr other ↦
-        let first = parcels_for workers at xs in
-        let rest = parts workers xs (at + 1) count in
-        upto (follow (IsPermutation-sym (first ++ x ∷ rest) (x ∷ (first ++ rest)) (IsPermutation-middle first x rest))
-        (IsPermutation-append_right first (x ∷ rest) (parts workers (x ∷ xs) (at + 1) count) (in_one (at + 1) count (above low other) (omega (arith, high)))))
-        (ap (λ (l : List Parcel). l ++ parts workers (x ∷ xs) (at + 1) count) (sym (another at other)))
-  ] where
-    above : at ≤ goes_to workers x → (goes_to workers x ≡ at → ⊥) → at + 1 ≤ goes_to workers x
-    above low other = omega (arith, low, other)
+  in_one at (suc count) low high = elim (cases_eq (goes_to workers x) at) as
+      (λ _. IsPermutation (x ∷ parts workers xs at (suc count)) (parts workers (x ∷ xs) at (suc count))) [
+        | inl same ↦ upto (IsPermutation-refl (x ∷ parts workers xs at (suc count)))
+            (sym (ap (λ (l : List Parcel). l ++ parts workers (x ∷ xs) (at + 1) count) (its_own at same)
+            ∙ ap (λ (l : List Parcel). x ∷ (parcels_for workers at xs ++ l)) (behind (at + 1) count (omega (arith, same)))))
+        | inr other ↦
+            let first = parcels_for workers at xs in
+            let rest = parts workers xs (at + 1) count in
+            upto (follow (IsPermutation-sym (first ++ x ∷ rest) (x ∷ (first ++ rest)) (IsPermutation-middle first x rest))
+            (IsPermutation-append_right first (x ∷ rest) (parts workers (x ∷ xs) (at + 1) count)
+            (in_one (at + 1) count (above low other) (omega (arith, high)))))
+            (ap (λ (l : List Parcel). l ++ parts workers (x ∷ xs) (at + 1) count) (sym (another at other)))
+      ] where
+        above : at ≤ goes_to workers x → (goes_to workers x ≡ at → ⊥) → at + 1 ≤ goes_to workers x
+        above low other = omega (arith, low, other)
 
 below_all : (workers : ℕ) (x : Parcel) → 1 ≤ workers → goes_to workers x < 0 + workers
 below_all workers x some = omega (arith, some)
@@ -60,7 +63,8 @@ all_parts workers (x ∷ xs) some = follow (IsPermutation-cons x xs (parts worke
     (in_one workers x xs 0 workers (omega arith) (below_all workers x some))
 
 -- the values of what is for a worker
-either_way : (b : Bool) (x : Parcel) (xs : List Parcel) (ss : List Sent) → all_sent_of xs ≡ ss → all_sent_of (cond b (x ∷ xs) xs) ≡ cond b (sent_of x ∷ ss) ss
+either_way : (b : Bool) (x : Parcel) (xs : List Parcel) (ss : List Sent) → all_sent_of xs ≡ ss
+    → all_sent_of (cond b (x ∷ xs) xs) ≡ cond b (sent_of x ∷ ss) ss
 either_way true x xs ss same = ap (λ (l : List Sent). sent_of x ∷ l) same
 either_way false x xs ss same = same
 

@@ -19,7 +19,8 @@ as_many x (suc n) (p ∷ ps) = ap suc (as_many x n ps)
 pub still_parts : {parts : ℕ} (x : Parcel) (n : ℕ) (ps : List (PassView Parcel)) → HaveParts parts ps → HaveParts parts (changed_at (having_put x) n ps)
 still_parts {parts} x n [] have = have
 still_parts {parts} x zero (p ∷ ps) have = let first = All-head (HasParts parts) p ps have in
-    All-cons (HasParts parts) (having_put x p) ps (record { parts_are = first.parts_are; none_taken = first.none_taken }) (All-tail (HasParts parts) p ps have)
+    All-cons (HasParts parts) (having_put x p) ps (record { parts_are = first.parts_are; none_taken = first.none_taken })
+    (All-tail (HasParts parts) p ps have)
 still_parts {parts} x (suc n) (p ∷ ps) have = All-cons (HasParts parts) p (changed_at (having_put x) n ps) (All-head (HasParts parts) p ps have)
     (still_parts x n ps (All-tail (HasParts parts) p ps have))
 
@@ -54,6 +55,7 @@ has_put x n ps kept inside = IsPermutation-append_left kept (x ∷ all_put ps) (
 
 pub has_kept : (x back : Parcel) (ps now : List (PassView Parcel)) (kept more : List Parcel) → now ≡ ps → back ≡ x → more ≡ kept ++ back ∷ []
     → IsPermutation (x ∷ (all_put ps ++ kept)) (all_put now ++ more)
-has_kept x back ps now kept more same is laid = upto (IsPermutation-sym ((all_put ps ++ kept) ++ x ∷ []) (x ∷ (all_put ps ++ kept)) (IsPermutation-to_front (all_put ps ++ kept) x))
+has_kept x back ps now kept more same is laid = upto (IsPermutation-sym ((all_put ps ++ kept) ++ x ∷ []) (x ∷ (all_put ps ++ kept))
+    (IsPermutation-to_front (all_put ps ++ kept) x))
     (append_assoc (all_put ps) kept (x ∷ []) ∙ ap (λ (l : List Parcel). all_put ps ++ l) (ap (λ (y : Parcel). kept ++ y ∷ []) (sym is) ∙ sym laid)
     ∙ ap (λ (l : List (PassView Parcel)). all_put l ++ more) (sym same))

@@ -19,7 +19,8 @@ pub new_rightly : (workers at : ℕ) (owners : List (PassView Parcel)) → ArePu
 new_rightly workers at [] = tt
 new_rightly workers at (p ∷ ps) = (All-nil (λ x. goes_to workers x ≡ at), new_rightly workers (suc at) ps)
 
-pub given_rightly : (workers at : ℕ) (owners : List (PassView Parcel)) → ArePutRightly workers at owners → ArePutRightly workers at (map giving_a_part owners)
+pub given_rightly : (workers at : ℕ) (owners : List (PassView Parcel)) → ArePutRightly workers at owners
+    → ArePutRightly workers at (map giving_a_part owners)
 given_rightly workers at [] rightly = tt
 given_rightly workers at (p ∷ ps) rightly = (rightly.0, given_rightly workers (suc at) ps rightly.1)
 
@@ -27,8 +28,10 @@ pub joined_rightly : (workers at : ℕ) (owners others : List (PassView Parcel))
     → ArePutRightly workers at (each_joined owners others)
 joined_rightly workers at owners [] rightly rightly' = rightly
 joined_rightly workers at [] (o ∷ os) rightly rightly' = tt
-joined_rightly workers at (p ∷ ps) (o ∷ os) rightly rightly' =
-    (All-append (λ x. goes_to workers x ≡ at) p.account.put o.account.put rightly.0 rightly'.0, joined_rightly workers (suc at) ps os rightly.1 rightly'.1)
+joined_rightly workers at (p ∷ ps) (o ∷ os) rightly rightly' = (
+  All-append (λ x. goes_to workers x ≡ at) p.account.put o.account.put rightly.0 rightly'.0,
+  joined_rightly workers (suc at) ps os rightly.1 rightly'.1,
+)
 
 -- parts, as they are made, given off and joined
 pub new_parts : (owners : List (PassView Parcel)) → HaveParts 1 (map with_a_part owners)
@@ -66,7 +69,8 @@ joined_together (p ∷ ps) (o ∷ os) inside =
     from (append_assoc p.account.put (all_put ps) (o.account.put ++ all_put os))
     (upto (IsPermutation-append_right p.account.put (all_put ps ++ (o.account.put ++ all_put os)) (o.account.put ++ all_put (each_joined ps os))
     (follow (swapped (all_put ps) o.account.put (all_put os))
-    (IsPermutation-append_right o.account.put (all_put ps ++ all_put os) (all_put (each_joined ps os)) (joined_together ps os (omega (arith, inside))))))
+    (IsPermutation-append_right o.account.put (all_put ps ++ all_put os) (all_put (each_joined ps os))
+    (joined_together ps os (omega (arith, inside))))))
     (sym (append_assoc p.account.put o.account.put (all_put (each_joined ps os)))))
 
 -- of parcels that all go to one worker, all go there, and none elsewhere
@@ -80,18 +84,22 @@ all_for workers at (x ∷ xs) all =
 none_for : (workers at other : ℕ) (xs : List Parcel) → (at ≡ other → ⊥) → All (λ x. goes_to workers x ≡ at) xs → parcels_for workers other xs ≡ []
 none_for workers at other [] apart all = refl
 none_for workers at other (x ∷ xs) apart all =
-    let there : is_for workers other x ≡ false = ne_eqb (goes_to workers x) other (λ e. apart (sym (All-head (λ y. goes_to workers y ≡ at) x xs all) ∙ e)) in
+    let there : is_for workers other x ≡ false = ne_eqb (goes_to workers x) other
+    (λ e. apart (sym (All-head (λ y. goes_to workers y ≡ at) x xs all) ∙ e)) in
     ap (λ b. cond b (x ∷ parcels_for workers other xs) (parcels_for workers other xs)) there
     ∙ none_for workers at other xs apart (All-tail (λ y. goes_to workers y ≡ at) x xs all)
 
 -- nor is there one for a worker before those of the row
-none_before : (workers at worker : ℕ) (ps : List (PassView Parcel)) → worker < at → ArePutRightly workers at ps → parcels_for workers worker (all_put ps) ≡ []
+none_before : (workers at worker : ℕ) (ps : List (PassView Parcel)) → worker < at → ArePutRightly workers at ps
+    → parcels_for workers worker (all_put ps) ≡ []
 none_before workers at worker [] below rightly = refl
 none_before workers at worker (p ∷ ps) below rightly = filter-append (is_for workers worker) p.account.put (all_put ps)
-    ∙ ap (λ (l : List Parcel). l ++ parcels_for workers worker (all_put ps)) (none_for workers at worker p.account.put (λ e. omega (arith, e, below)) rightly.0)
+    ∙ ap (λ (l : List Parcel). l ++ parcels_for workers worker (all_put ps))
+    (none_for workers at worker p.account.put (λ e. omega (arith, e, below)) rightly.0)
     ∙ none_before workers (suc at) worker ps (omega (arith, below)) rightly.1
 
-pub put_for_it : (workers at to : ℕ) (ps : List (PassView Parcel)) (p : PassView Parcel) → ArePutRightly workers at ps → to < length ps → p ≡ get_or ps to p
+pub put_for_it : (workers at to : ℕ) (ps : List (PassView Parcel)) (p : PassView Parcel) → ArePutRightly workers at ps → to < length ps
+    → p ≡ get_or ps to p
     → parcels_for workers (at + to) (all_put ps) ≡ p.account.put
 put_for_it workers at to [] p rightly inside is = absurd (omega (arith, inside))
 put_for_it workers at zero (q ∷ ps) p rightly inside is =
@@ -103,5 +111,6 @@ put_for_it workers at zero (q ∷ ps) p rightly inside is =
 put_for_it workers at (suc to) (q ∷ ps) p rightly inside is =
     let e : at + suc to ≡ suc at + to = omega arith in
     filter-append (is_for workers (at + suc to)) q.account.put (all_put ps)
-    ∙ ap (λ (l : List Parcel). l ++ parcels_for workers (at + suc to) (all_put ps)) (none_for workers at (at + suc to) q.account.put (λ e'. omega (arith, e')) rightly.0)
+    ∙ ap (λ (l : List Parcel). l ++ parcels_for workers (at + suc to) (all_put ps))
+    (none_for workers at (at + suc to) q.account.put (λ e'. omega (arith, e')) rightly.0)
     ∙ ap (λ n. parcels_for workers n (all_put ps)) e ∙ put_for_it workers (suc at) to ps p rightly.1 (omega (arith, inside)) is

@@ -65,7 +65,8 @@ module _ (workers : ℕ) (done : List Parcel) (x : Parcel) where
       ap (λ (l : List Parcel). l ∷ map before (words_from (λ i. i) (at + 1) count)) (sym (for_it workers at done x (omega (arith, is))))
       ∙ ap (λ (ls : List (List Parcel)). after at ∷ ls) (behind (at + 1) count (omega (arith, is)))
   one_more at (suc count) (suc to) is inside =
-      ap (λ (l : List Parcel). l ∷ set (map before (words_from (λ i. i) (at + 1) count)) to (get_or (map before (words_from (λ i. i) (at + 1) count)) to [] ++ x ∷ []))
+      ap (λ (l : List Parcel). l ∷ set (map before (words_from (λ i. i) (at + 1) count)) to
+      (get_or (map before (words_from (λ i. i) (at + 1) count)) to [] ++ x ∷ []))
       (sym (for_another workers at done x (λ e. omega (arith, e, is))))
       ∙ ap (λ (ls : List (List Parcel)). after at ∷ ls) (one_more (at + 1) count to (omega (arith, is)) (omega (arith, inside)))
 

@@ -10,7 +10,8 @@ use Rattle.seat_model.specs.CacheState.{CacheState}
 use Rattle.seat_parcels.specs.declared.parcel.Parcel.{Parcel}
 use Rattle.seat_parcels.specs.Parcels.{IsParcelOf, all_sent_of}
 
--- what contracts see of it: the queues and the passes to them, the parcels that it kept and for how many more it has room, and how many workers there are
+-- what contracts see of it: the queues and the passes to them, the parcels that it kept and for how many more it has
+-- room, and how many workers there are
 pub record BoxView : Type 0 where
   pub queues : List QueueView
   pub passes : List (PassView Parcel)

@@ -102,7 +102,13 @@ pass_with parcels = record { queue = table; account = record (unused 1) { put = 
 
 -- each to its worker, and not to the next one
 put_rightly : ArePutRightly 3 0 (pass_with [] ∷ pass_with (fourth ∷ fifth ∷ []) ∷ pass_with (third ∷ []) ∷ [])
-put_rightly = (All-nil to_first, (All-cons to_second fourth (fifth ∷ []) refl (All-cons to_second fifth [] refl (All-nil to_second)), (All-cons to_third third [] refl (All-nil to_third), tt))) where
+put_rightly = (
+  All-nil to_first,
+  (
+    All-cons to_second fourth (fifth ∷ []) refl (All-cons to_second fifth [] refl (All-nil to_second)),
+    (All-cons to_third third [] refl (All-nil to_third), tt),
+  ),
+) where
   to_first : Parcel → Type 0
   to_first x = goes_to 3 x ≡ 0
 
@@ -143,9 +149,18 @@ one_part put = All-cons (HasParts 1) (pass_with put) [] (record { parts_are = re
 not_two : HaveParts 2 (pass_with [] ∷ []) → ⊥
 not_two have = let e : 1 ≡ 2 = (All-head (HasParts 2) (pass_with []) [] have).parts_are in omega (arith, e)
 
--- boxes to these queues, one of which has sent nothing; it is none to others, or without a worker, with a pass too few, or with a carrier of another table
+-- boxes to these queues, one of which has sent nothing; it is none to others, or without a worker, with a pass too few,
+-- or with a carrier of another table
 new_box : IsPostBox table queues (box_with [] [])
-new_box = record { queues_are = refl; some = omega arith; queue_each = refl; pass_each = refl; parts = one_part []; rightly = (All-nil _, tt); kept = All-nil _ }
+new_box = record {
+  queues_are = refl;
+  some = omega arith;
+  queue_each = refl;
+  pass_each = refl;
+  parts = one_part [];
+  rightly = (All-nil _, tt);
+  kept = All-nil _;
+}
 
 sent_box : IsPostBox table queues (box_with (fourth ∷ []) (third ∷ []))
 sent_box = record {

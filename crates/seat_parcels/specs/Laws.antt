@@ -1,4 +1,5 @@
--- The laws of the two traits for seats of a shared heap: what goes on does over several calls, over each call of the seat too, and a seat that is ready stays so.
+-- The laws of the two traits for seats of a shared heap: what goes on does over several calls, over each call of the
+-- seat too, and a seat that is ready stays so.
 use Rattle.std.proofs.Common.{◌≡◌, ℕ, ◌+◌, List, length, All, refl, ap, sym, subst, ◌∙◌, arith}
 use Rattle.atomic_table.specs.Seated.{TableId}
 use Rattle.core_model.specs.View.{Role}
@@ -74,7 +75,8 @@ module _ {C : Type 0} (gives : C → ℕ → C → Type 0) where
     accepts = same_accepts s.state t.state kept.heap;
   }
 
-  pub may_send_law : (table : TableId) (box : BoxView) (s t : CacheValue C) → KeepsSeat gives s t → IsInStep table box s.state → IsInStep table box t.state
+  pub may_send_law : (table : TableId) (box : BoxView) (s t : CacheValue C) → KeepsSeat gives s t → IsInStep table box s.state
+      → IsInStep table box t.state
   may_send_law table box s t kept step = record {
     at_table = kept.heap.0 ∙ step.at_table;
     offered = same_offers s.state t.state kept.heap ∙ step.offered;
@@ -94,7 +96,8 @@ module _ {C : Type 0} (gives : C → ℕ → C → Type 0) where
     offers = same_offers s.state t.state kept.heap;
   }
 
-  pub may_take_law : (came : ℕ) (left : List Parcel) (s t : CacheValue C) → KeepsSeat gives s t → IsInStepWith came left s.state → IsInStepWith came left t.state
+  pub may_take_law : (came : ℕ) (left : List Parcel) (s t : CacheValue C) → KeepsSeat gives s t → IsInStepWith came left s.state
+      → IsInStepWith came left t.state
   may_take_law came left s t kept step = record {
     each = subst (λ (table : TableId). All (IsParcelOf table) left) (sym kept.heap.0) step.each;
     counted = ap (λ n. n + length left) (same_accepts s.state t.state kept.heap) ∙ step.counted;

@@ -23,7 +23,8 @@ pub class_absent : (d : ℕ) (claims : List Claim) → times_classed d claims �
 class_absent d [] none = refl
 class_absent d (claim ∷ claims) none = elim (cases_eq claim.descriptor d) [
   | inl here ↦ absurd (let one = eq-eqb-one claim.descriptor d here in omega arith)
-  | inr other ↦ skip (nat_eq claim.descriptor d) claim.class (claim_class d claims) (not-eq claim.descriptor d other) ∙ class_absent d claims (omega arith)
+  | inr other ↦ skip (nat_eq claim.descriptor d) claim.class (claim_class d claims) (not-eq claim.descriptor d other)
+      ∙ class_absent d claims (omega arith)
 ]
 
 -- where no large block takes it, none begins there

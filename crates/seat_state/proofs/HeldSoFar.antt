@@ -57,7 +57,8 @@ module _ (words : List ℕ) (held : List Block) (owners : List ℕ) (ready : IsR
   small_of p there small = opened.small_of words held 0 1 alone (replicate roots 0) ready for_one p there small
 
   pub within : (p : Block) → Contains held p → is_small p ≡ true → p.first_word < image_words c
-  within p there small = let s = small_of p there small in let at = inside_of c s.class s.d p.first_word s.is_class s.is in let u = ready.formed.used in let t = s.taken in
+  within p there small = let s = small_of p there small in let at = inside_of c s.class s.d p.first_word s.is_class s.is in
+      let u = ready.formed.used in let t = s.taken in
       let two = two_words s.class s.is_class in omega (arith, at.0, at.1)
 
   module _ (i : ℕ) (p : Block) (o : ℕ) (below : i < length held) (at : get_or held i p ≡ p) (at_o : get_or owners i o ≡ o) where
@@ -72,12 +73,14 @@ module _ (words : List ℕ) (held : List Block) (owners : List ℕ) (ready : IsR
     more_mine b = let m = more o b in let e = ap (total (small_at b)) (pick (nat_eq o o) (p ∷ []) [] (eq-eqb o o refl)) in omega arith
 
     pub more_theirs : (j b : ℕ) → j ≢ o → held_so_far held owners (suc i) j b ≡ held_so_far held owners i j b
-    more_theirs j b other = let m = more j b in let e = ap (total (small_at b)) (skip (nat_eq o j) (p ∷ []) [] (not-eq o j (λ e. other (sym e)))) in omega arith
+    more_theirs j b other = let m = more j b in let e = ap (total (small_at b))
+        (skip (nat_eq o j) (p ∷ []) [] (not-eq o j (λ e. other (sym e)))) in omega arith
 
     -- a large block leaves all as it is
     pub large_more : is_small p ≡ false → (j b : ℕ) → held_so_far held owners (suc i) j b ≡ held_so_far held owners i j b
     large_more large j b = elim (cases_eq j o) [
-      | inl mine ↦ subst (λ n. held_so_far held owners (suc i) n b ≡ held_so_far held owners i n b) (sym mine) (let m = more_mine b in let z = none b in omega arith)
+      | inl mine ↦ subst (λ n. held_so_far held owners (suc i) n b ≡ held_so_far held owners i n b) (sym mine) (let m = more_mine b in
+          let z = none b in omega arith)
       | inr other ↦ more_theirs j b other
     ] where
       none : (b : ℕ) → small_at b p ≡ 0
@@ -86,13 +89,16 @@ module _ (words : List ℕ) (held : List Block) (owners : List ℕ) (ready : IsR
     -- a small block is its seat's, and was nobody's
     module _ (small : is_small p ≡ true) where
       once : small_at p.first_word p ≡ 1
-      once = one_if_true (is_small p && nat_eq p.first_word p.first_word) (and_is (is_small p) (nat_eq p.first_word p.first_word) small (eq-eqb p.first_word p.first_word refl))
+      once = one_if_true (is_small p && nat_eq p.first_word p.first_word)
+          (and_is (is_small p) (nat_eq p.first_word p.first_word) small (eq-eqb p.first_word p.first_word refl))
 
       elsewhere : (b : ℕ) → b ≢ p.first_word → small_at b p ≡ 0
-      elsewhere b apart = one_if_false (is_small p && nat_eq p.first_word b) (λ t. apart (sym (eqb-true p.first_word b (and_both (is_small p) (nat_eq p.first_word b) t).1)))
+      elsewhere b apart = one_if_false (is_small p && nat_eq p.first_word b)
+          (λ t. apart (sym (eqb-true p.first_word b (and_both (is_small p) (nat_eq p.first_word b) t).1)))
 
       pub none_yet : (j : ℕ) → held_so_far held owners i j p.first_word ≡ 0
-      none_yet j = none_before (small_at p.first_word) j held (take i owners) i p below at (let s = small_once held p ready.ascending there small in omega arith) once
+      none_yet j = none_before (small_at p.first_word) j held (take i owners) i p below at
+          (let s = small_once held p ready.ascending there small in omega arith) once
 
       pub mine_here : held_so_far held owners (suc i) o p.first_word ≡ 1
       mine_here = let m = more_mine p.first_word in let z = none_yet o in let y = once in omega arith
@@ -102,9 +108,12 @@ module _ (words : List ℕ) (held : List Block) (owners : List ℕ) (ready : IsR
 
   -- all of a seat's small blocks, in the list of their class
   pub all_held : (i : ℕ) → length held ≤ i → (j b : ℕ)
-      → total (times b) (tabulate (λ class. small_blocks c (λ d. slice_index words (info_word d)) class (picked j held owners)) 0 lists) ≡ held_so_far held owners i j b
+      → total (times b) (tabulate (λ class. small_blocks c (λ d. slice_index words (info_word d)) class (picked j held owners)) 0 lists)
+      ≡ held_so_far held owners i j b
   all_held i past j b = tabulate_sum (times b) (λ class. small_blocks c (λ d. slice_index words (info_word d)) class (picked j held owners)) 0 lists
       ∙ small_sum c (λ d. slice_index words (info_word d)) b (picked j held owners) (λ p m small. is_class j p m small)
       ∙ sym (ap₂ (λ ps os. total (small_at b) (picked j ps os)) (take_all i held past) (take_all i owners (omega arith))) where
-        is_class : (j : ℕ) (p : Block) → Contains (picked j held owners) p → is_small p ≡ true → slice_index words (info_word (superblock_at c p.first_word)) < lists
-        is_class j p m small = let s = small_of p (picked_in j held owners p m) small in let e = ap (λ d. slice_index words (info_word d)) s.here in let f = s.info_at in let l = s.is_class.last in omega arith
+        is_class : (j : ℕ) (p : Block) → Contains (picked j held owners) p → is_small p ≡ true
+            → slice_index words (info_word (superblock_at c p.first_word)) < lists
+        is_class j p m small = let s = small_of p (picked_in j held owners p m) small in
+            let e = ap (λ d. slice_index words (info_word d)) s.here in let f = s.info_at in let l = s.is_class.last in omega arith

@@ -18,15 +18,18 @@ use Rattle.core_model.proofs.OpenedHeldLemmas.{owns_root}
 use Rattle.heap_model.proofs.ListLemmas.{one_at_most}
 use Rattle.seat_state.proofs.WordLemmas.{entry_is}
 
-pub picked_more : {A : Type 0} (j : ℕ) (xs : List A) (os : List ℕ) (i : ℕ) (x : A) (o : ℕ) → i < length xs → get_or xs i x ≡ x → i < length os → get_or os i o ≡ o
+pub picked_more : {A : Type 0} (j : ℕ) (xs : List A) (os : List ℕ) (i : ℕ) (x : A) (o : ℕ) → i < length xs → get_or xs i x ≡ x → i < length os
+    → get_or os i o ≡ o
     → picked j (take (suc i) xs) (take (suc i) os) ≡ picked j (take i xs) (take i os) ++ cond (nat_eq o j) (x ∷ []) []
 picked_more j [] os i x o below at below_o at_o = absurd (omega arith)
 picked_more j (y ∷ xs) [] i x o below at below_o at_o = absurd (omega arith)
 picked_more j (y ∷ xs) (p ∷ os) zero x o below at below_o at_o = ap₂ (λ a b. cond (nat_eq b j) (a ∷ []) []) at at_o
-picked_more {A} j (y ∷ xs) (p ∷ os) (suc i) x o below at below_o at_o = by_test (nat_eq p j) (picked j (take i xs) (take i os)) (cond (nat_eq o j) (x ∷ []) []) (picked_more j xs os i x o (omega arith) at (omega arith) at_o) where
-  by_test : (t : Bool) {l : List A} (m n : List A) → l ≡ m ++ n → cond t (y ∷ l) l ≡ cond t (y ∷ m) m ++ n
-  by_test true m n e = ap (λ l. y ∷ l) e
-  by_test false m n e = e
+picked_more {A} j (y ∷ xs) (p ∷ os) (suc i) x o below at below_o at_o =
+    by_test (nat_eq p j) (picked j (take i xs) (take i os)) (cond (nat_eq o j) (x ∷ []) [])
+    (picked_more j xs os i x o (omega arith) at (omega arith) at_o) where
+      by_test : (t : Bool) {l : List A} (m n : List A) → l ≡ m ++ n → cond t (y ∷ l) l ≡ cond t (y ∷ m) m ++ n
+      by_test true m n e = ap (λ l. y ∷ l) e
+      by_test false m n e = e
 
 pub total_append : {A : Type 0} (f : A → ℕ) (xs ys : List A) → total f (xs ++ ys) ≡ total f xs + total f ys
 total_append f [] ys = omega arith
@@ -55,20 +58,25 @@ in_taken (y ∷ xs) (suc i) x there = elim (head_or_rest y x (take i xs) there) 
 ]
 
 -- of what is picked of the first members nothing counts, where a later one is all that may
-pub none_before : {A : Type 0} (f : A → ℕ) (j : ℕ) (xs : List A) (os : List ℕ) (i : ℕ) (x : A) → i < length xs → get_or xs i x ≡ x → total f xs ≤ 1 → f x ≡ 1 → total f (picked j (take i xs) os) ≡ 0
+pub none_before : {A : Type 0} (f : A → ℕ) (j : ℕ) (xs : List A) (os : List ℕ) (i : ℕ) (x : A) → i < length xs → get_or xs i x ≡ x
+    → total f xs ≤ 1 → f x ≡ 1 → total f (picked j (take i xs) os) ≡ 0
 none_before f j xs os i x below at most one = let p = picked_most f j (take i xs) os in let t = taken_most f xs i x below at in omega arith
 
 -- in a heap at rest a small block stands once
-pub small_once : (held : List Block) (p : Block) → AllPairs (λ (a b : Block). a.first_word < b.first_word) held → Contains held p → is_small p ≡ true → total (small_at p.first_word) held ≡ 1
+pub small_once : (held : List Block) (p : Block) → AllPairs (λ (a b : Block). a.first_word < b.first_word) held → Contains held p
+    → is_small p ≡ true → total (small_at p.first_word) held ≡ 1
 small_once held p ascending there small =
     total_once (λ (a b : Block). a.first_word < b.first_word) (small_at p.first_word) held p ascending
     (λ a b in_a in_b less some_a some_b. let e = at_first a some_a in let f = at_first b some_b in omega arith) there
-    (one_if_true (is_small p && nat_eq p.first_word p.first_word) (and_is (is_small p) (nat_eq p.first_word p.first_word) small (eq-eqb p.first_word p.first_word refl))) where
+    (one_if_true (is_small p && nat_eq p.first_word p.first_word) (and_is (is_small p) (nat_eq p.first_word p.first_word) small
+    (eq-eqb p.first_word p.first_word refl))) where
       at_first : (a : Block) → 0 < small_at p.first_word a → a.first_word ≡ p.first_word
-      at_first a some = eqb-true a.first_word p.first_word (and_both (is_small a) (nat_eq a.first_word p.first_word) (one_if_some (is_small a && nat_eq a.first_word p.first_word) some)).1
+      at_first a some = eqb-true a.first_word p.first_word (and_both (is_small a) (nat_eq a.first_word p.first_word)
+          (one_if_some (is_small a && nat_eq a.first_word p.first_word) some)).1
 
 -- a seat has the roots of which it is the owner
-pub roots_of : (i count : ℕ) (os : List ℕ) → length os ≡ count → (n : ℕ) → times n (picked i (steps 0 1 count) os) ≡ one_if (nat_eq (get_or os n (i + 1)) i)
+pub roots_of : (i count : ℕ) (os : List ℕ) → length os ≡ count → (n : ℕ)
+    → times n (picked i (steps 0 1 count) os) ≡ one_if (nat_eq (get_or os n (i + 1)) i)
 roots_of i count os long n =
     let own = owns_root i count os n in
     let part = picked_most (λ x. one_if (nat_eq x n)) i (steps 0 1 count) os in

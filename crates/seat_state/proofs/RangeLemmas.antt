@@ -7,7 +7,8 @@ use Rattle.seat_state.specs.Superblocks.{usage_for, no_superblock, IsRange}
 use Rattle.seat_state.proofs.UsageLemmas.{usage_own, usage_theirs}
 use Rattle.core_model.proofs.SpanLemmas.{cases_range}
 
-pub range_mine : (old new : List SuperblockOwner) (i from n : ℕ) (x : SuperblockUsage) (P : ℕ → SuperblockUsage → Type 0) → IsRange old new from n (record { seat = i; usage = x })
+pub range_mine : (old new : List SuperblockOwner) (i from n : ℕ) (x : SuperblockUsage) (P : ℕ → SuperblockUsage → Type 0)
+    → IsRange old new from n (record { seat = i; usage = x })
     → ((d : ℕ) → from ≤ d → d < from + n → P d x) → ((d : ℕ) → (from ≤ d → d < from + n → ⊥) → P d (usage_for i (get_or old d no_superblock)))
     → (d : ℕ) → P d (usage_for i (get_or new d no_superblock))
 range_mine old new i from n x P range inside outside d = elim (cases_range from n d) [
@@ -15,7 +16,8 @@ range_mine old new i from n x P range inside outside d = elim (cases_range from 
   | inr other ↦ subst (P d) (sym (ap (usage_for i) (range.outside d other))) (outside d other)
 ]
 
-pub range_theirs : (old new : List SuperblockOwner) (i j from n : ℕ) (x : SuperblockUsage) (P : ℕ → SuperblockUsage → Type 0) → j ≢ i → IsRange old new from n (record { seat = i; usage = x })
+pub range_theirs : (old new : List SuperblockOwner) (i j from n : ℕ) (x : SuperblockUsage) (P : ℕ → SuperblockUsage → Type 0) → j ≢ i
+    → IsRange old new from n (record { seat = i; usage = x })
     → ((d : ℕ) → from ≤ d → d < from + n → usage_for j (get_or old d no_superblock) ≡ usage.Nothing)
     → ((d : ℕ) → P d (usage_for j (get_or old d no_superblock)))
     → (d : ℕ) → P d (usage_for j (get_or new d no_superblock))

@@ -34,7 +34,8 @@ pub usages_theirs : (owners : List SuperblockOwner) (i j d : ℕ) (x : Superbloc
     → (e : ℕ) → P e (usage_for j (get_or (set owners d (record { seat = i; usage = x })) e no_superblock))
 usages_theirs owners i j d x P less apart none old e = elim (cases_eq e d) [
   | inl same ↦ subst (λ n. P n (usage_for j (get_or (set owners d (record { seat = i; usage = x })) n no_superblock))) (sym same)
-      (subst (P d) (none ∙ sym (ap (usage_for j) (get_or-set_same owners d (record { seat = i; usage = x }) no_superblock less) ∙ usage_theirs i j x apart)) (old d))
+      (subst (P d) (none ∙ sym (ap (usage_for j) (get_or-set_same owners d (record { seat = i; usage = x }) no_superblock less)
+      ∙ usage_theirs i j x apart)) (old d))
   | inr other ↦ subst (P e) (sym (ap (usage_for j) (get_or-set_other owners d e (record { seat = i; usage = x }) no_superblock other))) (old e)
 ]
 
@@ -46,7 +47,8 @@ usage_alone i j o other some = by_test (nat_eq o.seat i) refl where
   by_test false e = absurd (some (skip (nat_eq o.seat i) o.usage usage.Nothing e))
 
 -- a seat that claims nothing of a superblock, and has no large block there, has nothing of it
-pub no_usage : (d : ℕ) (x : SuperblockUsage) (raw split cutting : List ℕ) (classed : List Claim) (large : List Span) → IsUsage d x raw split cutting classed large
+pub no_usage : (d : ℕ) (x : SuperblockUsage) (raw split cutting : List ℕ) (classed : List Claim) (large : List Span)
+    → IsUsage d x raw split cutting classed large
     → times d raw + times d split + times d cutting ≡ 0 → times_classed d classed ≡ 0 → times_large d large ≡ 0 → x ≡ usage.Nothing
 no_usage d usage.Nothing raw split cutting classed large is a b e = refl
 no_usage d usage.Raw raw split cutting classed large is a b e = absurd (let n = is.is_raw in omega arith)

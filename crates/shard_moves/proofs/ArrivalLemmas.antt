@@ -37,7 +37,8 @@ pub is_left : {key : ℕ} {node : Block} {old new : List Sent} {v w : View} → 
 is_left {key} {node} {old} {new} takes = record { first = takes.first; others = new; left_are = takes.left_are }
 
 -- the seat was stopped before the first came
-pub stops_before : (old new : List Sent) (v w : View) → IsSeat w → IsLeft old → new ≡ old → HaveTables old v → KeepsOwn v w → IsSmallCall v w → StopsAtFirst old new v w
+pub stops_before : (old new : List Sent) (v w : View) → IsSeat w → IsLeft old → new ≡ old → HaveTables old v → KeepsOwn v w → IsSmallCall v w
+    → StopsAtFirst old new v w
 stops_before old new v w seat left same tables keeps call = record {
   first = left.first;
   others = left.others;
@@ -51,7 +52,8 @@ stops_before old new v w seat left same tables keeps call = record {
 }
 
 -- the first has come: the seat is ready to bring it in
-module _ (key : ℕ) (node : Block) (old new : List Sent) (v u : View) (seat : IsSeat u) (takes : TakesFirst key node old new v u) (call : IsSmallCall v u) (tables : HaveTables old v) where
+module _ (key : ℕ) (node : Block) (old new : List Sent) (v u : View) (seat : IsSeat u) (takes : TakesFirst key node old new v u)
+    (call : IsSmallCall v u) (tables : HaveTables old v) where
   grown : Grown v u
   grown = accepts_grown node v u takes.accepts
 
@@ -67,7 +69,8 @@ module _ (key : ℕ) (node : Block) (old new : List Sent) (v u : View) (seat : I
 
   pub table_there : RootIsSet u (shard_of key)
   unfolding grown
-  table_there = set_grown v u (shard_of key) grown shard_before.owned (subst (λ k. RootIsSet v (shard_of k)) takes.key_is (tables.table takes.first is_first))
+  table_there = set_grown v u (shard_of key) grown shard_before.owned
+      (subst (λ k. RootIsSet v (shard_of k)) takes.key_is (tables.table takes.first is_first))
 
   pub loose_there : IsLoose node u
   loose_there = accepted_loose node v u seat takes.accepts call shard_before.only
@@ -79,11 +82,13 @@ module _ (key : ℕ) (node : Block) (old new : List Sent) (v u : View) (seat : I
     brought = record {
       either = λ m gives. may.either m (gives_grown v u grown (shard_of key) m gives);
       only = may.only;
-      table = table_then (shard_of key) v u w (subst (λ (rs : List ℕ). Contains rs (shard_of key)) (sym grown.roots)) (table_grown (shard_of key) v u grown) may.table;
+      table = table_then (shard_of key) v u w (subst (λ (rs : List ℕ). Contains rs (shard_of key)) (sym grown.roots))
+          (table_grown (shard_of key) v u grown) may.table;
       others = record {
         roots = may.others.roots ∙ grown.roots;
         kinds = may.others.kinds ∙ call.goes_on.kinds;
-        root_words = λ root owned differs. keeps_word_then v u w (root_word root) (grown.words (root_word root) (in_root root (root_word root) owned refl))
+        root_words = λ root owned differs. keeps_word_then v u w (root_word root)
+            (grown.words (root_word root) (in_root root (root_word root) owned refl))
             (may.others.root_words root (subst (λ (rs : List ℕ). Contains rs root) (sym grown.roots) owned) differs);
         blocks = λ a h unreached.
             let r = may.others.blocks a (grown.keeps a h) (λ same. takes.accepts.blocks.new (subst (Contains v.held) same h))

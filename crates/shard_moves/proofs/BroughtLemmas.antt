@@ -26,14 +26,16 @@ use Rattle.shard_moves.specs.Arriving.{HaveTables, ListAllKeys, HasArrived, Stop
 use Rattle.run_model.specs.Sending.{Sent, put_of, puts_of}
 
 -- so many are brought in, and these are left
-pub record HasBrought {S : Type 0} (view : S → View) (goes : S → S → Type 0) (has_none : S → S → ℕ → Looks → Type 0) (old now : List Sent) (s t : S) : Type 0 where
+pub record HasBrought {S : Type 0} (view : S → View) (goes : S → S → Type 0) (has_none : S → S → ℕ → Looks → Type 0) (old now : List Sent)
+    (s t : S) : Type 0 where
   pub brought : List Sent
   pub left_are : old ≡ brought ++ now
   pub tables : HaveTables now (view t)
   pub answered : (image : Image) (rs : List (Request × Reply)) → HasAnswered image rs (view s) → HasAnswered image (rs ++ puts_of brought) (view t)
   pub exact : ReachesAllHeld (view s) → ReachesAllHeld (view t)
   pub done : (view t ≡ view s) ⊎ Runs (view s) (view t)
-  pub calls : (keys : List ℕ) → ListAllKeys old (view s) keys → ListAllKeys now (view t) keys × IsRow (length brought * (512 + 4 * length keys)) (length brought) 0 (view s) (view t)
+  pub calls : (keys : List ℕ) → ListAllKeys old (view s) keys → ListAllKeys now (view t) keys
+      × IsRow (length brought * (512 + 4 * length keys)) (length brought) 0 (view s) (view t)
   pub taken : (view t).taken ≡ (view s).taken
   pub refusals : SameRefusals (view s) (view t)
   pub roots : (view t).roots ≡ (view s).roots
@@ -41,7 +43,8 @@ pub record HasBrought {S : Type 0} (view : S → View) (goes : S → S → Type 
   pub kept : goes s t
 
 -- none is brought in yet
-pub brought_none : {S : Type 0} (view : S → View) (goes : S → S → Type 0) (has_none : S → S → ℕ → Looks → Type 0) (old : List Sent) (s : S) → goes s s → HaveTables old (view s)
+pub brought_none : {S : Type 0} (view : S → View) (goes : S → S → Type 0) (has_none : S → S → ℕ → Looks → Type 0) (old : List Sent) (s : S)
+    → goes s s → HaveTables old (view s)
     → HasBrought view goes has_none old old s s
 brought_none view goes has_none old s same tables = record {
   brought = [];
@@ -50,7 +53,11 @@ brought_none view goes has_none old s same tables = record {
   answered = λ image rs has. subst (λ xs. HasAnswered image xs (view s)) (sym (append-nil rs)) has;
   exact = λ all. all;
   done = inl refl;
-  calls = λ keys lists. (lists, row_more 0 0 0 (0 * (512 + 4 * length keys)) 0 0 (view s) (view s) (omega arith) (omega arith) (omega arith) (row_none (view s)));
+  calls = λ keys lists. (
+    lists,
+    row_more 0 0 0 (0 * (512 + 4 * length keys)) 0 0 (view s) (view s) (omega arith) (omega arith) (omega arith)
+        (row_none (view s)),
+  );
   taken = refl;
   refusals = record { count = refl; bytes = refl; looks = refl };
   roots = refl;
@@ -63,10 +70,12 @@ puts_push : (xs : List Sent) (x : Sent) → puts_of (xs ++ (x ∷ [])) ≡ puts_
 puts_push [] x = refl
 puts_push (y ∷ ys) x = ap (λ zs. put_of y ∷ zs) (puts_push ys x)
 
-module _ {S : Type 0} (view : S → View) (goes : S → S → Type 0) (has_none : S → S → ℕ → Looks → Type 0) (row : (x y z : S) → goes x y → goes y z → goes x z) (old now : List Sent) (s t : S)
+module _ {S : Type 0} (view : S → View) (goes : S → S → Type 0) (has_none : S → S → ℕ → Looks → Type 0) (row : (x y z : S) → goes x y → goes y z
+    → goes x z) (old now : List Sent) (s t : S)
     (was : HasBrought view goes has_none old now s t) (seat : IsSeat (view t)) where
   -- one more is brought in
-  module _ (new : List Sent) (u : S) (arrived : HasArrived now new (view t) (view u)) (kept : goes t u) (refusals : SameRefusals (view t) (view u)) (taken : (view u).taken ≡ (view t).taken)
+  module _ (new : List Sent) (u : S) (arrived : HasArrived now new (view t) (view u)) (kept : goes t u)
+      (refusals : SameRefusals (view t) (view u)) (taken : (view u).taken ≡ (view t).taken)
       (all : ReachesAllHeld (view t) → ReachesAllHeld (view u)) where
     abbrev first : Sent
     first = arrived.first
@@ -85,9 +94,11 @@ module _ {S : Type 0} (view : S → View) (goes : S → S → Type 0) (has_none 
 
     tables_on : HaveTables new (view u)
     tables_on = record {
-      shard = λ x h. shard_on (view t) (view u) (shard_of first.key) (λ m. with_key m first.key first.value) seat small arrived.arrives.may (λ m. with_key m first.key first.value) (shard_of x.key)
+      shard = λ x h. shard_on (view t) (view u) (shard_of first.key) (λ m. with_key m first.key first.value) seat small arrived.arrives.may
+          (λ m. with_key m first.key first.value) (shard_of x.key)
           (was.tables.shard x (of_left x h)) arrived.changes;
-      table = λ x h. set_changed (view t) (view u) (shard_of first.key) (shard_of x.key) (λ m. with_key m first.key first.value) arrived.arrives.may (was.tables.shard x (of_left x h)).owned (was.tables.table x (of_left x h));
+      table = λ x h. set_changed (view t) (view u) (shard_of first.key) (shard_of x.key)
+          (λ m. with_key m first.key first.value) arrived.arrives.may (was.tables.shard x (of_left x h)).owned (was.tables.table x (of_left x h));
     }
 
     -- the keys of a shard, with that which arrived
@@ -101,14 +112,16 @@ module _ {S : Type 0} (view : S → View) (goes : S → S → Type 0) (has_none 
               gives = arrived.changes.gives there.map there.gives;
               all = λ key some. elim (cases_eq first.key key) as (λ _. Contains keys key) [
                 | inl is ↦ subst (Contains keys) is (lists.coming first is_first)
-                | inr other ↦ there.all key (λ none. some (cond-false (nat_eq first.key key) (Some first.value) (there.map key) (ne_eqb first.key key other) ∙ none))
+                | inr other ↦ there.all key (λ none. some (cond-false (nat_eq first.key key) (Some first.value) (there.map key)
+                    (ne_eqb first.key key other) ∙ none))
               ];
             })
         | inr differs ↦
             let there = lists.there x (of_left x h) in
             record {
               map = there.map;
-              gives = others_give (view t) (view u) (shard_of first.key) (λ m. with_key m first.key first.value) seat small arrived.arrives.may (shard_of x.key) there.map differs
+              gives = others_give (view t) (view u) (shard_of first.key) (λ m. with_key m first.key first.value) seat small arrived.arrives.may
+                  (shard_of x.key) there.map differs
                   (was.tables.shard x (of_left x h)) there.gives;
               all = there.all;
             }
@@ -123,7 +136,8 @@ module _ {S : Type 0} (view : S → View) (goes : S → S → Type 0) (has_none 
       runs = arrived.runs;
       calls = record {
         most = 0;
-        few = λ m gives keys lists. row_more (512 + 4 * length keys) 1 0 _ 3 0 (view t) (view u) (omega arith) (omega arith) (omega arith) (arrived.arrives.calls keys lists);
+        few = λ m gives keys lists. row_more (512 + 4 * length keys) 1 0 _ 3 0 (view t) (view u) (omega arith) (omega arith) (omega arith)
+            (arrived.arrives.calls keys lists);
       };
       keeps_it = kept;
       refused = λ is e. absurd (cc);
@@ -136,18 +150,26 @@ module _ {S : Type 0} (view : S → View) (goes : S → S → Type 0) (has_none 
       left_are = was.left_are ∙ ap (λ xs. was.brought ++ xs) arrived.left_are ∙ sym (append_assoc was.brought (first ∷ []) new);
       tables = tables_on;
       answered = λ image rs has.
-          subst (λ xs. HasAnswered image xs (view u)) (append_assoc rs (puts_of was.brought) (put_of first ∷ []) ∙ ap (λ xs. rs ++ xs) (sym (puts_push was.brought first)))
-          (goes_on image (rs ++ puts_of was.brought) (view t) (view u) (put first.key first.value) seat (was.answered image rs has) arrived.arrives.may done answers);
+          subst (λ xs. HasAnswered image xs (view u)) (append_assoc rs (puts_of was.brought) (put_of first ∷ [])
+          ∙ ap (λ xs. rs ++ xs) (sym (puts_push was.brought first)))
+          (goes_on image (rs ++ puts_of was.brought) (view t) (view u) (put first.key first.value) seat
+          (was.answered image rs has) arrived.arrives.may done answers);
       exact = λ reached. all (was.exact reached);
-      done = inr (elim was.done as (λ _. Runs (view s) (view u)) [ inl same ↦ subst (λ x. Runs x (view u)) same arrived.runs | inr ran ↦ runs_then (view s) (view t) (view u) ran arrived.runs ]);
+      done = inr (elim was.done as (λ _. Runs (view s) (view u)) [
+        | inl same ↦ subst
+            (λ x. Runs x (view u)) same arrived.runs
+        | inr ran ↦ runs_then (view s) (view t) (view u) ran arrived.runs
+      ]);
       calls = λ keys lists.
           let both = was.calls keys lists in
           let more = length-append was.brought (first ∷ []) in (
             lists_on keys both.0,
             subst (λ n. IsRow (n * (512 + 4 * length keys)) n 0 (view s) (view u)) (sym more)
-                (row_more (length was.brought * (512 + 4 * length keys) + (512 + 4 * length keys)) (length was.brought + 1) 0 ((length was.brought + 1) * (512 + 4 * length keys)) (length was.brought + 1) 0
+                (row_more (length was.brought * (512 + 4 * length keys) + (512 + 4 * length keys)) (length was.brought + 1) 0
+                ((length was.brought + 1) * (512 + 4 * length keys)) (length was.brought + 1) 0
                 (view s) (view u) (times (length was.brought) (512 + 4 * length keys)) (omega arith) (omega arith)
-                (row_then (length was.brought * (512 + 4 * length keys)) (length was.brought) 0 (512 + 4 * length keys) 1 0 (view s) (view t) (view u) both.1
+                (row_then (length was.brought * (512 + 4 * length keys)) (length was.brought) 0 (512 + 4 * length keys) 1 0 (view s) (view t)
+                (view u) both.1
                 (arrived.arrives.calls keys (both.0.there first is_first)))),
           );
       taken = taken ∙ was.taken;
@@ -183,8 +205,10 @@ module _ {S : Type 0} (view : S → View) (goes : S → S → Type 0) (has_none 
         let more : length was.brought + 1 ≤ length old =
         let all = ap length was.left_are in let some = length-append was.brought now in let one = ap length stops.left_are in omega arith in
         let product = add-mul (length was.brought) 1 (512 + 4 * length keys) in
-        let few : (length was.brought + 1) * (512 + 4 * length keys) ≤ length old * (512 + 4 * length keys) = mul-le-mul_right (512 + 4 * length keys) more in
-        row_more (length was.brought * (512 + 4 * length keys) + (512 + 4 * length keys)) (length was.brought + 1) 0 (length old * (512 + 4 * length keys)) (length old) 0 (view s) (view u)
+        let few : (length was.brought + 1) * (512 + 4 * length keys) ≤ length old * (512 + 4 * length keys) =
+        mul-le-mul_right (512 + 4 * length keys) more in
+        row_more (length was.brought * (512 + 4 * length keys) + (512 + 4 * length keys)) (length was.brought + 1) 0
+        (length old * (512 + 4 * length keys)) (length old) 0 (view s) (view u)
         (omega arith) more (omega arith)
         (row_then (length was.brought * (512 + 4 * length keys)) (length was.brought) 0 (512 + 4 * length keys) 1 0 (view s) (view t) (view u) both.1
         (stops.arrives.calls keys (both.0.there stops.first is_first)))
@@ -201,4 +225,5 @@ module _ {S : Type 0} (view : S → View) (goes : S → S → Type 0) (has_none 
     steps_all = subst (λ xs. TakesRequests view goes has_none (puts_of xs) s t) (sym all_are) was.steps
 
     pub calls_all : (keys : List ℕ) → ListAllKeys old (view s) keys → IsRow (length old * (512 + 4 * length keys)) (length old) 0 (view s) (view t)
-    calls_all keys lists = subst (λ (xs : List Sent). IsRow (length xs * (512 + 4 * length keys)) (length xs) 0 (view s) (view t)) (sym all_are) (was.calls keys lists).1
+    calls_all keys lists = subst (λ (xs : List Sent). IsRow (length xs * (512 + 4 * length keys)) (length xs) 0 (view s) (view t)) (sym all_are)
+        (was.calls keys lists).1

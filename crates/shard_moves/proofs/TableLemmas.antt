@@ -55,7 +55,8 @@ pub record HasCalled (flags : List Bool) (number : ℕ) (v w : View) : Type 0 wh
   pub left : count + count_by (is_flagged flags) (words_from (λ i. i) number (shards - number)) ≡ flag_count flags
 
 -- how far the tables of the flagged shards are made: those below the number
-pub record HasMade {S : Type 0} (view : S → View) (keeps : S → S → Type 0) (has_none : S → S → ℕ → Looks → Type 0) (flags before tables : List Bool) (number : ℕ) (s t : S) : Type 0 where
+pub record HasMade {S : Type 0} (view : S → View) (keeps : S → S → Type 0) (has_none : S → S → ℕ → Looks → Type 0)
+    (flags before tables : List Bool) (number : ℕ) (s t : S) : Type 0 where
   pub each : (k : ℕ) → k < shards → is_flagged flags k ≡ true → IsShard (view t) k
   pub told : (k : ℕ) → k < number → k < shards → is_flagged flags k ≡ true → TellsTable view keeps has_none k (is_flagged tables k) s t
   pub others : (k : ℕ) → is_flagged flags k ≡ false → is_flagged tables k ≡ is_flagged before k
@@ -76,7 +77,8 @@ sees_on v w at k after change is sees =
     value_set (w.volatile (root_word k)) now.value now.seen now.some
 
 -- what was told of a shard stands over the next
-tells_on : {S : Type 0} (view : S → View) (keeps : S → S → Type 0) (has_none : S → S → ℕ → Looks → Type 0) → ((x y z : S) → keeps x y → keeps y z → keeps x z) → (at k : ℕ) (b : Bool) (s t u : S)
+tells_on : {S : Type 0} (view : S → View) (keeps : S → S → Type 0) (has_none : S → S → ℕ → Looks → Type 0)
+    → ((x y z : S) → keeps x y → keeps y z → keeps x z) → (at k : ℕ) (b : Bool) (s t u : S)
     → IsShard (view t) k → HasTried view keeps at t u → TellsTable view keeps has_none k b s t → TellsTable view keeps has_none k b s u
 tells_on view keeps has_none row at k true s t u is tried set = set_changed (view t) (view u) at k (λ m. m) tried.change is.owned set
 tells_on view keeps has_none row at k false s t u is tried (null, refused) = (
@@ -90,7 +92,13 @@ tells_on view keeps has_none row at k false s t u is tried (null, refused) = (
     room = refused.room;
     looks = refused.looks;
     none = let none = refused.none in
-        record { before = none.before; after = none.after; kept_before = none.kept_before; none = none.none; kept_after = row none.after t u none.kept_after tried.kept };
+        record {
+          before = none.before;
+          after = none.after;
+          kept_before = none.kept_before;
+          none = none.none;
+          kept_after = row none.after t u none.kept_after tried.kept;
+        };
   },
 )
 
@@ -104,15 +112,18 @@ null_before v w k sees null x is = elim (cases_eq x 0) as (λ _. x ≡ 0) [
 ]
 
 -- a root that a call found null was null before the call, which keeps a table
-pub null_at_first : (v w : View) (k : ℕ) (after : Map → Map) → MayChange k after v w → Contains v.roots k → w.volatile (root_word k) ≡ Some 0 → WasNull v k
+pub null_at_first : (v w : View) (k : ℕ) (after : Map → Map) → MayChange k after v w → Contains v.roots k → w.volatile (root_word k) ≡ Some 0
+    → WasNull v k
 null_at_first v w k after change owned null x is = elim (cases_eq x 0) as (λ _. x ≡ 0) [
   | inl none ↦ none
   | inr some ↦ let e : Some x ≡ Some 0 = sym (change.table.root x owned is some) ∙ null in cc
 ]
 
 -- and what one shard is told is so from an earlier state on
-tells_from : {S : Type 0} (view : S → View) (keeps : S → S → Type 0) (has_none : S → S → ℕ → Looks → Type 0) → ((x y z : S) → keeps x y → keeps y z → keeps x z) → (k : ℕ) (b : Bool) (s t u : S)
-    → keeps s t → (sees_table (view s) k ≡ true → sees_table (view t) k ≡ true) → TellsTable view keeps has_none k b t u → TellsTable view keeps has_none k b s u
+tells_from : {S : Type 0} (view : S → View) (keeps : S → S → Type 0) (has_none : S → S → ℕ → Looks → Type 0)
+    → ((x y z : S) → keeps x y → keeps y z → keeps x z) → (k : ℕ) (b : Bool) (s t u : S)
+    → keeps s t → (sees_table (view s) k ≡ true → sees_table (view t) k ≡ true) → TellsTable view keeps has_none k b t u
+    → TellsTable view keeps has_none k b s u
 tells_from view keeps has_none row k true s t u kept sees set = set
 tells_from view keeps has_none row k false s t u kept sees (null, refused) = (
   null_before (view s) (view t) k sees null,
@@ -125,27 +136,37 @@ tells_from view keeps has_none row k false s t u kept sees (null, refused) = (
     room = refused.room;
     looks = refused.looks;
     none = let none = refused.none in
-        record { before = none.before; after = none.after; kept_before = row s t none.before kept none.kept_before; none = none.none; kept_after = none.kept_after };
+        record {
+          before = none.before;
+          after = none.after;
+          kept_before = row s t none.before kept none.kept_before;
+          none = none.none;
+          kept_after = none.kept_after;
+        };
   },
 )
 
 -- the first of the numbers that are left
-count_first : (f : ℕ → Bool) (n : ℕ) → n < shards → count_by f (words_from (λ i. i) n (shards - n)) ≡ cond (f n) 1 0 + count_by f (words_from (λ i. i) (n + 1) (shards - (n + 1)))
+count_first : (f : ℕ → Bool) (n : ℕ) → n < shards → count_by f (words_from (λ i. i) n (shards - n)) ≡ cond (f n) 1 0 + count_by f
+    (words_from (λ i. i) (n + 1) (shards - (n + 1)))
 count_first f n below =
     let e : shards - n ≡ suc (shards - (n + 1)) = omega arith in
     subst (λ k. count_by f (words_from (λ i. i) n k) ≡ cond (f n) 1 0 + count_by f (words_from (λ i. i) (n + 1) (shards - (n + 1)))) (sym e)
     (sum_by-cons (λ y. cond (f y) 1 0) n (words_from (λ i. i) (n + 1) (shards - (n + 1))))
 
-count_set : (f : ℕ → Bool) (n : ℕ) → n < shards → f n ≡ true → count_by f (words_from (λ i. i) n (shards - n)) ≡ 1 + count_by f (words_from (λ i. i) (n + 1) (shards - (n + 1)))
+count_set : (f : ℕ → Bool) (n : ℕ) → n < shards → f n ≡ true → count_by f (words_from (λ i. i) n (shards - n)) ≡ 1 + count_by f
+    (words_from (λ i. i) (n + 1) (shards - (n + 1)))
 count_set f n below is = count_first f n below ∙ ap (λ b. cond b 1 0 + count_by f (words_from (λ i. i) (n + 1) (shards - (n + 1)))) is
 
-count_unset : (f : ℕ → Bool) (n : ℕ) → n < shards → f n ≡ false → count_by f (words_from (λ i. i) n (shards - n)) ≡ 0 + count_by f (words_from (λ i. i) (n + 1) (shards - (n + 1)))
+count_unset : (f : ℕ → Bool) (n : ℕ) → n < shards → f n ≡ false → count_by f (words_from (λ i. i) n (shards - n)) ≡ 0 + count_by f
+    (words_from (λ i. i) (n + 1) (shards - (n + 1)))
 count_unset f n below is = count_first f n below ∙ ap (λ b. cond b 1 0 + count_by f (words_from (λ i. i) (n + 1) (shards - (n + 1)))) is
 
 -- a table that was made was missing
 pub made_missing : (flags : List Bool) (v w : View) → tables_made (is_flagged flags) v w ≤ tables_missing (is_flagged flags) v
 made_missing flags v w =
-    count_rises (λ k. is_flagged flags k && (sees_table w k && not (sees_table v k))) (λ k. is_flagged flags k && not (sees_table v k)) (words_from (λ i. i) 0 shards)
+    count_rises (λ k. is_flagged flags k && (sees_table w k && not (sees_table v k))) (λ k. is_flagged flags k && not (sees_table v k))
+    (words_from (λ i. i) 0 shards)
     (λ k h both.
     let parts = and_parts (is_flagged flags k) (sees_table w k && not (sees_table v k)) both in
     and_from (is_flagged flags k) (not (sees_table v k)) parts.0 (and_parts (sees_table w k) (not (sees_table v k)) parts.1).1)
@@ -164,7 +185,8 @@ flag_stays (x ∷ xs) (suc n) zero b other = refl
 flag_stays (x ∷ xs) (suc n) (suc k) b other = flag_stays xs n k b (λ e. other (ap suc e))
 
 -- nothing is made yet
-pub made_none : {S : Type 0} (view : S → View) (keeps : S → S → Type 0) (has_none : S → S → ℕ → Looks → Type 0) (flags tables : List Bool) (s : S) → keeps s s
+pub made_none : {S : Type 0} (view : S → View) (keeps : S → S → Type 0) (has_none : S → S → ℕ → Looks → Type 0) (flags tables : List Bool)
+    (s : S) → keeps s s
     → ((k : ℕ) → k < shards → is_flagged flags k ≡ true → IsShard (view s) k) → HasMade view keeps has_none flags tables tables 0 s s
 made_none view keeps has_none flags tables s same each = record {
   each = each;
@@ -180,7 +202,8 @@ made_none view keeps has_none flags tables s same each = record {
   kept = same;
 }
 
-module _ {S : Type 0} (view : S → View) (keeps : S → S → Type 0) (has_none : S → S → ℕ → Looks → Type 0) (flags before tables : List Bool) (n : ℕ) (s t : S) (small : n < shards)
+module _ {S : Type 0} (view : S → View) (keeps : S → S → Type 0) (has_none : S → S → ℕ → Looks → Type 0) (flags before tables : List Bool)
+    (n : ℕ) (s t : S) (small : n < shards)
     (made : HasMade view keeps has_none flags before tables n s t) where
   -- a shard that is not flagged
   pub made_past : is_flagged flags n ≡ false → HasMade view keeps has_none flags before tables (n + 1) s t
@@ -207,16 +230,19 @@ module _ {S : Type 0} (view : S → View) (keeps : S → S → Type 0) (has_none
   }
 
   -- one that is, whose table was tried
-  module _ (u : S) (row : (x y z : S) → keeps x y → keeps y z → keeps x z) (seat : IsSeat (view t)) (flagged : is_flagged flags n ≡ true) (tried : HasTried view keeps n t u) where
+  module _ (u : S) (row : (x y z : S) → keeps x y → keeps y z → keeps x z) (seat : IsSeat (view t)) (flagged : is_flagged flags n ≡ true)
+      (tried : HasTried view keeps n t u) where
     pub answered_on : (image : Image) (rs : List (Request × Reply)) → HasAnswered image rs (view s) → HasAnswered image rs (view u)
     answered_on image rs has = stays_on image rs (view t) (view u) n (λ m. m) small seat (made.answered image rs has) tried.change tried.maps
 
     pub called_on : HasCalled flags (n + 1) (view s) (view u)
     called_on = record {
       count = made.calls.count + 1;
-      row = row_more (512 * made.calls.count + 512) (made.calls.count + 1) (made.calls.count + 1) (512 * (made.calls.count + 1)) (made.calls.count + 1) (made.calls.count + 1) (view s) (view u)
+      row = row_more (512 * made.calls.count + 512) (made.calls.count + 1) (made.calls.count + 1) (512 * (made.calls.count + 1))
+          (made.calls.count + 1) (made.calls.count + 1) (view s) (view u)
           (omega arith) (omega arith) (omega arith)
-          (row_then (512 * made.calls.count) made.calls.count made.calls.count 512 1 (span_of table_bytes) (view s) (view t) (view u) made.calls.row tried.calls);
+          (row_then (512 * made.calls.count) made.calls.count made.calls.count 512 1 (span_of table_bytes) (view s) (view t)
+          (view u) made.calls.row tried.calls);
       left = let first = count_set (is_flagged flags) n small flagged in
           let left = made.calls.left in omega arith;
     }
@@ -225,7 +251,8 @@ module _ {S : Type 0} (view : S → View) (keeps : S → S → Type 0) (has_none
     calls_most =
         let calls = called_on in
         let few : calls.count ≤ flag_count flags = let left = calls.left in omega arith in
-        row_more (512 * calls.count) calls.count calls.count (512 * flag_count flags) (flag_count flags) (flag_count flags) (view s) (view u) (omega arith) few few calls.row
+        row_more (512 * calls.count) calls.count calls.count (512 * flag_count flags) (flag_count flags) (flag_count flags) (view s) (view u)
+        (omega arith) few few calls.row
 
     pub roots_on : (view u).roots ≡ (view s).roots
     roots_on = tried.change.others.roots ∙ made.roots
@@ -281,7 +308,8 @@ module _ {S : Type 0} (view : S → View) (keeps : S → S → Type 0) (has_none
         let more = and_parts (sees_table (view t) k) (not (sees_table (view s) k)) parts.1 in
         let below = numbers_below 0 shards k h in
         and_from (is_flagged flags k) (sees_table (view u) k && not (sees_table (view s) k)) parts.0
-        (and_from (sees_table (view u) k) (not (sees_table (view s) k)) (sees_on (view t) (view u) n k (λ m. m) tried.change (made.each k (omega arith) parts.0) more.0) more.1)
+        (and_from (sees_table (view u) k) (not (sees_table (view s) k))
+        (sees_on (view t) (view u) n k (λ m. m) tried.change (made.each k (omega arith) parts.0) more.0) more.1)
 
     module _ (has : Bool) (tells : TellsTable view keeps has_none n has t u) (none : has ≡ false → (view u).taken ≤ (view t).taken) where
       taken_on : (view u).taken ≤ (view s).taken + tables_made (is_flagged flags) (view s) (view u)
@@ -290,31 +318,42 @@ module _ {S : Type 0} (view : S → View) (keeps : S → S → Type 0) (has_none
         rises : tables_made (is_flagged flags) (view s) (view t) ≤ tables_made (is_flagged flags) (view s) (view u)
         rises = count_rises (shown (view t)) (shown (view u)) (words_from (λ i. i) 0 shards) shown_on
 
-        by_case : (b : Bool) → has ≡ b → TellsTable view keeps has_none n b t u → TableTakes n (view t) (view u) → (view u).taken ≤ (view s).taken + tables_made (is_flagged flags) (view s) (view u)
+        by_case : (b : Bool) → has ≡ b → TellsTable view keeps has_none n b t u → TableTakes n (view t) (view u)
+            → (view u).taken ≤ (view s).taken + tables_made (is_flagged flags) (view s) (view u)
         by_case false is told takes = let few = none is in let more = rises in let was = made.taken in omega arith
         by_case true is told (for_none same) = let more = rises in let was = made.taken in omega arith
         by_case true is told (for_table null few) =
             let gain = count_gains (shown (view t)) (shown (view u)) (words_from (λ i. i) 0 shards) n numbered (hidden null)
             (and_from (is_flagged flags n) (sees_table (view u) n && not (sees_table (view s) n)) flagged
-            (and_from (sees_table (view u) n) (not (sees_table (view s) n)) (value_set ((view u).volatile (root_word n)) told.value told.seen told.some) (null_first null))) shown_on in
+            (and_from (sees_table (view u) n) (not (sees_table (view s) n))
+            (value_set ((view u).volatile (root_word n)) told.value told.seen told.some) (null_first null))) shown_on in
             let was = made.taken in omega arith
 
       pub made_on : (now : List Bool) → is_flagged now n ≡ has → ((k : ℕ) → k ≢ n → is_flagged now k ≡ is_flagged tables k) → Runs (view t) (view u)
           → (ReachesAllHeld (view t) → ReachesAllHeld (view u)) → HasMade view keeps has_none flags before now (n + 1) s u
       made_on now is_has same runs exact = record {
-        each = λ k small_k flagged_k. shard_on (view t) (view u) n (λ m. m) seat small tried.change (λ m. m) k (made.each k small_k flagged_k) tried.maps;
+        each = λ k small_k flagged_k. shard_on (view t) (view u) n (λ m. m) seat small tried.change (λ m. m) k
+            (made.each k small_k flagged_k) tried.maps;
         told = λ k below small_k flagged_k. elim (cases_eq k n) as (λ _. TellsTable view keeps has_none k (is_flagged now k) s u) [
           | inl is ↦ subst (λ j. TellsTable view keeps has_none j (is_flagged now j) s u) (sym is)
-              (subst (λ b. TellsTable view keeps has_none n b s u) (sym is_has) (tells_from view keeps has_none row n has s t u made.kept (made.sees n small flagged) tells))
+              (subst (λ b. TellsTable view keeps has_none n b s u) (sym is_has)
+              (tells_from view keeps has_none row n has s t u made.kept (made.sees n small flagged) tells))
           | inr other ↦ subst (λ b. TellsTable view keeps has_none k b s u) (sym (same k other))
-              (tells_on view keeps has_none row n k (is_flagged tables k) s t u (made.each k small_k flagged_k) tried (made.told k (omega arith) small_k flagged_k))
+              (tells_on view keeps has_none row n k (is_flagged tables k) s t u (made.each k small_k flagged_k) tried
+              (made.told k (omega arith) small_k flagged_k))
         ];
-        others = λ k unflagged. same k (λ e. let clash : true ≡ false = sym flagged ∙ ap (is_flagged flags) (sym e) ∙ unflagged in absurd (cc)) ∙ made.others k unflagged;
-        sees = λ k small_k flagged_k sees. sees_on (view t) (view u) n k (λ m. m) tried.change (made.each k small_k flagged_k) (made.sees k small_k flagged_k sees);
+        others = λ k unflagged. same k (λ e. let clash : true ≡ false = sym flagged ∙ ap (is_flagged flags) (sym e) ∙ unflagged in absurd (cc))
+            ∙ made.others k unflagged;
+        sees = λ k small_k flagged_k sees. sees_on (view t) (view u) n k (λ m. m) tried.change (made.each k small_k flagged_k)
+            (made.sees k small_k flagged_k sees);
         taken = taken_on;
         calls = called_on;
         exact = λ all. exact (made.exact all);
-        done = inr (elim made.done as (λ _. Runs (view s) (view u)) [ inl same ↦ subst (λ x. Runs x (view u)) same runs | inr ran ↦ runs_then (view s) (view t) (view u) ran runs ]);
+        done = inr (elim made.done as (λ _. Runs (view s) (view u)) [
+          | inl same ↦ subst (λ x. Runs x (view u)) same runs
+          | inr ran ↦ runs_then
+              (view s) (view t) (view u) ran runs
+        ]);
         answered = answered_on;
         roots = roots_on;
         kept = kept_on;

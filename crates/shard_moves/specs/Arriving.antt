@@ -52,7 +52,8 @@ pub record StopsAtFirst (old new : List Sent) (v w : View) : Type 0 where
   pub arrives : MayArrive first v w
 
 -- It was stopped at one of them. Those before it are brought in, one after the other, so that a run has come to the moment before it.
-pub record StopsInOne {S : Type 0} (view : S → View) (goes : S → S → Type 0) (has_none : S → S → ℕ → Looks → Type 0) (old new : List Sent) (s t : S) : Type 0 where
+pub record StopsInOne {S : Type 0} (view : S → View) (goes : S → S → Type 0) (has_none : S → S → ℕ → Looks → Type 0) (old new : List Sent)
+    (s t : S) : Type 0 where
   pub brought : List Sent
   pub next : Sent
   pub others : List Sent

@@ -1,4 +1,5 @@
--- Worked examples by computation: what is sent and what comes, what moves are told, which tables were made and why one was not, and how far values are brought in.
+-- Worked examples by computation: what is sent and what comes, what moves are told, which tables were made and why one
+-- was not, and how far values are brought in.
 use Rattle.std.specs.Prelude.{◌≡◌, ℕ, List, [], ◌∷◌, ◌++◌, Option, None, Some, true, false, slice_index, cond, nat_eq, ⊤, refl}
 use Rattle.std.proofs.Common.{arith, ap, subst, sym, inl, inr, ◌∙◌}
 use Rattle.std.specs.List.Sorted.{IsPermutation}
@@ -51,8 +52,14 @@ one_value value is = sym (is.each (stored 0 0) (λ word inside. inl refl)) ∙ i
 -- it is sent besides what was sent before, in whatever order; not with another key or number, and not as nothing
 sends_node : AddsNode 3 9 node (seeing 0 0 0 0) (fifth ∷ []) (fifth ∷ third ∷ []) × AddsNode 3 9 node (seeing 0 0 0 0) (fifth ∷ []) (third ∷ fifth ∷ [])
 sends_node = (
-  record { added = λ value is. subst (λ v. IsPermutation (record { number = 3; key = 9; value = v } ∷ fifth ∷ []) (fifth ∷ third ∷ [])) (sym (one_value value is)) (record { moves = (0, 1) ∷ []; below = (omega arith, omega arith, tt); is = refl }) },
-  record { added = λ value is. subst (λ v. IsPermutation (record { number = 3; key = 9; value = v } ∷ fifth ∷ []) (third ∷ fifth ∷ [])) (sym (one_value value is)) (IsPermutation-refl (third ∷ fifth ∷ [])) },
+  record {
+    added = λ value is. subst (λ v. IsPermutation (record { number = 3; key = 9; value = v } ∷ fifth ∷ []) (fifth ∷ third ∷ []))
+        (sym (one_value value is)) (record { moves = (0, 1) ∷ []; below = (omega arith, omega arith, tt); is = refl });
+  },
+  record {
+    added = λ value is. subst (λ v. IsPermutation (record { number = 3; key = 9; value = v } ∷ fifth ∷ []) (third ∷ fifth ∷ []))
+        (sym (one_value value is)) (IsPermutation-refl (third ∷ fifth ∷ []));
+  },
 )
 
 sends_not : (AddsNode 3 9 node (seeing 0 0 0 0) (fifth ∷ []) (third ∷ []) → ⊥) × (AddsNode 3 8 node (seeing 0 0 0 0) [] (third ∷ []) → ⊥)
@@ -72,7 +79,8 @@ replies = refl
 sends_nothing : (v : View) → SendsFor 3 5 9 Full (fifth ∷ []) (fifth ∷ []) v × SendsFor 3 5 9 Missing [] [] v
 sends_nothing v = (refl, refl)
 
-sends_wrong : (v : View) → (SendsFor 3 5 9 Full [] (third ∷ []) v → ⊥) × (SendsFor 3 5 9 Missing [] (third ∷ []) v → ⊥) × (SendsFor 3 5 9 Done [] [] v → ⊥) × (SendsFor 3 5 8 Done [] (third ∷ []) v → ⊥)
+sends_wrong : (v : View) → (SendsFor 3 5 9 Full [] (third ∷ []) v → ⊥) × (SendsFor 3 5 9 Missing [] (third ∷ []) v → ⊥)
+    × (SendsFor 3 5 9 Done [] [] v → ⊥) × (SendsFor 3 5 8 Done [] (third ∷ []) v → ⊥)
 sends_wrong v = (
   λ sends. let e : third ∷ [] ≡ [] = sends in absurd (cc),
   λ sends. let e : third ∷ [] ≡ [] = sends in absurd (cc),
@@ -82,13 +90,18 @@ sends_wrong v = (
 
 -- something is left, or nothing
 something_left : IsLeft (third ∷ fifth ∷ []) × (IsLeft [] → ⊥)
-something_left = (record { first = third; others = fifth ∷ []; left_are = refl }, λ left. let e : [] ≡ left.first ∷ left.others = left.left_are in absurd (cc))
+something_left = (
+  record { first = third; others = fifth ∷ []; left_are = refl },
+  λ left. let e : [] ≡ left.first ∷ left.others =
+      left.left_are in absurd (cc),
+)
 
 -- nothing comes where nothing is left, and else the first comes: not the last, and not with another key
 nothing_comes : (v : View) → TakesNext (λ (w : View). w) None [] [] v v × (TakesNext (λ (w : View). w) None (third ∷ []) [] v v → ⊥)
 nothing_comes v = ((refl, refl, refl), λ none. let e : third ∷ [] ≡ [] = none.0 in absurd (cc))
 
-comes_not : (b : Block) (v w : View) → (TakesFirst 1 b (third ∷ fifth ∷ []) (third ∷ []) v w → ⊥) × (TakesFirst 8 b (third ∷ []) [] v w → ⊥) × (TakesFirst 9 b [] [] v w → ⊥)
+comes_not : (b : Block) (v w : View) → (TakesFirst 1 b (third ∷ fifth ∷ []) (third ∷ []) v w → ⊥) × (TakesFirst 8 b (third ∷ []) [] v w → ⊥)
+    × (TakesFirst 9 b [] [] v w → ⊥)
 comes_not b v w = (
   λ takes. let e : third ∷ fifth ∷ [] ≡ takes.first ∷ third ∷ [] = takes.left_are in let n : 5 ≡ 3 = ap second_number e in omega arith,
   λ takes. let e : 9 ≡ takes.first.key = ap first_key takes.left_are in let k = takes.key_is in omega arith,
@@ -96,7 +109,8 @@ comes_not b v w = (
 )
 
 -- flags of shards: the first and the third, and none behind the list
-flags : is_flagged (true ∷ false ∷ true ∷ []) 0 ∷ is_flagged (true ∷ false ∷ true ∷ []) 1 ∷ is_flagged (true ∷ false ∷ true ∷ []) 7 ∷ [] ≡ true ∷ false ∷ false ∷ []
+flags : is_flagged (true ∷ false ∷ true ∷ []) 0 ∷ is_flagged (true ∷ false ∷ true ∷ []) 1 ∷ is_flagged
+    (true ∷ false ∷ true ∷ []) 7 ∷ [] ≡ true ∷ false ∷ false ∷ []
 flags = refl
 
 two_flags : flag_count (true ∷ false ∷ true ∷ []) ≡ 2
@@ -108,7 +122,10 @@ value_at i values = Some (slice_index values i)
 
 -- shards 0 and 2 are wanted; shard 0 has a table at first, shard 2 gets one, and so does shard 3, which isn't wanted
 abbrev tables_of : List ℕ → View
-tables_of values = record (seat_with (look_with 0 0) 7) { volatile = λ word. cond (nat_eq word 40) (value_at 0 values) (cond (nat_eq word 42) (value_at 1 values) (cond (nat_eq word 43) (value_at 2 values) None)) }
+tables_of values = record (seat_with (look_with 0 0) 7) {
+  volatile =
+      λ word. cond (nat_eq word 40) (value_at 0 values) (cond (nat_eq word 42) (value_at 1 values) (cond (nat_eq word 43) (value_at 2 values) None));
+}
 
 made_one : tables_made (is_flagged (true ∷ false ∷ true ∷ [])) (tables_of (9 ∷ 0 ∷ 0 ∷ [])) (tables_of (9 ∷ 9 ∷ 9 ∷ [])) ≡ 1
 made_one = refl
@@ -117,7 +134,8 @@ missing_one : tables_missing (is_flagged (true ∷ false ∷ true ∷ [])) (tabl
 missing_one = refl
 
 -- of two superblocks both were taken when the mark was last read, and the seat took none since; not where one was left, nor where it took one since
-no_room : HadNoTableRoom (seat_with (look_with 2 1) 7) × (HadNoTableRoom (seat_with (look_with 1 1) 7) → ⊥) × (HadNoTableRoom (seat_with (look_with 2 0) 7) → ⊥)
+no_room : HadNoTableRoom (seat_with (look_with 2 1) 7) × (HadNoTableRoom (seat_with (look_with 1 1) 7) → ⊥)
+    × (HadNoTableRoom (seat_with (look_with 2 0) 7) → ⊥)
 no_room = (record { past = omega arith; now = refl }, λ had. let past = had.past in omega arith, λ had. let now : 0 ≡ 1 = had.now in omega arith)
 
 -- a shard is told so of such a moment; it is told that it has a table where its root isn't null
@@ -159,14 +177,16 @@ nothing_needed v = (
 
 -- a key that arrives is to be among the keys
 not_listed : (v : View) → ListAllKeys (third ∷ []) v (1 ∷ []) → ⊥
-not_listed v lists = elim (head_or_rest 1 9 [] (lists.coming third (in_head third []))) as (λ _. ⊥) [ inl same ↦ omega (arith, same) | inr rest ↦ in_none 9 rest ]
+not_listed v lists = elim (head_or_rest 1 9 [] (lists.coming third (in_head third []))) as
+    (λ _. ⊥) [ inl same ↦ omega (arith, same) | inr rest ↦ in_none 9 rest ]
 
 none_stops : (xs : List Sent) (x : Sent) (ys : List Sent) → [] ≡ xs ++ (x ∷ ys) → ⊥
 none_stops [] x ys e = absurd (cc)
 none_stops (z ∷ xs) x ys e = absurd (cc)
 
 -- none is brought in where none is left; the last is not brought in before the first; and no stop is at one of none
-brought_not : (v w : View) → ArrivesNext (λ (x : View). x) false [] [] v v × (ArrivesNext (λ (x : View). x) false (third ∷ []) [] v w → ⊥) × (HasArrived (third ∷ fifth ∷ []) (third ∷ []) v w → ⊥)
+brought_not : (v w : View) → ArrivesNext (λ (x : View). x) false [] [] v v × (ArrivesNext (λ (x : View). x) false (third ∷ []) [] v w → ⊥)
+    × (HasArrived (third ∷ fifth ∷ []) (third ∷ []) v w → ⊥)
     × (StopsAtFirst [] [] v w → ⊥) × (StopsInOne (λ (x : View). x) (λ _ _. ⊤) (λ _ _ _ _. ⊤) [] [] v w → ⊥)
 brought_not v w = (
   (refl, refl, refl),

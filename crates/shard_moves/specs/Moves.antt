@@ -19,6 +19,7 @@ reply_of Missing = none
 -- what was sent by the move of this number: where it is done, the value that the map had of the key, to the other key; else nothing
 abbrev pub SendsFor : ℕ → ℕ → ℕ → MoveAnswer → List Sent → List Sent → View → Type 0
 SendsFor number key to Done old new v =
-    (value : List ℕ) × ((map : Map) → GivesMap v (shard_of key) map → map key ≡ Some value) × IsPermutation (record { number = number; key = to; value = value } ∷ old) new
+    (value : List ℕ) × ((map : Map) → GivesMap v (shard_of key) map → map key ≡ Some value)
+    × IsPermutation (record { number = number; key = to; value = value } ∷ old) new
 SendsFor number key to Full old new v = new ≡ old
 SendsFor number key to Missing old new v = new ≡ old

@@ -19,9 +19,11 @@ first_of [] some = absurd (omega (arith, some))
 first_of (x ∷ xs) some = x
 
 -- what is closed has the opened capacity, in both values of each word
-module _ (words : List ℕ) (held : List Block) (workers budget : ℕ) (now kept : List ℕ) (views : List View) (ready : IsReady words held) (closed : IsClosedSound (setup_of words budget workers) now kept views) where
+module _ (words : List ℕ) (held : List Block) (workers budget : ℕ) (now kept : List ℕ) (views : List View) (ready : IsReady words held)
+    (closed : IsClosedSound (setup_of words budget workers) now kept views) where
   fixed : (image : Image) → Mixes (slice_index now) (slice_index kept) image → capacity_of image ≡ capacity_of (slice_index words)
-  fixed image mixes = (mixed_fixed (setup_of words budget workers) (now ++ (kept ++ (closed.drawn ∷ []))) views closed.sound image (mixed_is (setup_of words budget workers) now kept views closed image mixes)).each capacity_word (inl (omega arith))
+  fixed image mixes = (mixed_fixed (setup_of words budget workers) (now ++ (kept ++ (closed.drawn ∷ []))) views closed.sound image
+      (mixed_is (setup_of words budget workers) now kept views closed image mixes)).each capacity_word (inl (omega arith))
 
   pub now_capacity : capacity_of (slice_index now) ≡ capacity_of (slice_index words)
   now_capacity = fixed (slice_index now) (record { each = λ word. inl refl })

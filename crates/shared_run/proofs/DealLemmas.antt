@@ -33,29 +33,35 @@ module _ {X : Type 0} (xs : List X) (x : X) where
   ]
 
 -- there is a room for each request
-pub rooms_long : (image : Image) (all requests : List Request) (rooms : List (List ℕ)) → HaveRoom image all requests rooms → length requests ≤ length rooms
+pub rooms_long : (image : Image) (all requests : List Request) (rooms : List (List ℕ)) → HaveRoom image all requests rooms
+    → length requests ≤ length rooms
 rooms_long image all [] rooms have = omega arith
 rooms_long image all (q ∷ qs) [] have = absurd have
 rooms_long image all (q ∷ qs) (room ∷ rooms) have = let rest = rooms_long image all qs rooms have.1 in omega arith
 
 -- of fresh seats the first ones, and the last one
-module _ (shared : SharedView) (workers : ℕ) (all rest : List SeatView) (last : SeatView) (split : all ≡ rest ++ (last ∷ [])) (fresh : AreFresh shared workers all) where
+module _ (shared : SharedView) (workers : ℕ) (all rest : List SeatView) (last : SeatView) (split : all ≡ rest ++ (last ∷ []))
+    (fresh : AreFresh shared workers all) where
   pub fresh_rest : AreFresh shared workers rest
   fresh_rest = record {
     each = λ i any below.
         let is = fresh.each i any (let long = ap length split ∙ one_longer rest last in omega (arith, long, below)) in
-        subst (λ (s : SeatView). IsSeatOf shared s × IsOpenedFor shared.opening workers i s.view) (ap (λ xs. get_or xs i any) split ∙ at_place rest last any i below) is;
+        subst (λ (s : SeatView). IsSeatOf shared s × IsOpenedFor shared.opening workers i s.view) (ap (λ xs. get_or xs i any) split
+        ∙ at_place rest last any i below) is;
   }
 
   pub fresh_last : IsSeatOf shared last × IsOpenedFor shared.opening workers (length rest) last.view
   fresh_last =
       let is = fresh.each (length rest) last (let long = ap length split ∙ one_longer rest last in omega (arith, long)) in
-      subst (λ (s : SeatView). IsSeatOf shared s × IsOpenedFor shared.opening workers (length rest) s.view) (ap (λ xs. get_or xs (length rest) last) split ∙ at_seam rest last last) is
+      subst (λ (s : SeatView). IsSeatOf shared s × IsOpenedFor shared.opening workers (length rest) s.view)
+      (ap (λ xs. get_or xs (length rest) last) split ∙ at_seam rest last last) is
 
 -- one more in its turn
 module _ {X : Type 0} (worker : X → Worker) (workers : ℕ) where
-  pub turn_push : (xs now : List X) (x : X) → now ≡ xs ++ (x ∷ []) → AreInTurn worker workers xs → (worker x).workers ≡ workers → (worker x).number + length xs + 1 ≡ workers
+  pub turn_push : (xs now : List X) (x : X) → now ≡ xs ++ (x ∷ []) → AreInTurn worker workers xs → (worker x).workers ≡ workers
+      → (worker x).number + length xs + 1 ≡ workers
       → AreInTurn worker workers now
   turn_push xs now x is turns same number = subst (AreInTurn worker workers) (sym is) (record {
-    each = λ i any below. each_place xs x (λ n y. ((worker y).workers ≡ workers) × ((worker y).number + n + 1 ≡ workers)) any (λ n less. turns.each n any less) (same, number) i below;
+    each = λ i any below. each_place xs x (λ n y. ((worker y).workers ≡ workers) × ((worker y).number + n + 1 ≡ workers)) any
+        (λ n less. turns.each n any less) (same, number) i below;
   })

@@ -31,7 +31,8 @@ backwards_long : {X Y : Type 0} (of : X → Y) (xs : List X) → length (backwar
 backwards_long of [] = refl
 backwards_long of (x ∷ xs) = let more = one_longer (backwards of xs) (of x) in let rest = backwards_long of xs in omega arith
 
-at_back : {X Y : Type 0} (of : X → Y) (xs : List X) (i place : ℕ) (d : Y) (any : X) → i + place + 1 ≡ length xs → get_or (backwards of xs) i d ≡ of (get_or xs place any)
+at_back : {X Y : Type 0} (of : X → Y) (xs : List X) (i place : ℕ) (d : Y) (any : X) → i + place + 1 ≡ length xs
+    → get_or (backwards of xs) i d ≡ of (get_or xs place any)
 at_back of [] i place d any both = absurd (omega (arith, both))
 at_back of (x ∷ xs) i zero d any both =
     let long = backwards_long of xs in
@@ -65,7 +66,8 @@ pub record AreTaken (all left : List Ended) (seats : List SeatView) (told : List
   pub carriers_are : carriers ≡ carriers_of taken
   pub stopped_is : stopped ≡ was_stopped taken
 
-pub taken_none : (all : List Ended) (seats : List SeatView) (told : List Queue) (carriers : List CarrierView) → seats ≡ [] → told ≡ [] → carriers ≡ [] → AreTaken all all seats told carriers false
+pub taken_none : (all : List Ended) (seats : List SeatView) (told : List Queue) (carriers : List CarrierView) → seats ≡ [] → told ≡ []
+    → carriers ≡ [] → AreTaken all all seats told carriers false
 taken_none all seats told carriers no_seats no_told no_carriers = record {
   taken = [];
   split = sym (append-nil all);
@@ -76,18 +78,21 @@ taken_none all seats told carriers no_seats no_told no_carriers = record {
 }
 
 -- one more
-pub taken_more : (all left rest : List Ended) (one : Ended) (queue : Queue) (seats now_seats : List SeatView) (told now_told : List Queue) (carriers now_carriers : List CarrierView) (stopped now : Bool)
-    → AreTaken all left seats told carriers stopped → left ≡ rest ++ (one ∷ []) → queue.items ≡ one.worked.replies.items → now_seats ≡ seats ++ (one.worked.seat ∷ []) → now_told ≡ told ++ (queue ∷ [])
+pub taken_more : (all left rest : List Ended) (one : Ended) (queue : Queue) (seats now_seats : List SeatView) (told now_told : List Queue)
+    (carriers now_carriers : List CarrierView) (stopped now : Bool)
+    → AreTaken all left seats told carriers stopped → left ≡ rest ++ (one ∷ []) → queue.items ≡ one.worked.replies.items
+    → now_seats ≡ seats ++ (one.worked.seat ∷ []) → now_told ≡ told ++ (queue ∷ [])
     → now_carriers ≡ carriers ++ one.carriers.items → now ≡ stopped || one.worked.stopped → AreTaken all rest now_seats now_told now_carriers now
-taken_more all left rest one queue seats now_seats told now_told carriers now_carriers stopped now was pops items seats_more told_more carriers_more now_is = record {
-  taken = one ∷ was.taken;
-  split = was.split ∙ ap (λ xs. xs ++ was.taken) pops ∙ append_assoc rest (one ∷ []) was.taken;
-  seats_are = seats_more ∙ ap (λ xs. xs ++ (one.worked.seat ∷ [])) was.seats_are;
-  told_are = ap (map (λ (q : Queue). q.items)) told_more ∙ map-append (λ (q : Queue). q.items) told (queue ∷ [])
-      ∙ ap (λ (xs : List (List Told)). xs ++ (queue.items ∷ [])) was.told_are ∙ ap (λ (r : List Told). told_of was.taken ++ (r ∷ [])) items;
-  carriers_are = carriers_more ∙ ap (λ xs. xs ++ one.carriers.items) was.carriers_are;
-  stopped_is = now_is ∙ ap (λ b. b || one.worked.stopped) was.stopped_is;
-}
+taken_more all left rest one queue seats now_seats told now_told carriers now_carriers stopped now was pops items seats_more told_more
+    carriers_more now_is = record {
+      taken = one ∷ was.taken;
+      split = was.split ∙ ap (λ xs. xs ++ was.taken) pops ∙ append_assoc rest (one ∷ []) was.taken;
+      seats_are = seats_more ∙ ap (λ xs. xs ++ (one.worked.seat ∷ [])) was.seats_are;
+      told_are = ap (map (λ (q : Queue). q.items)) told_more ∙ map-append (λ (q : Queue). q.items) told (queue ∷ [])
+          ∙ ap (λ (xs : List (List Told)). xs ++ (queue.items ∷ [])) was.told_are ∙ ap (λ (r : List Told). told_of was.taken ++ (r ∷ [])) items;
+      carriers_are = carriers_more ∙ ap (λ xs. xs ++ one.carriers.items) was.carriers_are;
+      stopped_is = now_is ∙ ap (λ b. b || one.worked.stopped) was.stopped_is;
+    }
 
 -- a run is stopped where one of the workers was
 either_true : (a b : Bool) → (a || b ≡ true) → (a ≡ true) ⊎ (b ≡ true)
@@ -105,7 +110,8 @@ right_true : (a b : Bool) → b ≡ true → a || b ≡ true
 right_true true b e = refl
 right_true false b e = e
 
-stops_where : (ended : List Ended) → was_stopped ended ≡ true → (at : ℕ) × (at < length ended) × ((any : Ended) → (get_or ended at any).worked.stopped ≡ true)
+stops_where : (ended : List Ended) → was_stopped ended ≡ true → (at : ℕ) × (at < length ended)
+    × ((any : Ended) → (get_or ended at any).worked.stopped ≡ true)
 stops_where [] e = let no : false ≡ true = e in absurd (cc)
 stops_where (one ∷ rest) e = elim (either_true (was_stopped rest) one.worked.stopped e)
     as (λ _. (at : ℕ) × (at < length (one ∷ rest)) × ((any : Ended) → (get_or (one ∷ rest) at any).worked.stopped ≡ true)) [
@@ -119,7 +125,8 @@ so_stopped (one ∷ rest) zero any below is = right_true (was_stopped rest) one.
 so_stopped (one ∷ rest) (suc at) any below is = left_true (was_stopped rest) one.worked.stopped (so_stopped rest at any (omega (arith, below)) is)
 
 -- how many carriers there are, what is so of each, and where there is none
-carriers_long : (ended : List Ended) (count : ℕ → ℕ) → ((i place : ℕ) (any : Ended) → i + place + 1 ≡ length ended → count i ≡ length (get_or ended place any).carriers.items)
+carriers_long : (ended : List Ended) (count : ℕ → ℕ) → ((i place : ℕ) (any : Ended) → i + place + 1 ≡ length ended
+    → count i ≡ length (get_or ended place any).carriers.items)
     → length (carriers_of ended) ≡ sum_over count 0 (length ended)
 carriers_long [] count same = refl
 carriers_long (one ∷ rest) count same =
@@ -129,7 +136,8 @@ carriers_long (one ∷ rest) count same =
     let here : count (0 + length rest) ≡ length one.carriers.items = same (0 + length rest) 0 one (omega arith) in
     omega (arith, long, before, last, here)
 
-each_carrier : (P : CarrierView → Type 0) (ended : List Ended) → ((at : ℕ) (any : Ended) → at < length ended → (c : CarrierView) → Contains (get_or ended at any).carriers.items c → P c)
+each_carrier : (P : CarrierView → Type 0) (ended : List Ended) → ((at : ℕ) (any : Ended) → at < length ended → (c : CarrierView)
+    → Contains (get_or ended at any).carriers.items c → P c)
     → (c : CarrierView) → Contains (carriers_of ended) c → P c
 each_carrier P [] each c there = absurd (in_none c there)
 each_carrier P (one ∷ rest) each c there = elim (Contains-append_cases (carriers_of rest) one.carriers.items c there) as (λ _. P c) [
@@ -137,14 +145,17 @@ each_carrier P (one ∷ rest) each c there = elim (Contains-append_cases (carrie
   | inr here ↦ each 0 one (omega arith) c here
 ]
 
-no_carrier : (ended : List Ended) → ((at : ℕ) (any : Ended) → at < length ended → (get_or ended at any).worked.stopped ≡ false → (get_or ended at any).carriers.items ≡ [])
+no_carrier : (ended : List Ended) → ((at : ℕ) (any : Ended) → at < length ended → (get_or ended at any).worked.stopped ≡ false
+    → (get_or ended at any).carriers.items ≡ [])
     → was_stopped ended ≡ false → carriers_of ended ≡ []
 no_carrier [] none going = refl
 no_carrier (one ∷ rest) none going =
     let both = both_false (was_stopped rest) one.worked.stopped going in
-    ap (λ xs. xs ++ one.carriers.items) (no_carrier rest (λ at any below. none (suc at) any (omega (arith, below))) both.0) ∙ none 0 one (omega arith) both.1
+    ap (λ xs. xs ++ one.carriers.items) (no_carrier rest (λ at any below. none (suc at) any (omega (arith, below))) both.0)
+    ∙ none 0 one (omega arith) both.1
 
-module _ (shared : SharedView) (requests : List Request) (all : List Ended) (seats : List SeatView) (told : List Queue) (carriers : List CarrierView) (stopped : Bool)
+module _ (shared : SharedView) (requests : List Request) (all : List Ended) (seats : List SeatView) (told : List Queue)
+    (carriers : List CarrierView) (stopped : Bool)
     (taken : AreTaken all [] seats told carriers stopped) where
   -- all of them are taken
   abbrev same : all ≡ taken.taken
@@ -222,22 +233,29 @@ module _ (shared : SharedView) (requests : List Request) (all : List Ended) (sea
     queue_at : (i : ℕ) (d : Queue) → i < length all → (get_or told i d).items ≡ (one i).worked.replies.items
     queue_at i d below =
         sym (get_or-map (λ (q : Queue). q.items) told i d d.items (let long = told_long in omega (arith, long, below)))
-        ∙ ap (λ (xs : List (List Told)). get_or xs i d.items) told_all ∙ at_back (λ (x : Ended). x.worked.replies.items) all i (place i) d.items any (omega (arith, below))
+        ∙ ap (λ (xs : List (List Told)). get_or xs i d.items) told_all
+        ∙ at_back (λ (x : Ended). x.worked.replies.items) all i (place i) d.items any (omega (arith, below))
 
     told_at : (i : ℕ) → i < length all → ended.told i ≡ replies_of (one i).worked.replies.items
     told_at i below = ap ended.told (sym (turn i below).1) ∙ (is i).told_is
 
     part_at : (i : ℕ) (d : SeatView) → i < length all
-        → IsPartOf shared requests (length all) i ended.tables (get_or seats i d) (ended.told i) (is i).came (is i).brought ended.halted (one i).worked.stopped
+        → IsPartOf shared requests (length all) i ended.tables (get_or seats i d) (ended.told i) (is i).came (is i).brought ended.halted
+        (one i).worked.stopped
     part_at i d below =
         let w = (one i).worked in
-        subst (λ (s : SeatView). IsPartOf shared requests (length all) i ended.tables s (ended.told i) (is i).came (is i).brought ended.halted w.stopped) (sym (seat_at i d below))
-        (subst (λ (r : Replies). IsPartOf shared requests (length all) i ended.tables w.seat r (is i).came (is i).brought ended.halted w.stopped) (sym (told_at i below))
-        (subst (λ n. IsPartOf shared requests (length all) n ended.tables w.seat (replies_of w.replies.items) (is i).came (is i).brought ended.halted w.stopped) (turn i below).1
-        (subst (λ n. IsPartOf shared requests n w.worker.number ended.tables w.seat (replies_of w.replies.items) (is i).came (is i).brought ended.halted w.stopped) (turn i below).0
+        subst (λ (s : SeatView). IsPartOf shared requests (length all) i ended.tables s (ended.told i) (is i).came
+        (is i).brought ended.halted w.stopped) (sym (seat_at i d below))
+        (subst (λ (r : Replies). IsPartOf shared requests (length all) i ended.tables w.seat r (is i).came
+        (is i).brought ended.halted w.stopped) (sym (told_at i below))
+        (subst (λ n. IsPartOf shared requests (length all) n ended.tables w.seat (replies_of w.replies.items) (is i).came
+        (is i).brought ended.halted w.stopped) (turn i below).1
+        (subst (λ n. IsPartOf shared requests n w.worker.number ended.tables w.seat (replies_of w.replies.items) (is i).came
+        (is i).brought ended.halted w.stopped) (turn i below).0
         (is i).worked.part)))
 
-    sent_at : (i : ℕ) → i < length all → (whole : Map) → IsWholeMap (image_of shared) whole → IsPermutation (all_sent_to (length all) requests whole ended.told i) (is i).came
+    sent_at : (i : ℕ) → i < length all → (whole : Map) → IsWholeMap (image_of shared) whole
+        → IsPermutation (all_sent_to (length all) requests whole ended.told i) (is i).came
     sent_at i below whole of =
         let w = (one i).worked in
         subst (λ n. IsPermutation (all_sent_to (length all) requests whole ended.told n) (is i).came) (turn i below).1
@@ -270,12 +288,15 @@ module _ (shared : SharedView) (requests : List Request) (all : List Ended) (sea
       sorted = λ i below. (is i).sorted;
       sent = sent_at;
       offered = offered_at;
-      accepted = λ i d below. subst (λ (s : SeatView). (length (is i).brought ≤ s.view.accepts) × (s.view.accepts ≤ length (is i).brought + 1)) (sym (seat_at i d below)) (is i).accepted;
-      remain = λ i d below. subst (λ (s : SeatView). s.view.accepts + length (one i).carriers.items ≡ length (is i).came) (sym (seat_at i d below)) (is i).remain;
+      accepted = λ i d below. subst (λ (s : SeatView). (length (is i).brought ≤ s.view.accepts) × (s.view.accepts ≤ length (is i).brought + 1))
+          (sym (seat_at i d below)) (is i).accepted;
+      remain = λ i d below. subst (λ (s : SeatView). s.view.accepts + length (one i).carriers.items ≡ length (is i).came)
+          (sym (seat_at i d below)) (is i).remain;
       carriers_are = ap length carriers_all ∙ carriers_long all (λ i. length (one i).carriers.items)
           (λ i at d both. ap (λ n. length (get_or all n any).carriers.items) (let e : place i ≡ at = omega (arith, both) in e)
           ∙ ap (λ (x : Ended). length x.carriers.items) (get_or_default all at any d (omega (arith, both))));
-      at_table = λ c there. each_carrier (λ k. k.table ≡ shared.table) all (λ at d below. (ended.each at d below).at_table) c (subst (λ cs. Contains cs c) carriers_all there);
+      at_table = λ c there. each_carrier (λ k. k.table ≡ shared.table) all (λ at d below. (ended.each at d below).at_table) c
+          (subst (λ cs. Contains cs c) carriers_all there);
       none_left = λ going. carriers_all ∙ no_carrier all (λ at d below. (ended.each at d below).none_left) (sym stopped_all ∙ going);
       halts = λ halt. let found = ended.halts halt in stopped_all ∙ so_stopped all found.0 any found.1 (found.2 any);
       stopped_by = (
@@ -286,8 +307,11 @@ module _ (shared : SharedView) (requests : List Request) (all : List Ended) (sea
       );
     }
 
-pub parts_of_all : (shared : SharedView) (requests : List Request) (all : List Ended) (seats : List SeatView) (told : List Queue) (carriers : List CarrierView) (stopped : Bool)
-    → AreTaken all [] seats told carriers stopped → HaveEnded shared requests (length all) all → AreParts shared requests (length all) seats told carriers stopped
+pub parts_of_all : (shared : SharedView) (requests : List Request) (all : List Ended) (seats : List SeatView) (told : List Queue)
+    (carriers : List CarrierView) (stopped : Bool)
+    → AreTaken all [] seats told carriers stopped → HaveEnded shared requests (length all) all
+    → AreParts shared requests (length all) seats told carriers stopped
 parts_of_all shared requests [] seats told carriers stopped taken ended = parts_of_none shared requests [] seats told carriers stopped taken refl
 parts_of_all shared requests (one ∷ others) seats told carriers stopped taken ended =
-    parts_of_some shared requests (one ∷ others) seats told carriers stopped taken one (let more : 0 < length (one ∷ others) = omega arith in more) ended
+    parts_of_some shared requests (one ∷ others) seats told carriers stopped taken one (let more : 0 < length (one ∷ others) = omega arith in
+    more) ended

@@ -48,17 +48,20 @@ sum_alike f g from (suc count) same =
     omega arith
 
 -- sums of sums, the other way round
-sum_across : (f : ℕ → ℕ → ℕ) (all from count : ℕ) → sum_over (λ i. sum_over (f i) from count) 0 all ≡ sum_over (λ j. sum_over (λ i. f i j) 0 all) from count
+sum_across : (f : ℕ → ℕ → ℕ) (all from count : ℕ) → sum_over (λ i. sum_over (f i) from count) 0 all ≡ sum_over
+    (λ j. sum_over (λ i. f i j) 0 all) from count
 sum_across f all from zero = sum_none (λ i. 0) 0 all (λ i low high. refl)
 sum_across f all from (suc count) =
-    let each = sum_alike (λ i. sum_over (f i) from (suc count)) (λ i. f i from + sum_over (f i) (from + 1) count) 0 all (λ i low high. sum_step (f i) from count) in
+    let each = sum_alike (λ i. sum_over (f i) from (suc count)) (λ i. f i from + sum_over (f i) (from + 1) count) 0 all
+    (λ i low high. sum_step (f i) from count) in
     let both = sum_both (λ i. f i from) (λ i. sum_over (f i) (from + 1) count) 0 all in
     let rest = sum_across f all (from + 1) count in
     let step = sum_step (λ j. sum_over (λ i. f i j) 0 all) from count in
     omega arith
 
 -- how long lists are that are put together
-flat_long : {X : Type 0} (f : ℕ → List X) (from count : ℕ) → length (flat_map f (words_from (λ i. i) from count)) ≡ sum_over (λ i. length (f i)) from count
+flat_long : {X : Type 0} (f : ℕ → List X) (from count : ℕ) → length (flat_map f (words_from (λ i. i) from count)) ≡ sum_over
+    (λ i. length (f i)) from count
 flat_long f from zero = refl
 flat_long f from (suc count) =
     let a = sum_step (λ i. length (f i)) from count in
@@ -72,7 +75,8 @@ each_goes workers some [] = sum_none (λ worker. 0) 0 workers (λ i low high. re
 each_goes workers some (s ∷ sent) =
     let owner = worker_of workers (shard_of s.key) in
     let below : owner < workers = mod-lt (shard_of s.key) some in
-    let one = sum_one (λ w. cond (nat_eq owner w) 1 0) owner 0 workers (omega arith) (omega (arith, below)) (λ w other. ap (λ b. cond b 1 0) (ne_eqb owner w (λ e. other (sym e)))) in
+    let one = sum_one (λ w. cond (nat_eq owner w) 1 0) owner 0 workers (omega arith) (omega (arith, below))
+    (λ w other. ap (λ b. cond b 1 0) (ne_eqb owner w (λ e. other (sym e)))) in
     let is : cond {A = ℕ} (nat_eq owner owner) 1 0 ≡ 1 = ap (λ b. cond {A = ℕ} b 1 0) (eq-eqb owner owner refl) in
     let rest = each_goes workers some sent in
     let each = sum_alike (λ w. length (sent_to workers w (s ∷ sent))) (λ w. cond (nat_eq owner w) 1 0 + length (sent_to workers w sent)) 0 workers
@@ -99,21 +103,26 @@ all_go workers requests whole told some =
     (λ from low high. each_goes workers some (sent_by_worker workers requests whole from (told from)))
 
 -- a sum over seats is one over their places
-views_total : (of : View → ℕ) (seats : List SeatView) (f : ℕ → ℕ) (from : ℕ) → ((i : ℕ) (any : SeatView) → i < length seats → of (get_or seats i any).view ≡ f (from + i))
+views_total : (of : View → ℕ) (seats : List SeatView) (f : ℕ → ℕ) (from : ℕ)
+    → ((i : ℕ) (any : SeatView) → i < length seats → of (get_or seats i any).view ≡ f (from + i))
     → total of (views_of seats) ≡ sum_over f from (length seats)
 views_total of [] f from same = refl
 views_total of (s ∷ seats) f from same =
     let a = sum_step f from (length seats) in
     let here = same 0 s (omega arith) ∙ ap f (let e : from + 0 ≡ from = omega arith in e) in
-    let rest = views_total of seats f (from + 1) (λ i any below. same (suc i) any (omega arith) ∙ ap f (let e : from + suc i ≡ from + 1 + i = omega arith in e)) in
+    let rest = views_total of seats f (from + 1) (λ i any below. same (suc i) any (omega arith)
+    ∙ ap f (let e : from + suc i ≡ from + 1 + i = omega arith in e)) in
     omega arith
 
-module _ (shared : SharedView) (requests : List Request) (workers : ℕ) (seats : List SeatView) (told : List Queue) (carriers : List CarrierView) (stopped : Bool)
-    (parts : AreParts shared requests workers seats told carriers stopped) (any : SeatView) (some : 1 ≤ workers) (have : HasMaps (image_of shared)) where
+module _ (shared : SharedView) (requests : List Request) (workers : ℕ) (seats : List SeatView) (told : List Queue) (carriers : List CarrierView)
+    (stopped : Bool)
+    (parts : AreParts shared requests workers seats told carriers stopped) (any : SeatView) (some : 1 ≤ workers)
+    (have : HasMaps (image_of shared)) where
   by_number : (of : View → ℕ) → total of (views_of seats) ≡ sum_over (λ i. of (get_or seats i any).view) 0 workers
   by_number of =
       views_total of seats (λ i. of (get_or seats i any).view) 0
-      (λ i d below. ap (λ (s : SeatView). of s.view) (get_or_default seats i d any below) ∙ ap (λ n. of (get_or seats n any).view) (let e : i ≡ 0 + i = omega arith in e))
+      (λ i d below. ap (λ (s : SeatView). of s.view) (get_or_default seats i d any below)
+      ∙ ap (λ n. of (get_or seats n any).view) (let e : i ≡ 0 + i = omega arith in e))
       ∙ ap (sum_over (λ i. of (get_or seats i any).view) 0) parts.seats_long
 
   none_lost : length carriers + total (λ (v : View). v.accepts) (views_of seats) ≡ total (λ (v : View). v.offers) (views_of seats)
@@ -123,9 +132,11 @@ module _ (shared : SharedView) (requests : List Request) (workers : ℕ) (seats 
       let offers = by_number (λ (v : View). v.offers) in
       let left = parts.carriers_are in
       let both = sum_both (λ i. (get_or seats i any).view.accepts) parts.remaining 0 workers in
-      let came = sum_alike (λ i. (get_or seats i any).view.accepts + parts.remaining i) (λ i. length (all_sent_to workers requests whole.0 parts.replies i)) 0 workers
+      let came = sum_alike (λ i. (get_or seats i any).view.accepts + parts.remaining i)
+      (λ i. length (all_sent_to workers requests whole.0 parts.replies i)) 0 workers
       (λ i low high. parts.remain i any (omega (arith, high))
-      ∙ length_permutation (all_sent_to workers requests whole.0 parts.replies i) (parts.came i) (parts.sent i (omega (arith, high)) whole.0 whole.1)) in
+      ∙ length_permutation (all_sent_to workers requests whole.0 parts.replies i) (parts.came i)
+      (parts.sent i (omega (arith, high)) whole.0 whole.1)) in
       let go = all_go workers requests whole.0 parts.replies some in
       let sent = sum_alike (λ i. (get_or seats i any).view.offers) (λ i. length (sent_by_worker workers requests whole.0 i (parts.replies i))) 0 workers
       (λ i low high. (parts.offered i any (omega (arith, high))).count whole.0 whole.1) in

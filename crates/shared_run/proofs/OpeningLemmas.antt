@@ -18,7 +18,8 @@ use Rattle.seat_owners.specs.Owning.{AreOwnersByRoot}
 use Rattle.seat_owners.proofs.OpenedLemmas.{has_root, opened_over, root_of}
 use Rattle.shared_run.specs.Dealing.{AreFresh}
 
-module _ (words : List ℕ) (held : List Block) (workers budget : ℕ) (block_owners root_owners : List ℕ) (ready : IsReady words held) (has : IsDictionary (slice_index words) (Contains held))
+module _ (words : List ℕ) (held : List Block) (workers budget : ℕ) (block_owners root_owners : List ℕ) (ready : IsReady words held)
+    (has : IsDictionary (slice_index words) (Contains held))
     (by_root : AreOwnersByRoot (slice_index words) held workers block_owners root_owners) where
   abbrev view_of : ℕ → View
   view_of = opened_view (setup_of words budget workers) held block_owners root_owners
@@ -34,7 +35,9 @@ module _ (words : List ℕ) (held : List Block) (workers budget : ℕ) (block_ow
     looks = refl;
   }
 
-  pub opened_fresh : (shared : SharedView) (seats : List SeatView) → shared.opening ≡ opening_of (record { words = words; held = held }) (record { held = block_owners; roots = root_owners }) workers budget → AreOpenedSeats shared (opened_view (setup_of words budget workers) held block_owners root_owners) seats
+  pub opened_fresh : (shared : SharedView) (seats : List SeatView)
+      → shared.opening ≡ opening_of (record { words = words; held = held }) (record { held = block_owners; roots = root_owners }) workers budget
+      → AreOpenedSeats shared (opened_view (setup_of words budget workers) held block_owners root_owners) seats
       → AreFresh shared (length seats) seats
   opened_fresh shared seats opening opened = record {
     each = λ i any below.
@@ -51,8 +54,10 @@ module _ (words : List ℕ) (held : List Block) (workers budget : ℕ) (block_ow
             short = idle.1;
             roots_own = λ root inside.
                 subst (λ n. Contains (get_or seats i any).view.roots root ↔ (root_owner n root ≡ i)) all
-                (subst (λ (v : View). Contains v.roots root ↔ (root_owner workers root ≡ i)) (sym is.1)
-                (root_of words held workers budget block_owners root_owners by_root i root, has_root words held workers budget block_owners root_owners by_root i root inside));
+                (subst (λ (v : View). Contains v.roots root ↔ (root_owner workers root ≡ i)) (sym is.1) (
+                  root_of words held workers budget block_owners root_owners by_root i root,
+                  has_root words held workers budget block_owners root_owners by_root i root inside,
+                ));
             opened = λ s seen. subst (λ (image : Image). IsOpenedOver image (heap_view s)) (sym (ap (λ (v : View). slice_index v.setup.opened) is.1))
                 (opened_over words held workers budget block_owners root_owners by_root i ready has small s (seen ∙ is.1));
           },

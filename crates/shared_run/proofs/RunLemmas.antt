@@ -54,7 +54,8 @@ record Ends : Type 0 where
   first : CacheState
   last : CacheState
 
-module _ (shared : SharedView) (requests : List Request) (workers : ℕ) (seats : List SeatView) (told : List Queue) (carriers : List CarrierView) (stopped : Bool)
+module _ (shared : SharedView) (requests : List Request) (workers : ℕ) (seats : List SeatView) (told : List Queue) (carriers : List CarrierView)
+    (stopped : Bool)
     (parts : AreParts shared requests workers seats told carriers stopped) (any : SeatView) (some : 1 ≤ workers) where
   -- those of the worker, or of the first one for a number of none
   ends_by : (i : ℕ) → (i < workers) ⊎ (workers ≤ i) → Ends
@@ -71,7 +72,8 @@ module _ (shared : SharedView) (requests : List Request) (workers : ℕ) (seats 
   last_at i = (ends_at i).last
 
   abbrev IsPartAt : ℕ → CacheState → CacheState → Type 0
-  IsPartAt i s t = IsPart (image_of shared) workers requests i parts.tables (parts.replies i) (parts.came i) (parts.brought i) parts.halted (parts.stops i) s t
+  IsPartAt i s t = IsPart (image_of shared) workers requests i parts.tables (parts.replies i) (parts.came i) (parts.brought i) parts.halted
+      (parts.stops i) s t
 
   -- what is so of them
   record AreEnds (i : ℕ) (e : Ends) : Type 0 where
@@ -101,7 +103,8 @@ module _ (shared : SharedView) (requests : List Request) (workers : ℕ) (seats 
   view_at i inside = (are_at i inside).last_is
 
   views_at : (i : ℕ) (v : View) → i < workers → get_or (views_of seats) i v ≡ (last_at i).view
-  views_at i v inside = get_or-map (λ (s : SeatView). s.view) seats i any v (let long = parts.seats_long in omega (arith, inside, long)) ∙ sym (view_at i inside)
+  views_at i v inside = get_or-map (λ (s : SeatView). s.view) seats i any v (let long = parts.seats_long in omega (arith, inside, long))
+      ∙ sym (view_at i inside)
 
   -- each carrier that is left is one
   carry_at : All (λ (c : CarrierView). IsCarrier c.view) carriers → (v : View) → Contains (carried_views carriers) v → IsCarrier v
@@ -113,10 +116,13 @@ module _ (shared : SharedView) (requests : List Request) (workers : ℕ) (seats 
       subst IsCarrier (sym (get_or-map (λ (c : CarrierView). c.view) carriers there.0 d v below) ∙ there.2) (carry there.0 d below)
 
   -- the whole run, over a dictionary that was opened for so many workers
-  module _ (words : List ℕ) (held : List Block) (budget : ℕ) (ready : IsReady words held) (has : IsDictionary (slice_index words) (Contains held)) (few : workers ≤ 8)
-      (owners : OwnerLists) (by_root : AreOwnersByRoot (slice_index words) held workers owners.held owners.roots) (opened : shared.opening ≡ opening_for words held owners workers budget)
+  module _ (words : List ℕ) (held : List Block) (budget : ℕ) (ready : IsReady words held)
+      (has : IsDictionary (slice_index words) (Contains held)) (few : workers ≤ 8)
+      (owners : OwnerLists) (by_root : AreOwnersByRoot (slice_index words) held workers owners.held owners.roots)
+      (opened : shared.opening ≡ opening_for words held owners workers budget)
       (replies : Replies) (long : length replies ≡ length requests)
-      (order : (worker : ℕ) (queue : Queue) → worker < length told → length (get_or told worker queue).items ≤ length (worker_requests (length told) worker requests)
+      (order : (worker : ℕ) (queue : Queue) → worker < length told → length (get_or told worker queue).items ≤ length
+      (worker_requests (length told) worker requests)
       → worker_replies (length told) worker requests replies ≡ padded (length told) worker requests (replies_of (get_or told worker queue).items)) where
     set_up : setup_for shared.opening ≡ setup_of words budget workers
     set_up = ap setup_for opened
@@ -137,20 +143,24 @@ module _ (shared : SharedView) (requests : List Request) (workers : ℕ) (seats 
         let count = ap length is ∙ length-map (get_or told i other).items reply_of in
         subst (λ (rs : Replies). worker_replies workers i requests replies ≡ padded workers i requests rs) (sym is)
         (subst (λ n. worker_replies n i requests replies ≡ padded n i requests (replies_of (get_or told i other).items)) all
-        (order i other (omega (arith, all, below)) (subst (λ n. length (get_or told i other).items ≤ length (worker_requests n i requests)) (sym all) (omega (arith, short, count)))))
+        (order i other (omega (arith, all, below)) (subst (λ n. length (get_or told i other).items ≤ length (worker_requests n i requests))
+        (sym all) (omega (arith, short, count)))))
 
     -- what came for a worker is what the trace sends there, in its order
     came_at : (whole : Map) → IsWholeMap (slice_index words) whole → (i : ℕ) → i < workers → parts.came i ≡ coming workers i whole requests replies
     came_at whole of i below =
         let all = all_sent_to workers requests whole parts.replies i in
         let mine = coming workers i whole requests replies in
-        let to_one : IsPermutation all mine = filtered_together workers whole requests replies parts.replies some padded_at (λ s. nat_eq (worker_of workers (shard_of s.key)) i) in
+        let to_one : IsPermutation all mine = filtered_together workers whole requests replies parts.replies some padded_at
+        (λ s. nat_eq (worker_of workers (shard_of s.key)) i) in
         sorted_as_sent (λ (s : Sent). s.number) mine (parts.came i)
         (IsPermutation-trans mine all (parts.came i) (IsPermutation-sym all mine to_one) (parts.sent i below whole (whole_at whole of)))
         (in_order workers i whole requests replies) (parts.sorted i below)
 
-    pub have_worked : (now kept left : List ℕ) → All (λ (c : CarrierView). IsCarrier c.view) carriers → IsClosedSound (setup_for shared.opening) now kept (views_of seats ++ carried_views carriers)
-        → IsClosedReached shared.opening now kept (views_of seats ++ carried_views carriers) → length left ≡ length words → IsLeftOf stopped now kept left
+    pub have_worked : (now kept left : List ℕ) → All (λ (c : CarrierView). IsCarrier c.view) carriers
+        → IsClosedSound (setup_for shared.opening) now kept (views_of seats ++ carried_views carriers)
+        → IsClosedReached shared.opening now kept (views_of seats ++ carried_views carriers) → length left ≡ length words
+        → IsLeftOf stopped now kept left
         → HaveWorked words held workers budget requests replies stopped now kept left
     have_worked now kept left carry closed reached left_long left_is = record {
       ready = ready;
@@ -175,16 +185,19 @@ module _ (shared : SharedView) (requests : List Request) (workers : ℕ) (seats 
       brought = parts.brought;
       offered = λ whole of i below. ap (λ (v : View). v.offers) (view_at i below) ∙ (parts.offered i any below).count whole (whole_at whole of);
       accepted = λ i below.
-          subst (λ (v : View). (length (parts.brought i) ≤ v.accepts) × (v.accepts ≤ length (parts.brought i) + 1)) (sym (view_at i below)) (parts.accepted i any below);
+          subst (λ (v : View). (length (parts.brought i) ≤ v.accepts) × (v.accepts ≤ length (parts.brought i) + 1)) (sym (view_at i below))
+          (parts.accepted i any below);
       remaining = parts.remaining;
-      remain = λ i below. subst (λ (v : View). v.accepts + parts.remaining i ≡ length (parts.came i)) (sym (view_at i below)) (parts.remain i any below);
+      remain = λ i below. subst (λ (v : View). v.accepts + parts.remaining i ≡ length (parts.came i)) (sym (view_at i below))
+          (parts.remain i any below);
       carriers_are = length-map carriers (λ (c : CarrierView). c.view) ∙ parts.carriers_are;
       halted = parts.halted;
       halts = parts.halts;
       long = long;
       padded = padded_at;
       came_are = came_at;
-      parts = λ i below. subst (λ (image : Image). IsPart image workers requests i parts.tables (parts.replies i) (parts.came i) (parts.brought i) parts.halted (parts.stops i) (first_at i) (last_at i))
+      parts = λ i below. subst (λ (image : Image). IsPart image workers requests i parts.tables (parts.replies i) (parts.came i)
+          (parts.brought i) parts.halted (parts.stops i) (first_at i) (last_at i))
           image_is (part_at i below);
       fresh = λ i below. subst (λ (o : Opening). IsOpenedFor o workers i (first_at i).view) opened (fresh_at i below);
       views_are = views_at;

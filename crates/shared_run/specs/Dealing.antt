@@ -11,7 +11,8 @@ use Rattle.worker_parts.specs.Begun.{IsOpenedFor}
 
 -- each seat is that of the worker of its place, of so many
 pub record AreFresh (shared : SharedView) (workers : ℕ) (seats : List SeatView) : Type 0 where
-  pub each : (i : ℕ) (any : SeatView) → i < length seats → IsSeatOf shared (get_or seats i any) × IsOpenedFor shared.opening workers i (get_or seats i any).view
+  pub each : (i : ℕ) (any : SeatView) → i < length seats → IsSeatOf shared (get_or seats i any)
+      × IsOpenedFor shared.opening workers i (get_or seats i any).view
 
 -- what is left of the replies of a worker, the first one in front
 abbrev pub Queue : Type 0

@@ -1,11 +1,14 @@
--- Worked examples: in which order chances are dealt, and what a run may not ask of them. Of two workers the second one is given its chance first, and no worker none. A run that was closed takes no word, and one that was stopped takes each.
+-- Worked examples: in which order chances are dealt, and what a run may not ask of them. Of two workers the second one
+-- is given its chance first, and no worker none. A run that was closed takes no word, and one that was stopped takes
+-- each.
 use Rattle.std.specs.Prelude.{◌≡◌, ℕ, ◌+◌, Bool, List, [], ◌∷◌, length, map, slice_index, true, false, refl}
 use Rattle.std.proofs.Common.{arith, ap, ◌∙◌}
 use Rattle.heap_model.specs.Image.{Image}
 use Rattle.crash_image.specs.Crash.{GivesAll, transient_words}
 use Rattle.shared_run.specs.Dealt.{AreDealt, HaveAsked}
 
-two_are_dealt : {C One : Type 0} (gives : C → ℕ → One → C → Type 0) (old next new : C) (second first : One) → gives old 1 second next → gives next 0 first new
+two_are_dealt : {C One : Type 0} (gives : C → ℕ → One → C → Type 0) (old next new : C) (second first : One) → gives old 1 second next
+    → gives next 0 first new
     → AreDealt gives old 2 new
 two_are_dealt gives old next new second first of_one of_zero = (second, next, of_one, (first, new, of_zero, refl))
 

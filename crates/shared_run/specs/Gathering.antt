@@ -14,9 +14,11 @@ use Rattle.worker_run.specs.Said.{replies_of}
 use Rattle.worker_parts.specs.Jobs.{IsPartOf, image_of}
 use Rattle.shared_run.specs.Dealing.{Queue}
 
--- each of the workers did its part, with the seat and the replies of its place: what came for it is what all of them sent to it, in the order of the requests'
+-- each of the workers did its part, with the seat and the replies of its place: what came for it is what all of them
+-- sent to it, in the order of the requests'
 -- numbers; it has offered what it sent, and accepted what is brought in, and the next one at most; a carrier is left of each other one that came
-pub record AreParts (shared : SharedView) (requests : List Request) (workers : ℕ) (seats : List SeatView) (told : List Queue) (carriers : List CarrierView)
+pub record AreParts (shared : SharedView) (requests : List Request) (workers : ℕ) (seats : List SeatView) (told : List Queue)
+    (carriers : List CarrierView)
     (stopped : Bool) : Type 0 where
   pub seats_long : length seats ≡ workers
   pub told_long : length told ≡ workers

@@ -27,7 +27,8 @@ no_later c class is_c is less =
   where
     row : cond (nat_le (size_of c) (size_of class)) (nat_le c class) true ≡ true
     row = at_class (λ k. cond (nat_le (size_of c) (size_of k)) (nat_le c k) true)
-        (at_class (λ j. agree_below (λ k. cond (nat_le (size_of j) (size_of (k + 1))) (nat_le j (k + 1)) true) (λ _. true) last_class) refl c is_c) class is
+        (at_class (λ j. agree_below (λ k. cond (nat_le (size_of j) (size_of (k + 1))) (nat_le j (k + 1)) true) (λ _. true) last_class)
+        refl c is_c) class is
 
 -- the least class for the size of a class is that class
 pub least_of_size : (bytes class other : ℕ) → IsLeastClassFor bytes class → IsClass other → bytes ≡ size_of other → other ≡ class

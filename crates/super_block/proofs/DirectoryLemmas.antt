@@ -24,7 +24,8 @@ divides_more l of found count first next = record { long = length-append of (fou
   each d below = elim (cases_lt d count) as (λ _. DividesAs l d (slice_index_or (of ++ found ∷ []) d None)) [
     | inl before ↦ rw (get_or-append of (found ∷ []) None d (let long = first.long in omega arith)) (first.each d before)
     | inr last ↦ let same : count ≡ d = omega arith in
-        let seam : slice_index_or (of ++ found ∷ []) d None ≡ found = subst (λ i. slice_index_or (of ++ found ∷ []) i None ≡ found) (first.long ∙ same) (get_or-append_seam of found [] None) in
+        let seam : slice_index_or (of ++ found ∷ []) d None ≡ found =
+        subst (λ i. slice_index_or (of ++ found ∷ []) i None ≡ found) (first.long ∙ same) (get_or-append_seam of found [] None) in
         subst (λ o. DividesAs l d o) (sym seam) (subst (λ i. DividesAs l i found) same next)
   ]
 
@@ -33,7 +34,8 @@ few_words : (l : Layout) (d w n : ℕ) → l.used ≤ l.capacity → d < l.used 
 few_words l d w n used taken (of_class c e is) = omega (arith, blocks_fit c is)
 few_words l d w n used taken (as_large k some e end zeros) = omega arith
 
-begun_room : (l : Layout) (d : ℕ) (found : Option Division) → l.used ≤ l.capacity → d < l.used → DividesAs l d found → IfSome found (FitsIn l.capacity d)
+begun_room : (l : Layout) (d : ℕ) (found : Option Division) → l.used ≤ l.capacity → d < l.used → DividesAs l d found
+    → IfSome found (FitsIn l.capacity d)
 begun_room l d None used taken none = tt
 begun_room l d (Some division) used taken begins = record {
   below = omega arith;
@@ -49,10 +51,12 @@ all_have_room l of count used taken first d below =
     begun_room l d (slice_index_or of d None) used (omega arith) (first.each d (omega arith))
 
 -- an offset in a superblock that has not been taken, or begins no block, names nothing
-pub names_none : (l : Layout) (offset : ℕ) (place : Place) → IsPlaceOf l.capacity offset place → DividesTaken l place.superblock None → (b : Block) → NamesIn l offset b → ⊥
+pub names_none : (l : Layout) (offset : ℕ) (place : Place) → IsPlaceOf l.capacity offset place → DividesTaken l place.superblock None
+    → (b : Block) → NamesIn l offset b → ⊥
 names_none l offset place lies none b names =
     let placed = placed_block l offset place b lies names in none placed.is_of.taken placed.words placed.count placed.is_of.begins
 
 -- the offset lies there in the layout that a directory describes too
-pub lies_in : (l : Layout) (directory : Divisions) (offset : ℕ) (place : Place) → Describes directory l → IsPlaceOf directory.capacity offset place → IsPlaceOf l.capacity offset place
+pub lies_in : (l : Layout) (directory : Divisions) (offset : ℕ) (place : Place) → Describes directory l
+    → IsPlaceOf directory.capacity offset place → IsPlaceOf l.capacity offset place
 lies_in l directory offset place is lies = subst (λ c. IsPlaceOf c offset place) is.capacity_is lies

@@ -28,4 +28,5 @@ nothing_begins l d word info says w m (as_large k some e end zeros) = says.1 k s
 
 -- a class begins its blocks
 pub class_begins : (l : Layout) (d c w n : ℕ) → l.info d ≡ c → IsClass c → w ≡ words_of_class c → n ≡ blocks_of c → Begins l d w n
-class_begins l d c w n info is words count = subst (λ n'. Begins l d w n') (sym count) (subst (λ w'. Begins l d w' (blocks_of c)) (sym words) (of_class c info is))
+class_begins l d c w n info is words count = subst (λ n'. Begins l d w n') (sym count)
+    (subst (λ w'. Begins l d w' (blocks_of c)) (sym words) (of_class c info is))

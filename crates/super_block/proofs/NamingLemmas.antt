@@ -30,7 +30,8 @@ found_block l offset capacity place division b found whole below first size = re
   };
 } where
   at : b.first_word ≡ start_word l.capacity place.superblock + place.within / division.words * division.words
-  at = let sum : division.words * (place.within / division.words) + place.within % division.words ≡ place.within = div-add-mod place.within division.words in
+  at = let sum : division.words * (place.within / division.words) + place.within % division.words ≡ place.within =
+      div-add-mod place.within division.words in
       let same = found.capacity_is in omega (arith, mul_comm (place.within / division.words) division.words)
 
 -- a named block lies in the superblock of the offset, and begins at its place there
@@ -57,16 +58,19 @@ placed_block l offset place b lies names =
     }
 
 -- an offset past the taken superblocks names nothing
-pub past_taken : (l : Layout) (offset : ℕ) (place : Place) → IsPlaceOf l.capacity offset place → l.used ≤ place.superblock → (b : Block) → NamesIn l offset b → ⊥
+pub past_taken : (l : Layout) (offset : ℕ) (place : Place) → IsPlaceOf l.capacity offset place → l.used ≤ place.superblock → (b : Block)
+    → NamesIn l offset b → ⊥
 past_taken l offset place lies past b names = let placed = placed_block l offset place b lies names in omega (arith, placed.is_of.taken)
 
 -- nor one in a superblock that begins no blocks
-pub undivided : (l : Layout) (offset : ℕ) (place : Place) → IsPlaceOf l.capacity offset place → DividesAs l place.superblock None → (b : Block) → NamesIn l offset b → ⊥
+pub undivided : (l : Layout) (offset : ℕ) (place : Place) → IsPlaceOf l.capacity offset place → DividesAs l place.superblock None → (b : Block)
+    → NamesIn l offset b → ⊥
 undivided l offset place lies none b names =
     let placed = placed_block l offset place b lies names in none placed.words placed.count placed.is_of.begins
 
 -- nor one in a superblock that begins some, at no multiple of their size
-pub no_multiple : (l : Layout) (offset capacity : ℕ) (place : Place) (division : Division) → IsFound l offset capacity place division → 1 ≤ division.words
+pub no_multiple : (l : Layout) (offset capacity : ℕ) (place : Place) (division : Division) → IsFound l offset capacity place division
+    → 1 ≤ division.words
     → ((place.within % division.words ≡ 0) → division.count ≤ place.within / division.words) → (b : Block) → NamesIn l offset b → ⊥
 no_multiple l offset capacity place division found some past b names =
     let lies = subst (λ c. IsPlaceOf c offset place) found.capacity_is found.lies in

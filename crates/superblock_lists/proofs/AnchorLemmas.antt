@@ -19,11 +19,13 @@ use Rattle.superblock_lists.proofs.PopLemmas.{drawn_as}
 use Rattle.seat_costs.specs.Rows.{HasDrawn, Parts, parts}
 
 pub anchor_looked : (v u w : View) (d anchor : ℕ) → HasDrawn v u → IsEvent (LookAnchor d) u anchor w → HasSeenAnchor d anchor v w
-anchor_looked v u w d anchor drawn event = subst (HasSeenAnchor d anchor v) (sym left) (record { ran = drawn.went; going = drawn.went; room = drawn.room; more = omega arith; parts_are = refl; is_seen = refl }) where
-  left : w ≡ record (drawn_as v drawn.ticket u) { ticket = None; seen_anchor = anchor_seen d anchor }
-  left = event.after ∙ ap (λ (x : View). record (used_up x) { seen_anchor = anchor_seen d anchor }) drawn.left
+anchor_looked v u w d anchor drawn event = subst (HasSeenAnchor d anchor v) (sym left)
+    (record { ran = drawn.went; going = drawn.went; room = drawn.room; more = omega arith; parts_are = refl; is_seen = refl }) where
+      left : w ≡ record (drawn_as v drawn.ticket u) { ticket = None; seen_anchor = anchor_seen d anchor }
+      left = event.after ∙ ap (λ (x : View). record (used_up x) { seen_anchor = anchor_seen d anchor }) drawn.left
 
-pub anchor_of_class : (v u w : View) (d found : ℕ) → HasDrawn v u → IsEvent (LookAnchor d) u found w → 0 < times_classed d v.classed → anchor_state found < 2
+pub anchor_of_class : (v u w : View) (d found : ℕ) → HasDrawn v u → IsEvent (LookAnchor d) u found w → 0 < times_classed d v.classed
+    → anchor_state found < 2
 anchor_of_class v u w d found drawn event some =
     let of = (event.before.sound.good.claims event.before.seat u event.before.below event.before.at).is_classed d
     (subst (λ (x : View). 0 < times_classed d x.classed) (sym drawn.left) some) in
@@ -46,7 +48,8 @@ module _ (v : View) (has : HasSoundState v) (class d : ℕ) (claim : IsClaimOf c
   claim_look = inl claim_free
 
   -- it is claimed no more once it is pushed
-  pub claim_pushed : (t w : View) (list : ℕ) → parts t ≡ parts v → HasPushed list d 3 t w → parts w ≡ record (parts v) { classed = without_claim d v.classed }
+  pub claim_pushed : (t w : View) (list : ℕ) → parts t ≡ parts v → HasPushed list d 3 t w
+      → parts w ≡ record (parts v) { classed = without_claim d v.classed }
   claim_pushed t w list same pushed = pushed.parts_are ∙ ap (without_claim_of d) same
       ∙ skip (nat_lt 0 (times d v.raw + times d v.split)) _ _ (not-lt 0 (times d v.raw + times d v.split) (let none = raw_none in omega arith))
 
@@ -59,7 +62,8 @@ claim_still v t d class same claim = record {
 }
 
 -- with a class, it is claimed with that
-pub claim_added : (class d : ℕ) (p : Parts) → IsClass class → with_claim class d p ≡ record p { classed = record { descriptor = d; class = class } ∷ p.classed }
+pub claim_added : (class d : ℕ) (p : Parts) → IsClass class → with_claim class d p ≡
+    record p { classed = record { descriptor = d; class = class } ∷ p.classed }
 claim_added zero d p is = absurd (let f = is.some in omega arith)
 claim_added (suc class) d p is = refl
 

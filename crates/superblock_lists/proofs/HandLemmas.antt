@@ -28,7 +28,8 @@ popped_claim : (list d : ℕ) (v w : View) → HasPopped list d v w → 0 < time
 popped_claim zero d v w is = subst (λ p. 0 < claims d p) (sym is.parts_are) (let here = eq-eqb-one d d refl in omega arith)
 popped_claim (suc class) d v w is = subst (λ p. 0 < claims d p) (sym is.parts_are) (let here = eq-eqb-one d d refl in omega arith)
 
-pub alone : ((v : View) (s : HasSoundState v) (d : ℕ) → 0 < times_claimed d v → (j : ℕ) (u : View) → j ≢ s.seat → j < length s.views → get_or s.views j u ≡ u → times_claimed d u ≡ 0)
+pub alone : ((v : View) (s : HasSoundState v) (d : ℕ) → 0 < times_claimed d v → (j : ℕ) (u : View) → j ≢ s.seat → j < length s.views
+    → get_or s.views j u ≡ u → times_claimed d u ≡ 0)
     → (list : ℕ) (v w : View) (pop : Pop) → Pops list pop v w → IsInThisHandAlone pop w
 alone one list v w (Empty head) is = tt
 alone one list v w (Got d) is = let claimed = popped_claim list d v w is in (claimed, λ s. one w s d claimed)
@@ -42,25 +43,31 @@ module _ (v : View) (has : HasSoundState v) (d : ℕ) (claimed : 0 < times_claim
       let p = has.sound.good.shaped.placed.one_place d in
       let one = one_at_most (nat_lt d (used (memory_of v.setup.capacity has.words))) in omega arith
 
-  none_raw : 0 < times d v.raw + times d v.split → times d (without d v.raw) + times d (without d v.split) + times d v.cutting + times_classed d v.classed ≡ 0
+  none_raw : 0 < times d v.raw + times d v.split → times d (without d v.raw) + times d
+      (without d v.split) + times d v.cutting + times_classed d v.classed ≡ 0
   none_raw some = elim (cases_lt 0 (times d v.raw)) [
-    | inl raw ↦ let o = once in let one = eq-eqb-one d d refl in let less = times_without d d v.raw raw in let same = without_none d d v.split (omega arith) in omega arith
-    | inr none ↦ let o = once in let one = eq-eqb-one d d refl in let less = times_without d d v.split (omega arith) in let same = without_none d d v.raw (omega arith) in omega arith
+    | inl raw ↦ let o = once in let one = eq-eqb-one d d refl in let less = times_without d d v.raw raw in
+        let same = without_none d d v.split (omega arith) in omega arith
+    | inr none ↦ let o = once in let one = eq-eqb-one d d refl in let less = times_without d d v.split (omega arith) in
+        let same = without_none d d v.raw (omega arith) in omega arith
   ]
 
-  none_classed : times d v.raw + times d v.split ≡ 0 → times d v.cutting ≡ 0 → times d v.raw + times d v.split + times d v.cutting + times_classed d (without_claim d v.classed) ≡ 0
+  none_classed : times d v.raw + times d v.split ≡ 0 → times d v.cutting ≡ 0
+      → times d v.raw + times d v.split + times d v.cutting + times_classed d (without_claim d v.classed) ≡ 0
   none_classed none whole = let o = once in let one = eq-eqb-one d d refl in let less = times_without_claim d d v.classed (omega arith) in omega arith
 
   pub none_left : (w : View) → times d v.cutting ≡ 0 → parts w ≡ without_claim_of d (parts v) → times_claimed d w ≡ 0
-  none_left w whole same = ap (claims d) same ∙ elim (cases_lt 0 (times d v.raw + times d v.split)) as (λ _. claims d (without_claim_of d (parts v)) ≡ 0) [
-    | inl some ↦ ap (λ test. claims d (cond test raw_off class_off)) (lt-ltb 0 (times d v.raw + times d v.split) some) ∙ none_raw some
-    | inr none ↦ ap (λ test. claims d (cond test raw_off class_off)) (not-lt 0 (times d v.raw + times d v.split) none) ∙ none_classed (omega arith) whole
-  ] where
-    raw_off : Parts
-    raw_off = record (parts v) { raw = without d v.raw; split = without d v.split }
+  none_left w whole same = ap (claims d) same ∙ elim (cases_lt 0 (times d v.raw + times d v.split)) as
+      (λ _. claims d (without_claim_of d (parts v)) ≡ 0) [
+        | inl some ↦ ap (λ test. claims d (cond test raw_off class_off)) (lt-ltb 0 (times d v.raw + times d v.split) some) ∙ none_raw some
+        | inr none ↦ ap (λ test. claims d (cond test raw_off class_off)) (not-lt 0 (times d v.raw + times d v.split) none)
+            ∙ none_classed (omega arith) whole
+      ] where
+        raw_off : Parts
+        raw_off = record (parts v) { raw = without d v.raw; split = without d v.split }
 
-    class_off : Parts
-    class_off = record (parts v) { classed = without_claim d v.classed }
+        class_off : Parts
+        class_off = record (parts v) { classed = without_claim d v.classed }
 
 -- one that was pushed is claimed no more
 pub pushed_free : (v w : View) → HasSoundState v → (d list : ℕ) → CanList v d list → HasPushed list d 3 v w → times_claimed d w ≡ 0

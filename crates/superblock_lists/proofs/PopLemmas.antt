@@ -28,32 +28,86 @@ use Rattle.seat_costs.proofs.RowLemmas.{not_both, stops_later, view_row_none, vi
 
 -- the parts as the core's lemmas name them
 abbrev as_core : Parts → CoreParts
-as_core p = record { setup = p.setup; small = p.small; large = p.large; roots = p.roots; caches = p.caches; batch = p.batch; raw = p.raw; split = p.split; cutting = p.cutting; classed = p.classed }
+as_core p = record {
+  setup = p.setup;
+  small = p.small;
+  large = p.large;
+  roots = p.roots;
+  caches = p.caches;
+  batch = p.batch;
+  raw = p.raw;
+  split = p.split;
+  cutting = p.cutting;
+  classed = p.classed;
+}
 
 -- the same parts own the same words
 pub still_owns : (v w : View) → parts w ≡ parts v → (k : ℕ) → Owns v k → Owns w k
 still_owns v w same k own =
-    let cell = own_same v w (ap as_core same) (cell_at w.setup.capacity k) in let at = ap (λ (p : Parts). times_own v (cell_at p.setup.capacity k)) same in omega arith
+    let cell = own_same v w (ap as_core same) (cell_at w.setup.capacity k) in
+    let at = ap (λ (p : Parts). times_own v (cell_at p.setup.capacity k)) same in omega arith
 
 -- after the head and the link
-pub sees_first : (v t u : View) (list head first : ℕ) → SeesHead list head v t → SeesLink t u → first ≡ head_first head → first ≢ 0 → SeesFirst list (first - 1) u
+pub sees_first : (v t u : View) (list head first : ℕ) → SeesHead list head v t → SeesLink t u → first ≡ head_first head → first ≢ 0
+    → SeesFirst list (first - 1) u
 sees_first v t u list head first seen link is some = record { head = head; is_seen = link.head ∙ seen.is_seen; first = omega arith; link = link.link }
 
 -- looks that stay
 same_looks : (list : ℕ) (v w : View) → w.used_look ≡ v.used_look → w.head_looks ≡ v.head_looks → KeepsOtherLooks list v w
-same_looks list v w used heads = record { used = used; heads = λ other apart. ap (λ looks. get_or looks other w.used_look) heads ∙ ap (get_or v.head_looks other) used }
+same_looks list v w used heads = record {
+  used = used;
+  heads = λ other apart. ap (λ looks. get_or looks other w.used_look) heads
+      ∙ ap (get_or v.head_looks other) used;
+}
 
 pub others_then : (list : ℕ) (v t w : View) → KeepsOtherLooks list v t → KeepsOtherLooks list t w → KeepsOtherLooks list v w
 others_then list v t w p q = record { used = q.used ∙ p.used; heads = λ other apart. q.heads other apart ∙ p.heads other apart }
 
 pub goes_then : (v t u : View) → GoesOn v t → GoesOn t u → GoesOn v u
-goes_then v t u p q = record { ran = p.ran; going = q.going; room = p.room; more = let x = p.more in let y = q.more in omega arith; parts_are = q.parts_are ∙ p.parts_are; wins = q.wins ∙ p.wins; losses = q.losses ∙ p.losses; taken = q.taken ∙ p.taken; cuts = q.cuts ∙ p.cuts; anchor = q.anchor ∙ p.anchor; words = λ k own. word_then v t u k (p.words k own) (q.words k (still_owns v t p.parts_are k own)) }
+goes_then v t u p q = record {
+  ran = p.ran;
+  going = q.going;
+  room = p.room;
+  more = let x = p.more in let y = q.more in omega arith;
+  parts_are = q.parts_are ∙ p.parts_are;
+  wins = q.wins ∙ p.wins;
+  losses = q.losses ∙ p.losses;
+  taken = q.taken ∙ p.taken;
+  cuts = q.cuts ∙ p.cuts;
+  anchor = q.anchor ∙ p.anchor;
+  words = λ k own. word_then v t u k (p.words k own)
+      (q.words k (still_owns v t p.parts_are k own));
+}
 
 -- the exchange
 won_parts : (list d : ℕ) (v w : View) (ticket : ℕ) (volatile durable : _) → v.stopped ≡ None → v.draws < v.setup.budget
-    → w ≡ claimed (record (won (record (drew v ticket) { volatile = volatile; durable = durable })) { seen_head = None; seen_link = None; seen_anchor = cleared d 1 v.seen_anchor }) d list → HasPopped list d v w
-won_parts zero d v w ticket volatile durable going room after = subst (HasPopped zero d v) (sym after) (record { ran = going; going = going; room = room; more = omega arith; parts_are = refl; durable = omega arith; wins = refl; others = record { used = refl; heads = λ other apart. refl } })
-won_parts (suc class) d v w ticket volatile durable going room after = subst (HasPopped (suc class) d v) (sym after) (record { ran = going; going = going; room = room; more = omega arith; parts_are = refl; durable = omega arith; wins = refl; others = record { used = refl; heads = λ other apart. refl } })
+    → w ≡ claimed (record (won (record (drew v ticket) { volatile = volatile; durable = durable })) {
+      seen_head = None;
+      seen_link = None;
+      seen_anchor = cleared d 1 v.seen_anchor;
+    }) d list → HasPopped list d v w
+won_parts zero d v w ticket volatile durable going room after = subst (HasPopped zero d v) (sym after)
+    (record {
+      ran = going;
+      going = going;
+      room = room;
+      more = omega arith;
+      parts_are = refl;
+      durable = omega arith;
+      wins = refl;
+      others = record { used = refl; heads = λ other apart. refl };
+    })
+won_parts (suc class) d v w ticket volatile durable going room after =
+    subst (HasPopped (suc class) d v) (sym after) (record {
+      ran = going;
+      going = going;
+      room = room;
+      more = omega arith;
+      parts_are = refl;
+      durable = omega arith;
+      wins = refl;
+      others = record { used = refl; heads = λ other apart. refl };
+    })
 
 add-one : (d : ℕ) → d + 1 ≡ suc d
 add-one d = omega arith
@@ -61,14 +115,21 @@ add-one d = omega arith
 abbrev pub drawn_as : View → ℕ → View → View
 drawn_as v ticket u = record (drew v ticket) { volatile = u.volatile; durable = u.durable }
 
-pub pop_wins : (v u w : View) (list d found : ℕ) → HasDrawn v u → SeesFirst list d v → IsEvent Pop u found w → found ≡ seen_word u.seen_head → HasPopped list d v w
+pub pop_wins : (v u w : View) (list d found : ℕ) → HasDrawn v u → SeesFirst list d v → IsEvent Pop u found w → found ≡ seen_word u.seen_head
+    → HasPopped list d v w
 pop_wins v u w list d found drawn sees event same = won_parts list d v w drawn.ticket u.volatile u.durable drawn.went drawn.room
     (pop_won u w found event same
     ∙ ap (λ (x : View). popped x (before (head_first (seen_word x.seen_head)))) drawn.left
-    ∙ ap (λ n. popped (drawn_as v drawn.ticket u) n) (ap (λ (s : Option Snapshot). before (head_first (seen_word s))) sees.is_seen ∙ ap before (sees.first ∙ add-one d))
-    ∙ ap (λ (s : Option Snapshot). claimed (record (won (drawn_as v drawn.ticket u)) { seen_head = None; seen_link = None; seen_anchor = cleared d 1 v.seen_anchor }) d (seen_of s)) sees.is_seen)
+    ∙ ap (λ n. popped (drawn_as v drawn.ticket u) n) (ap (λ (s : Option Snapshot). before (head_first (seen_word s))) sees.is_seen
+    ∙ ap before (sees.first ∙ add-one d))
+    ∙ ap (λ (s : Option Snapshot). claimed (record (won (drawn_as v drawn.ticket u)) {
+      seen_head = None;
+      seen_link = None;
+      seen_anchor = cleared d 1 v.seen_anchor;
+    }) d (seen_of s)) sees.is_seen)
 
-pub pop_loses : (list : ℕ) (v u w : View) (found : ℕ) → HasDrawn v u → ViewRow one_draw v u → IsEvent Pop u found w → found ≢ seen_word u.seen_head → HasLost list 1 v w
+pub pop_loses : (list : ℕ) (v u w : View) (found : ℕ) → HasDrawn v u → ViewRow one_draw v u → IsEvent Pop u found w
+    → found ≢ seen_word u.seen_head → HasLost list 1 v w
 pop_loses list v u w found drawn row event other = record {
   ran = drawn.went;
   going = ap (λ (x : View). x.stopped) left ∙ drawn.went;
@@ -86,16 +147,20 @@ pop_loses list v u w found drawn row event other = record {
   left : w ≡ record (lost (drawn_as v drawn.ticket u) found) { seen_head = None }
   left = pop_lost u w found event other ∙ ap (λ (x : View). record (lost x found) { seen_head = None }) drawn.left
 
-pub exchanged : (v u w : View) (list d found : ℕ) (won : Bool) (result : Result ⊤ ℕ) → HasDrawn v u → ViewRow one_draw v u → SeesFirst list d v → IsEvent Pop u found w → Tells (seen_word u.seen_head) found result
+pub exchanged : (v u w : View) (list d found : ℕ) (won : Bool) (result : Result ⊤ ℕ) → HasDrawn v u → ViewRow one_draw v u → SeesFirst list d v
+    → IsEvent Pop u found w → Tells (seen_word u.seen_head) found result
     → won ≡ is_ok result → Exchanges list d won v w
-exchanged v u w list d found won (Ok x) drawn row sees event told is = subst (λ b. Exchanges list d b v w) (sym is) (pop_wins v u w list d found drawn sees event told)
-exchanged v u w list d found won (Err x) drawn row sees event told is = subst (λ b. Exchanges list d b v w) (sym is) (pop_loses list v u w found drawn row event told.1)
+exchanged v u w list d found won (Ok x) drawn row sees event told is =
+    subst (λ b. Exchanges list d b v w) (sym is) (pop_wins v u w list d found drawn sees event told)
+exchanged v u w list d found won (Err x) drawn row sees event told is =
+    subst (λ b. Exchanges list d b v w) (sym is) (pop_loses list v u w found drawn row event told.1)
 
 -- said of an earlier view
 pub claims_alike : (list d : ℕ) (p q : Parts) → p ≡ q → with_claim list d p ≡ with_claim list d q
 claims_alike list d p q same = ap (with_claim list d) same
 
-pub popped_later : {a : Costs} (v t w : View) (list d : ℕ) → v.stopped ≡ None → parts t ≡ parts v → t.wins ≡ v.wins → KeepsOtherLooks list v t → ViewRow a v t → HasPopped list d t w → HasPopped list d v w
+pub popped_later : {a : Costs} (v t w : View) (list d : ℕ) → v.stopped ≡ None → parts t ≡ parts v → t.wins ≡ v.wins → KeepsOtherLooks list v t
+    → ViewRow a v t → HasPopped list d t w → HasPopped list d v w
 popped_later v t w list d ran same wins others row popped = record {
   ran = ran;
   going = popped.going;
@@ -107,8 +172,23 @@ popped_later v t w list d ran same wins others row popped = record {
   others = others_then list v t w others popped.others;
 }
 
-pub lost_later : {n m : ℕ} (list : ℕ) (v t w : View) → GoesOn v t → KeepsOtherLooks list v t → ViewRow (record no_costs { draws = n }) v t → HasLost list m t w → HasLost list (n + m) v w
-lost_later list v t w p others row lost = record { ran = p.ran; going = lost.going; room = p.room; more = let x = p.more in let y = lost.more in omega arith; parts_are = lost.parts_are ∙ p.parts_are; wins = lost.wins ∙ p.wins; losses = lost.losses ∙ ap (λ n. n + 1) p.losses; taken = lost.taken ∙ p.taken; cuts = lost.cuts ∙ p.cuts; others = others_then list v t w others lost.others; row = view_row_then v t w row lost.row; unseen = lost.unseen }
+pub lost_later : {n m : ℕ} (list : ℕ) (v t w : View) → GoesOn v t → KeepsOtherLooks list v t → ViewRow (record no_costs { draws = n }) v t
+    → HasLost list m t w → HasLost list (n + m) v w
+lost_later list v t w p others row lost = record {
+  ran = p.ran;
+  going = lost.going;
+  room = p.room;
+  more = let x = p.more in let y = lost.more in
+      omega arith;
+  parts_are = lost.parts_are ∙ p.parts_are;
+  wins = lost.wins ∙ p.wins;
+  losses = lost.losses ∙ ap (λ n. n + 1) p.losses;
+  taken = lost.taken ∙ p.taken;
+  cuts = lost.cuts ∙ p.cuts;
+  others = others_then list v t w others lost.others;
+  row = view_row_then v t w row lost.row;
+  unseen = lost.unseen;
+}
 
 -- how far the tries have come
 pub record Trying (list : ℕ) (v t : View) : Type 0 where
@@ -123,11 +203,28 @@ pub record Trying (list : ℕ) (v t : View) : Type 0 where
   pub fresh : (t ≡ v) ⊎ (t.stopped ≡ None)
 
 pub tries_begin : (list : ℕ) (v : View) → Trying list v v
-tries_begin list v = record { row = view_row_none v; parts_are = refl; wins = refl; taken = refl; cuts = refl; others = same_looks list v v refl refl; both = λ ran. ran; idle = λ step stop. refl; fresh = inl refl }
+tries_begin list v = record {
+  row = view_row_none v;
+  parts_are = refl;
+  wins = refl;
+  taken = refl;
+  cuts = refl;
+  others = same_looks list v v refl refl;
+  both = λ ran. ran;
+  idle = λ step stop. refl;
+  fresh = inl refl;
+}
 
 pub tries_on : (list : ℕ) (v t w : View) → Trying list v t → HasLost list 3 t w → Trying list v w
 tries_on list v t w trying lost = record {
-  row = view_row_within no_costs v w (record { draws = omega arith; wins = omega arith; gives = omega arith; cuts = omega arith; taken = omega arith; moves = omega arith }) (view_row_then v t w trying.row lost.row);
+  row = view_row_within no_costs v w (record {
+    draws = omega arith;
+    wins = omega arith;
+    gives = omega arith;
+    cuts = omega arith;
+    taken = omega arith;
+    moves = omega arith;
+  }) (view_row_then v t w trying.row lost.row);
   parts_are = lost.parts_are ∙ trying.parts_are;
   wins = lost.wins ∙ trying.wins;
   taken = lost.taken ∙ trying.taken;
@@ -145,8 +242,21 @@ tries_stop list v t w step trying stop = elim trying.fresh [
 ]
 
 pub tries_done : (v t w : View) (list : ℕ) (pop : PopAnswer) → Trying list v t → Pops list pop t w → Pops list pop v w
-tries_done v t w list (Got d) trying popped = popped_later v t w list d (trying.both popped.ran) trying.parts_are trying.wins trying.others trying.row popped
-tries_done v t w list (Empty head) trying empty = record { ran = trying.both empty.ran; going = empty.going; parts_are = empty.parts_are ∙ trying.parts_are; wins = empty.wins ∙ trying.wins; taken = empty.taken ∙ trying.taken; cuts = empty.cuts ∙ trying.cuts; is_seen = empty.is_seen; none = empty.none; look = empty.look; others = others_then list v t w trying.others empty.others; later = let x = trying.row.passes.next in let y = empty.later in omega arith }
+tries_done v t w list (Got d) trying popped = popped_later v t w list d
+    (trying.both popped.ran) trying.parts_are trying.wins trying.others trying.row popped
+tries_done v t w list (Empty head) trying empty = record {
+  ran = trying.both empty.ran;
+  going = empty.going;
+  parts_are = empty.parts_are ∙ trying.parts_are;
+  wins = empty.wins ∙ trying.wins;
+  taken = empty.taken ∙ trying.taken;
+  cuts = empty.cuts ∙ trying.cuts;
+  is_seen = empty.is_seen;
+  none = empty.none;
+  look = empty.look;
+  others = others_then list v t w trying.others empty.others;
+  later = let x = trying.row.passes.next in let y = empty.later in omega arith;
+}
 
 pub tries_row : (list : ℕ) (v t w : View) → Trying list v t → ViewRow (record one_win { draws = 3 }) t w → ViewRow (record one_win { draws = 3 }) v w
 tries_row list v t w trying row = view_row_then v t w trying.row row
@@ -154,22 +264,60 @@ tries_row list v t w trying row = view_row_then v t w trying.row row
 -- the head is seen
 pub head_seen : (v u w : View) (list head : ℕ) → list < lists → HasDrawn v u → IsEvent (LookHead list) u head w → SeesHead list head v w
 head_seen v u w list head less drawn event = subst (SeesHead list head v) (sym left) (record {
-  goes_on = record { ran = drawn.went; going = drawn.went; room = drawn.room; more = omega arith; parts_are = refl; wins = refl; losses = refl; taken = refl; cuts = refl; anchor = refl; words = λ k own. let p = drawn.words k own in record { volatile = p.volatile; durable = p.durable } };
+  goes_on = record {
+    ran = drawn.went;
+    going = drawn.went;
+    room = drawn.room;
+    more = omega arith;
+    parts_are = refl;
+    wins = refl;
+    losses = refl;
+    taken = refl;
+    cuts = refl;
+    anchor = refl;
+    words = λ k own. let p = drawn.words k own in record { volatile = p.volatile; durable = p.durable };
+  };
   is_seen = refl;
   look = get_or-set_same v.head_looks list (record { word = head; ticket = Some drawn.ticket; wins = v.wins; taken = v.taken }) v.used_look
-      (let long = (event.before.sound.good.set_up event.before.seat u event.before.below event.before.at).looks in let same = ap (λ (x : View). length x.head_looks) drawn.left in omega arith);
-  others = record { used = refl; heads = λ other apart. get_or-set_other v.head_looks list other (record { word = head; ticket = Some drawn.ticket; wins = v.wins; taken = v.taken }) v.used_look apart };
+      (let long = (event.before.sound.good.set_up event.before.seat u event.before.below event.before.at).looks in
+      let same = ap (λ (x : View). length x.head_looks) drawn.left in omega arith);
+  others = record {
+    used = refl;
+    heads = λ other apart. get_or-set_other v.head_looks list other
+        (record { word = head; ticket = Some drawn.ticket; wins = v.wins; taken = v.taken }) v.used_look apart;
+  };
   later = let x = drawn.later in omega arith;
 }) where
-  left : w ≡ record (drawn_as v drawn.ticket u) { ticket = None; seen_head = list_head list head; seen_link = None; head_looks = set v.head_looks list (record { word = head; ticket = Some drawn.ticket; wins = v.wins; taken = v.taken }) }
-  left = event.after ∙ ap (λ (x : View). record (used_up x) { seen_head = list_head list head; seen_link = None; head_looks = set x.head_looks list (look x head) }) drawn.left
+  left : w ≡ record (drawn_as v drawn.ticket u) {
+    ticket = None;
+    seen_head = list_head list head;
+    seen_link = None;
+    head_looks = set v.head_looks list (record { word = head; ticket = Some drawn.ticket; wins = v.wins; taken = v.taken });
+  }
+  left = event.after ∙ ap (λ (x : View). record (used_up x) {
+    seen_head = list_head list head;
+    seen_link = None;
+    head_looks = set x.head_looks list (look x head);
+  }) drawn.left
 
 pub tries_less : (list : ℕ) (t w : View) → HasLost list 3 t w → w.setup.budget - w.draws < t.setup.budget - t.draws
 tries_less list t w lost = let same = ap (λ (k : Setup). k.budget) lost.row.passes.setup in let room = lost.room in let more = lost.more in omega arith
 
 pub link_seen : (v u w : View) (link : ℕ) → HasDrawn v u → IsEvent LookLink u link w → SeesLink v w
 link_seen v u w link drawn event = subst (SeesLink v) (sym left) (record {
-  goes_on = record { ran = drawn.went; going = drawn.went; room = drawn.room; more = omega arith; parts_are = refl; wins = refl; losses = refl; taken = refl; cuts = refl; anchor = refl; words = λ k own. let p = drawn.words k own in record { volatile = p.volatile; durable = p.durable } };
+  goes_on = record {
+    ran = drawn.went;
+    going = drawn.went;
+    room = drawn.room;
+    more = omega arith;
+    parts_are = refl;
+    wins = refl;
+    losses = refl;
+    taken = refl;
+    cuts = refl;
+    anchor = refl;
+    words = λ k own. let p = drawn.words k own in record { volatile = p.volatile; durable = p.durable };
+  };
   head = refl;
   link = refl;
   others = λ list. record { used = refl; heads = λ other apart. refl };

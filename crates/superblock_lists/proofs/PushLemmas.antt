@@ -55,7 +55,8 @@ module _ (v : View) (has : HasSoundState v) (d : ℕ) (free : IsFreelyClaimed v 
   drawn_links ticket first u going = record {
     going = going;
     ticket = refl;
-    shown = subst (λ (cell : Cell). IsOwn (drawn_as v ticket u) cell × CanStore (drawn_as v ticket u) cell first) (sym link_is) (free.claimed, free.not_cutting);
+    shown = subst (λ (cell : Cell). IsOwn (drawn_as v ticket u) cell × CanStore (drawn_as v ticket u) cell first) (sym link_is)
+        (free.claimed, free.not_cutting);
   }
 
   pub can_set_link : (u : View) (first : ℕ) → HasDrawn v u → Can u (Store (link_word d) first)
@@ -87,7 +88,8 @@ module _ (v : View) (has : HasSoundState v) (d : ℕ) (free : IsFreelyClaimed v 
       anchor = ap (λ (x : View). x.seen_anchor) left_here;
       floor = ap (λ (x : View). x.floor) left_here;
       link = subst (λ (cell : Cell). Shows w cell first) link_here (store_shown (link_word d) first u w found event);
-      words = λ k other own. subst (λ x. KeepsWord v x k) (sym link_left) (word_then v u (record (used_up u) { volatile = learn u.volatile (link_word d) first }) k (drawn.words k own)
+      words = λ k other own. subst (λ x. KeepsWord v x k) (sym link_left)
+          (word_then v u (record (used_up u) { volatile = learn u.volatile (link_word d) first }) k (drawn.words k own)
           (let p = stored_other u (link_word d) first k other in record { volatile = p.volatile; durable = p.durable }));
     }
 
@@ -96,9 +98,11 @@ module _ (v : View) (has : HasSoundState v) (d : ℕ) (free : IsFreelyClaimed v 
   anchor_shown x shows = subst (λ (cell : Cell). IsOwn v cell) (sym anchor_is)
       ((has.sound.good.words has.seat v has.below has.at).volatile (anchor_cell d) x (lt-ltb d v.setup.capacity inside) shows).0
 
-  still_empty : (w : View) → parts w ≡ parts v → w.seen_anchor ≡ v.seen_anchor → ((k : ℕ) → k ≢ link_word d → Owns v k → KeepsWord v w k) → ShowsEmpty v d → ShowsEmpty w d
+  still_empty : (w : View) → parts w ≡ parts v → w.seen_anchor ≡ v.seen_anchor → ((k : ℕ) → k ≢ link_word d → Owns v k → KeepsWord v w k)
+      → ShowsEmpty v d → ShowsEmpty w d
   still_empty w same anchor words (by_claim raw) = by_claim (subst (λ (p : Parts). 0 < times d p.raw) (sym same) raw)
-  still_empty w same anchor words (by_anchor x shows empty) = by_anchor x ((words (anchor_word d) (λ e. omega (arith, e)) (anchor_shown x shows)).volatile x shows) empty
+  still_empty w same anchor words (by_anchor x shows empty) = by_anchor x
+      ((words (anchor_word d) (λ e. omega (arith, e)) (anchor_shown x shows)).volatile x shows) empty
   still_empty w same anchor words (by_look classed is_seen of empty) = by_look
       (subst (λ (p : Parts). 0 < times_classed d p.classed) (sym same) classed)
       (subst (λ (s : Option Snapshot). IsThere s) (sym anchor) is_seen)
@@ -112,31 +116,39 @@ freely_still v w d same free = record {
 }
 
 -- it may still be listed
-pub can_still : (v w : View) → HasSoundState v → (d list : ℕ) → parts w ≡ parts v → w.seen_anchor ≡ v.seen_anchor → ((k : ℕ) → k ≢ link_word d → Owns v k → KeepsWord v w k) → CanList v d list → CanList w d list
-can_still v w has d list same anchor words (as_free free empty) = as_free (freely_still v w d same free) (still_empty v has d free w same anchor words empty)
+pub can_still : (v w : View) → HasSoundState v → (d list : ℕ) → parts w ≡ parts v → w.seen_anchor ≡ v.seen_anchor
+    → ((k : ℕ) → k ≢ link_word d → Owns v k → KeepsWord v w k) → CanList v d list → CanList w d list
+can_still v w has d list same anchor words (as_free free empty) =
+    as_free (freely_still v w d same free) (still_empty v has d free w same anchor words empty)
 can_still v w has d list same anchor words (of_its_class class is classed of) = of_its_class class is
     (subst (λ (p : Parts). 0 < times_classed d p.classed) (sym same) classed)
     (ap (λ (p : Parts). claim_class d p.classed) same ∙ of)
 
 -- after the head and the link
-pub sees_linked : (v t u : View) (list d head first : ℕ) → SeesHead list head v t → first ≡ head_first head → HasSetLink d first t u → SeesLinked list d u
+pub sees_linked : (v t u : View) (list d head first : ℕ) → SeesHead list head v t → first ≡ head_first head → HasSetLink d first t u
+    → SeesLinked list d u
 sees_linked v t u list d head first seen is link = record { head = head; is_seen = link.head ∙ seen.is_seen; link = link.link ∙ ap Some is }
 
-pub can_later : (v t u : View) → HasSoundState v → (list d head first : ℕ) → SeesHead list head v t → HasSetLink d first t u → CanList v d list → CanList u d list
-can_later v t u has list d head first seen link can = can_still v u has d list (link.parts_are ∙ seen.goes_on.parts_are) (link.anchor ∙ seen.goes_on.anchor)
+pub can_later : (v t u : View) → HasSoundState v → (list d head first : ℕ) → SeesHead list head v t → HasSetLink d first t u → CanList v d list
+    → CanList u d list
+can_later v t u has list d head first seen link can = can_still v u has d list (link.parts_are ∙ seen.goes_on.parts_are) (link.anchor
+    ∙ seen.goes_on.anchor)
     (λ k other own. word_then v t u k (seen.goes_on.words k own) (link.words k other (still_owns v t seen.goes_on.parts_are k own))) can
 
 module _ (v : View) (has : HasSoundState v) (d : ℕ) where
-  drawn_pushes : (ticket list : ℕ) (u : View) → v.stopped ≡ None → ((k : ℕ) → Owns v k → KeepsWord v u k) → d < v.floor → SeesLinked list d v → CanList v d list → Can (drawn_as v ticket u) (Push d)
+  drawn_pushes : (ticket list : ℕ) (u : View) → v.stopped ≡ None → ((k : ℕ) → Owns v k → KeepsWord v u k) → d < v.floor → SeesLinked list d v
+      → CanList v d list → Can (drawn_as v ticket u) (Push d)
   drawn_pushes ticket list u going words durable sees can = record {
     going = going;
     ticket = refl;
     shown = record {
       is_seen = subst (λ (s : Option Snapshot). IsThere s) (sym sees.is_seen) refl;
       durable = durable;
-      linked = (words (link_word d) owned).volatile (head_first (seen_word v.seen_head)) (sees.link ∙ ap (λ (s : Option Snapshot). Some (head_first (seen_word s))) (sym sees.is_seen));
+      linked = (words (link_word d) owned).volatile (head_first (seen_word v.seen_head)) (sees.link
+          ∙ ap (λ (s : Option Snapshot). Some (head_first (seen_word s))) (sym sees.is_seen));
       listed = subst (CanList (drawn_as v ticket u) d) (sym (ap seen_of sees.is_seen))
-          (can_still v (drawn_as v ticket u) has d list refl refl (λ k other own. let p = words k own in record { volatile = p.volatile; durable = p.durable }) can);
+          (can_still v (drawn_as v ticket u) has d list refl refl (λ k other own. let p = words k own in
+          record { volatile = p.volatile; durable = p.durable }) can);
     };
   } where
     free : IsFreelyClaimed v d
@@ -146,11 +158,14 @@ module _ (v : View) (has : HasSoundState v) (d : ℕ) where
     owned = subst (λ (cell : Cell). IsOwn v cell) (sym (link_is v has d free)) free.claimed
 
   pub can_push : (u : View) (list : ℕ) → HasDrawn v u → d < v.floor → SeesLinked list d v → CanList v d list → Can u (Push d)
-  can_push u list drawn durable sees can = subst (λ (x : View). Can x (Push d)) (sym drawn.left) (drawn_pushes drawn.ticket list u drawn.went drawn.words durable sees can)
+  can_push u list drawn durable sees can = subst (λ (x : View). Can x (Push d)) (sym drawn.left)
+      (drawn_pushes drawn.ticket list u drawn.went drawn.words durable sees can)
 
-  module _ (u w : View) (list found : ℕ) (drawn : HasDrawn v u) (row : ViewRow one_draw v u) (sees : SeesLinked list d v) (event : IsEvent (Push d) u found w) where
+  module _ (u w : View) (list found : ℕ) (drawn : HasDrawn v u) (row : ViewRow one_draw v u) (sees : SeesLinked list d v)
+      (event : IsEvent (Push d) u found w) where
     pushed_parts : (test : Bool) (x : View) → x ≡ cond test (pushed_raw (drawn_as v drawn.ticket u) d) (pushed_classed (drawn_as v drawn.ticket u) d)
-        → (x.stopped ≡ v.stopped) × (parts x ≡ cond test (record (parts v) { raw = without d v.raw; split = without d v.split }) (record (parts v) { classed = without_claim d v.classed }))
+        → (x.stopped ≡ v.stopped) × (parts x ≡ cond test (record (parts v) { raw = without d v.raw; split = without d v.split })
+        (record (parts v) { classed = without_claim d v.classed }))
     pushed_parts true x is = (ap (λ (y : View). y.stopped) is, ap parts is)
     pushed_parts false x is = (ap (λ (y : View). y.stopped) is, ap parts is)
 
@@ -189,17 +204,21 @@ module _ (v : View) (has : HasSoundState v) (d : ℕ) where
       parts_are = ap parts left;
       row = view_row_then v u w row (push_lost_row d u w found event other);
       can = can_still v w has d list (ap parts left) (ap (λ (x : View). x.seen_anchor) left)
-          (λ k else own. subst (λ x. KeepsWord v x k) (sym left) (let p = drawn.words k own in record { volatile = p.volatile; durable = p.durable })) can;
+          (λ k else own. subst (λ x. KeepsWord v x k) (sym left) (let p = drawn.words k own in
+          record { volatile = p.volatile; durable = p.durable })) can;
     } where
       left : w ≡ record (lost (drawn_as v drawn.ticket u) found) { seen_head = None }
       left = push_lost d u w found event other ∙ ap (λ (x : View). record (lost x found) { seen_head = None }) drawn.left
 
-    pub exchanged : HasSoundState v → CanList v d list → (won : Bool) (result : Result ⊤ ℕ) → Tells (seen_word u.seen_head) found result → won ≡ is_ok result → Pushes list d 1 won v w
+    pub exchanged : HasSoundState v → CanList v d list → (won : Bool) (result : Result ⊤ ℕ) → Tells (seen_word u.seen_head) found result
+        → won ≡ is_ok result → Pushes list d 1 won v w
     exchanged has can won (Ok x) told is = subst (λ b. Pushes list d 1 b v w) (sym is) (push_wins told)
     exchanged has can won (Err x) told is = subst (λ b. Pushes list d 1 b v w) (sym is) (push_loses has can told.1)
 
 -- said of an earlier view
-pub pushes_later : {n : ℕ} (m : ℕ) (won : Bool) (v t w : View) (list d : ℕ) → v.stopped ≡ None → v.draws ≤ t.draws → t.setup ≡ v.setup → v.draws < v.setup.budget → parts t ≡ parts v → ViewRow (record no_costs { draws = n }) v t → Pushes list d m won t w → Pushes list d (n + m) won v w
+pub pushes_later : {n : ℕ} (m : ℕ) (won : Bool) (v t w : View) (list d : ℕ) → v.stopped ≡ None → v.draws ≤ t.draws → t.setup ≡ v.setup
+    → v.draws < v.setup.budget → parts t ≡ parts v → ViewRow (record no_costs { draws = n }) v t → Pushes list d m won t w
+    → Pushes list d (n + m) won v w
 pushes_later m true v t w list d ran more setup room same row has = record {
   going = has.going;
   parts_are = has.parts_are ∙ ap (without_claim_of d) same;
@@ -231,11 +250,25 @@ pub record Pushing (list d : ℕ) (v t : View) : Type 0 where
   pub durable : d < t.floor
 
 pub pushing_begins : (v : View) (list d : ℕ) → CanList v d list → d < v.floor → Pushing list d v v
-pushing_begins v list d can durable = record { row = view_row_none v; parts_are = refl; both = λ ran. ran; fresh = inl refl; can = can; durable = durable }
+pushing_begins v list d can durable = record {
+  row = view_row_none v;
+  parts_are = refl;
+  both = λ ran. ran;
+  fresh = inl refl;
+  can = can;
+  durable = durable;
+}
 
 pub pushing_on : (v t w : View) (list d : ℕ) → Pushing list d v t → HasMissed list d 3 t w → Pushing list d v w
 pushing_on v t w list d pushing missed = record {
-  row = view_row_within no_costs v w (record { draws = omega arith; wins = omega arith; gives = omega arith; cuts = omega arith; taken = omega arith; moves = omega arith }) (view_row_then v t w pushing.row missed.row);
+  row = view_row_within no_costs v w (record {
+    draws = omega arith;
+    wins = omega arith;
+    gives = omega arith;
+    cuts = omega arith;
+    taken = omega arith;
+    moves = omega arith;
+  }) (view_row_then v t w pushing.row missed.row);
   parts_are = missed.parts_are ∙ pushing.parts_are;
   both = λ ran. pushing.both missed.ran;
   fresh = inr missed.going;
@@ -244,7 +277,8 @@ pushing_on v t w list d pushing missed = record {
 }
 
 pub pushing_less : (t w : View) (list d : ℕ) → HasMissed list d 3 t w → w.setup.budget - w.draws < t.setup.budget - t.draws
-pushing_less t w list d missed = let same = ap (λ (k : Setup). k.budget) missed.row.passes.setup in let room = missed.room in let more = missed.more in omega arith
+pushing_less t w list d missed = let same = ap (λ (k : Setup). k.budget) missed.row.passes.setup in let room = missed.room in
+    let more = missed.more in omega arith
 
 pub pushing_stops : (v t w : View) (step list d : ℕ) → Pushing list d v t → Stops step t w → Stops step v w
 pushing_stops v t w step list d pushing stop = elim pushing.fresh [
@@ -252,14 +286,17 @@ pushing_stops v t w step list d pushing stop = elim pushing.fresh [
   | inr going ↦ stops_later v t w step (pushing.both going) going pushing.row stop
 ]
 
-pub pushing_row : (v t w : View) (list d : ℕ) → Pushing list d v t → ViewRow (record one_push { draws = 3 }) t w → ViewRow (record one_push { draws = 3 }) v w
+pub pushing_row : (v t w : View) (list d : ℕ) → Pushing list d v t → ViewRow (record one_push { draws = 3 }) t w
+    → ViewRow (record one_push { draws = 3 }) v w
 pushing_row v t w list d pushing row = view_row_then v t w pushing.row row
 
 pub pushing_done : (v t w : View) (list d : ℕ) → Pushing list d v t → HasPushed list d 3 t w → HasPushed list d 3 v w
 pushing_done v t w list d pushing pushed = record {
   going = pushed.going;
   parts_are = pushed.parts_are ∙ ap (without_claim_of d) pushing.parts_are;
-  moves = pushed.moves ∙ (let e = ap (moved_by list d) pushing.parts_are in let least = pushing.row.passes.more.moves in let most = pushing.row.passes.most.moves in omega arith);
+  moves = pushed.moves ∙ (let e = ap (moved_by list d) pushing.parts_are in let least = pushing.row.passes.more.moves in
+      let most = pushing.row.passes.most.moves in omega arith);
   row = view_row_then v t w pushing.row pushed.row;
-  moved = λ free none. view_row_then v t w pushing.row (pushed.moved free (ap (λ (p : Parts). times d p.raw + times d p.split) pushing.parts_are ∙ none));
+  moved = λ free none. view_row_then v t w pushing.row (pushed.moved free (ap (λ (p : Parts). times d p.raw + times d p.split) pushing.parts_are
+      ∙ none));
 }

@@ -36,8 +36,15 @@ use Rattle.thread_cache.proofs.CallLemmas.{at_state, runs_law, stops_law}
 use Rattle.thread_cache.proofs.LargeLemmas.{IsFew, IsPaid, LargeStep, paid_light, paid_most}
 
 -- the counts after a refusal
-pub full_step : (before s : CacheState) → before ≡ s → (bytes : ℕ) (looks : Looks) (x y : SeatView) → x.view ≡ before.view → x.marks ≡ before.marks → HasSoundState y.view → s.view.stopped ≡ None
-    → LargeStep s x y (record { small_calls = before.small_calls; large_calls = before.large_calls + 1; refusals = before.refusals + 1; refused_bytes = bytes; refused_looks = looks })
+pub full_step : (before s : CacheState) → before ≡ s → (bytes : ℕ) (looks : Looks) (x y : SeatView) → x.view ≡ before.view
+    → x.marks ≡ before.marks → HasSoundState y.view → s.view.stopped ≡ None
+    → LargeStep s x y (record {
+      small_calls = before.small_calls;
+      large_calls = before.large_calls + 1;
+      refusals = before.refusals + 1;
+      refused_bytes = bytes;
+      refused_looks = looks;
+    })
 full_step before s is bytes looks x y view marks has ran = record {
   was = record { view = view ∙ ap (λ (s : CacheState). s.view) is; marks = marks ∙ ap (λ (s : CacheState). s.marks) is };
   has = has;
@@ -46,7 +53,8 @@ full_step before s is bytes looks x y view marks has ran = record {
   large = ap (λ (s : CacheState). s.large_calls + 1) is;
 }
 
-pub full_counts_then : (small large refusals : ℕ) (v w : View) → next_of v < next_of w → HasCounts small large refusals v → HasCounts small (large + 1) (refusals + 1) w
+pub full_counts_then : (small large refusals : ℕ) (v w : View) → next_of v < next_of w → HasCounts small large refusals v
+    → HasCounts small (large + 1) (refusals + 1) w
 full_counts_then small large refusals v w later counts = (let c = counts.0 in omega arith, let c = counts.1 in omega arith)
 
 -- the block that comes
@@ -72,8 +80,10 @@ holds_span n b v w some allocated = record {
 
 -- the words that were held are so still
 granted_words : (bytes : ℕ) (b : Block) (v w : View) → HasSoundState v → IsGranted bytes b v w → (word : ℕ) → IsHeldWord v word → IsHeldWord w word
-granted_words bytes b v w has (by_class class least allocated) = small_words_stay class b v w (class_in v has class least.is_class) (holds_block bytes class b v w least allocated)
-granted_words bytes b v w has (by_span large allocated) = large_words_stay allocated.first (span_of bytes) b v w (holds_span (span_of bytes) b v w (omega arith) allocated)
+granted_words bytes b v w has (by_class class least allocated) =
+    small_words_stay class b v w (class_in v has class least.is_class) (holds_block bytes class b v w least allocated)
+granted_words bytes b v w has (by_span large allocated) = large_words_stay allocated.first (span_of bytes) b v w
+    (holds_span (span_of bytes) b v w (omega arith) allocated)
 
 granted_going : (bytes : ℕ) (b : Block) (v w : View) → IsGranted bytes b v w → w.stopped ≡ None
 granted_going bytes b v w (by_class class least allocated) = allocated.going
@@ -91,13 +101,16 @@ one_span : (bytes class : ℕ) → IsLeastClassFor bytes class → span_of bytes
 one_span bytes class least = let small = least_small bytes class least in omega arith
 
 -- a pending write-back of a word
-pub pending_of : (s : CacheState) (x y : SeatView) (n : CallCounts) → IsStateOf s x → (word : ℕ) → (IsMarked x.marks word → IsMarked y.marks word ⊎ IsDurableAt y.view word) → KeepsPending (heap_view s) (heap_view_of y.view y.marks n) word
-pending_of s x y n was word keeps pending = elim (keeps (subst (λ marks. IsMarked marks word) (sym was.marks) (marked_words-only s.marks word pending))) [
-  | inl marked ↦ inl (marked_words-has y.marks word marked)
-  | inr durable ↦ inr (record { value = durable.value; seen = durable.seen; left = durable.left })
-]
+pub pending_of : (s : CacheState) (x y : SeatView) (n : CallCounts) → IsStateOf s x → (word : ℕ)
+    → (IsMarked x.marks word → IsMarked y.marks word ⊎ IsDurableAt y.view word) → KeepsPending (heap_view s) (heap_view_of y.view y.marks n) word
+pending_of s x y n was word keeps pending = elim (keeps (subst (λ marks. IsMarked marks word) (sym was.marks)
+    (marked_words-only s.marks word pending))) [
+      | inl marked ↦ inl (marked_words-has y.marks word marked)
+      | inr durable ↦ inr (record { value = durable.value; seen = durable.seen; left = durable.left })
+    ]
 
-module _ (bytes : ℕ) (s : CacheState) (x y : SeatView) (n : CallCounts) (step : LargeStep s x y n) (had : HasSoundState x.view) (later : next_of x.view < next_of y.view) where
+module _ (bytes : ℕ) (s : CacheState) (x y : SeatView) (n : CallCounts) (step : LargeStep s x y n) (had : HasSoundState x.view)
+    (later : next_of x.view < next_of y.view) where
   was_held : (word : ℕ) → IsOwn (heap_view s).held s.view.roots word → IsHeldWord x.view word
   was_held word own = subst (λ (v : View). IsHeldWord v word) (sym step.was.view) (own_held s word own)
 
@@ -115,17 +128,28 @@ module _ (bytes : ℕ) (s : CacheState) (x y : SeatView) (n : CallCounts) (step 
       size = granted_size bytes b s.view y.view granted;
       blocks = by_kind granted;
       words = λ word own. word_law s.view y.view s.marks y.marks (counts_of s) n word
-          (at_state (λ v. KeepsRowWord v y.view word) s x step.was (row.words word (was_held word own, granted_words bytes b s.view y.view has_state granted word (own_held s word own))));
-      pending = λ word own. pending_of s x y n step.was word (row.marks word (was_held word own, granted_words bytes b s.view y.view has_state granted word (own_held s word own)));
+          (at_state (λ v. KeepsRowWord v y.view word) s x step.was (row.words word
+          (was_held word own, granted_words bytes b s.view y.view has_state granted word (own_held s word own))));
+      pending = λ word own. pending_of s x y n step.was word (row.marks word
+          (was_held word own, granted_words bytes b s.view y.view has_state granted word (own_held s word own)));
       refusals = same;
     } where
       by_kind : IsGranted bytes b s.view y.view → Adds b (heap_view s) (heap_view_of y.view y.marks n)
-      by_kind (by_class class least allocated) = holds_by s.view y.view s.marks y.marks (counts_of s) n (λ not. not has_state step.has) class b (class_in s.view has_state class least.is_class) (holds_block bytes class b s.view y.view least allocated)
-      by_kind (by_span large allocated) = span_by s.view y.view s.marks y.marks (counts_of s) n (λ not. not has_state step.has) allocated.first (span_of bytes) b (holds_span (span_of bytes) b s.view y.view (omega arith) allocated)
+      by_kind (by_class class least allocated) = holds_by s.view y.view s.marks y.marks (counts_of s) n (λ not. not has_state step.has) class b
+          (class_in s.view has_state class least.is_class) (holds_block bytes class b s.view y.view least allocated)
+      by_kind (by_span large allocated) = span_by s.view y.view s.marks y.marks (counts_of s) n (λ not. not has_state step.has) allocated.first
+          (span_of bytes) b (holds_span (span_of bytes) b s.view y.view (omega arith) allocated)
 
   -- refused
-  look_seen : (look : LastLook) (word : ℕ) (is : IsLook look word y.view) → next_of s.view ≤ is.ticket → is.ticket < next_of y.view → IsLastSeen (heap_view s) (heap_view_of y.view y.marks n) (look_of look) word
-  look_seen look word is from until = record { is = is.word_is; ticket = is.ticket; by = is.by; drawn = record { from = from; until = until }; taken = is.taken }
+  look_seen : (look : LastLook) (word : ℕ) (is : IsLook look word y.view) → next_of s.view ≤ is.ticket → is.ticket < next_of y.view
+      → IsLastSeen (heap_view s) (heap_view_of y.view y.marks n) (look_of look) word
+  look_seen look word is from until = record {
+    is = is.word_is;
+    ticket = is.ticket;
+    by = is.by;
+    drawn = record { from = from; until = until };
+    taken = is.taken;
+  }
 
   found_none : (looks : Looks) → IsRefused bytes looks s.view y.view → FoundNoRoom bytes looks (heap_view s) (heap_view_of y.view y.marks n)
   found_none looks (by_class class least full none) =
@@ -134,9 +158,13 @@ module _ (bytes : ℕ) (s : CacheState) (x y : SeatView) (n : CallCounts) (step 
       let one = one_span bytes class least in let small = least_small bytes class least in record {
         used = look_seen y.view.used_look looks.used full.used_look (omega arith) (omega arith);
         past = let p = full.past in omega arith;
-        class = λ c other. subst (λ k. FoundEmpty (heap_view s) (heap_view_of y.view y.marks n) k looks.class_head) (one_least bytes class c least other)
+        class = λ c other. subst (λ k. FoundEmpty (heap_view s) (heap_view_of y.view y.marks n) k looks.class_head)
+            (one_least bytes class c least other)
             (record { last = look_seen (head_look y.view class) looks.class_head full.class_look since (omega arith); empty = full.class_empty });
-        free = λ is. record { last = look_seen (head_look y.view 0) looks.free_head full.free_look (omega arith) (omega arith); empty = full.free_empty };
+        free = λ is. record {
+          last = look_seen (head_look y.view 0) looks.free_head full.free_look (omega arith) (omega arith);
+          empty = full.free_empty;
+        };
         large = λ large. absurd (omega arith);
       }
   found_none looks (by_span large none) =
@@ -160,7 +188,8 @@ module _ (bytes : ℕ) (s : CacheState) (x y : SeatView) (n : CallCounts) (step 
   refused_parts looks (by_class class least full none) = (full.parts_are, full.cuts)
   refused_parts looks (by_span large none) = (none.parts_are, none.cuts)
 
-  refused_heap : {a : Costs} (looks : Looks) → Row a x y → n.refusals ≡ s.refusals + 1 → n.refused_bytes ≡ bytes → n.refused_looks ≡ looks → IsRefused bytes looks s.view y.view
+  refused_heap : {a : Costs} (looks : Looks) → Row a x y → n.refusals ≡ s.refusals + 1 → n.refused_bytes ≡ bytes → n.refused_looks ≡ looks
+      → IsRefused bytes looks s.view y.view
       → Refuses bytes looks (heap_view s) (heap_view_of y.view y.marks n)
   refused_heap looks row count bytes_are looks_are refused = record {
     runs = runs_law s.view y.view s.marks y.marks (counts_of s) n step.has step.ran (refused_going looks refused) later_state;
@@ -176,27 +205,34 @@ module _ (bytes : ℕ) (s : CacheState) (x y : SeatView) (n : CallCounts) (step 
   answers_state result = at_state (λ v. Answers bytes result v y.view) s x step.was
 
   -- by what was answered
-  pub alloc_ok : {a : Costs} (result : Result Block AllocFault) → Answers bytes result x.view y.view → HoldingRow a x y → SameRefusals (heap_view s) (heap_view_of y.view y.marks n)
+  pub alloc_ok : {a : Costs} (result : Result Block AllocFault) → Answers bytes result x.view y.view → HoldingRow a x y
+      → SameRefusals (heap_view s) (heap_view_of y.view y.marks n)
       → IfOk result (λ b. Allocates bytes b (heap_view s) (heap_view_of y.view y.marks n))
   alloc_ok (Ok b) answers row same = granted_heap b row same (answers_state (Ok b) answers)
   alloc_ok (Err fault) answers row same = tt
 
-  pub full_cause : (a : Costs) (looks : Looks) (result : Result Block AllocFault) → result ≡ Err (Full looks) → Answers bytes result x.view y.view → OnErr result (Row a x y)
-      → n.refusals ≡ s.refusals + 1 → n.refused_bytes ≡ bytes → n.refused_looks ≡ looks → IfErr result (λ fault. FailsBy bytes fault (heap_view s) (heap_view_of y.view y.marks n))
+  pub full_cause : (a : Costs) (looks : Looks) (result : Result Block AllocFault) → result ≡ Err (Full looks)
+      → Answers bytes result x.view y.view → OnErr result (Row a x y)
+      → n.refusals ≡ s.refusals + 1 → n.refused_bytes ≡ bytes → n.refused_looks ≡ looks
+      → IfErr result (λ fault. FailsBy bytes fault (heap_view s) (heap_view_of y.view y.marks n))
   full_cause a looks result is answers row count bytes_are looks_are =
       subst (λ (r : Result Block AllocFault). IfErr r (λ fault. FailsBy bytes fault (heap_view s) (heap_view_of y.view y.marks n))) (sym is)
       (refused_heap looks (subst (λ (r : Result Block AllocFault). OnErr r (Row a x y)) is row) count bytes_are looks_are
       (answers_state (Err (Full looks)) (subst (λ (r : Result Block AllocFault). Answers bytes r x.view y.view) is answers)))
 
-  pub stop_cause : (result : Result Block AllocFault) → ((looks : Looks) → result ≡ Err (Full looks) → ⊥) → Answers bytes result x.view y.view → y.view.setup ≡ s.view.setup → SameRefusals (heap_view s) (heap_view_of y.view y.marks n)
+  pub stop_cause : (result : Result Block AllocFault) → ((looks : Looks) → result ≡ Err (Full looks) → ⊥) → Answers bytes result x.view y.view
+      → y.view.setup ≡ s.view.setup → SameRefusals (heap_view s) (heap_view_of y.view y.marks n)
       → IfErr result (λ fault. FailsBy bytes fault (heap_view s) (heap_view_of y.view y.marks n))
   stop_cause (Ok b) not_full answers setup same = tt
   stop_cause (Err (Full looks)) not_full answers setup same = absurd (not_full looks refl)
-  stop_cause (Err (StoppedFault e)) not_full answers setup same = (stops_law s.view y.view s.marks y.marks (counts_of s) n e.step step.ran setup (answers_state (Err (StoppedFault e)) answers), same)
+  stop_cause (Err (StoppedFault e)) not_full answers setup same =
+      (stops_law s.view y.view s.marks y.marks (counts_of s) n e.step step.ran setup (answers_state (Err (StoppedFault e)) answers), same)
 
   light_by : {moves : ℕ} → (y.view.cuts ≡ x.view.cuts → HoldingRow (light_request bytes moves) x y) → IsLight s.view y.view
   light_by {moves} light cuts gives taken large =
-      let passes : Passes (light_request bytes moves) s.view y.view = at_state (λ v. Passes (light_request bytes moves) v y.view) s x step.was (light (cuts ∙ ap (λ (v : View). v.cuts) (sym step.was.view))).passes in
+      let passes : Passes (light_request bytes moves) s.view y.view =
+      at_state (λ v. Passes (light_request bytes moves) v y.view) s x step.was
+      (light (cuts ∙ ap (λ (v : View). v.cuts) (sym step.was.view))).passes in
       let d = passes.most.draws in let l = passes.more.losses in omega arith
 
   -- a request gives no batch
@@ -206,7 +242,8 @@ module _ (bytes : ℕ) (s : CacheState) (x y : SeatView) (n : CallCounts) (step 
       let least = passes.more.gives in let most = passes.most.gives in omega arith
 
   -- what a request may cost
-  pub alloc_costs : Passes (request_costs bytes (y.view.moves - x.view.moves)) x.view y.view → Passes (request_costs bytes (y.view.moves - s.view.moves)) s.view y.view
+  pub alloc_costs : Passes (request_costs bytes (y.view.moves - x.view.moves)) x.view y.view
+      → Passes (request_costs bytes (y.view.moves - s.view.moves)) s.view y.view
   alloc_costs = at_state (λ v. Passes (request_costs bytes (y.view.moves - v.moves)) v y.view) s x step.was
 
   uncut_state : (y.view.cuts ≡ x.view.cuts → HoldingRow (light_request bytes (y.view.moves - x.view.moves)) x y) → y.view.cuts ≡ s.view.cuts
@@ -214,17 +251,20 @@ module _ (bytes : ℕ) (s : CacheState) (x y : SeatView) (n : CallCounts) (step 
   uncut_state light cuts = at_state (λ v. Passes (light_request bytes (y.view.moves - v.moves)) v y.view) s x step.was
       (light (cuts ∙ ap (λ (v : View). v.cuts) (sym step.was.view))).passes
 
-  pub alloc_room : (result : Result Block AllocFault) → Answers bytes result x.view y.view → Passes (request_costs bytes (y.view.moves - x.view.moves)) x.view y.view
+  pub alloc_room : (result : Result Block AllocFault) → Answers bytes result x.view y.view
+      → Passes (request_costs bytes (y.view.moves - x.view.moves)) x.view y.view
       → IfGoing result (y.view.cuts ≡ x.view.cuts → HoldingRow (light_request bytes (y.view.moves - x.view.moves)) x y)
       → IfGoing result ((class : ℕ) → IsLeastClassFor bytes class → IsFilledInOrder class x.view y.view)
-      → ((class : ℕ) → IsLeastClassFor bytes class → 1 ≤ length (of_class x.view.caches class) → HoldingRow one_draw x y) → OnOk result (IsServed bytes s.view y.view)
+      → ((class : ℕ) → IsLeastClassFor bytes class → 1 ≤ length (of_class x.view.caches class) → HoldingRow one_draw x y)
+      → OnOk result (IsServed bytes s.view y.view)
   alloc_room (Ok b) answers passed light order cached = record {
     light = light_by light;
     block = b;
     granted = answers_state (Ok b) answers;
     gives = no_gives passed;
     order = λ class least. at_state (λ v. IsFilledInOrder class v y.view) s x step.was (order class least);
-    cached = λ class least. at_state (λ v. 1 ≤ length (of_class v.caches class) → Passes one_draw v y.view) s x step.was (λ some. (cached class least some).passes);
+    cached = λ class least. at_state (λ v. 1 ≤ length (of_class v.caches class) → Passes one_draw v y.view) s x step.was
+        (λ some. (cached class least some).passes);
     costs = alloc_costs passed;
     uncut = uncut_state light;
     large = by_kind (answers_state (Ok b) answers);
@@ -233,66 +273,81 @@ module _ (bytes : ℕ) (s : CacheState) (x y : SeatView) (n : CallCounts) (step 
     by_kind (by_class class least allocated) large = absurd (let small = least_small bytes class least in omega arith)
     by_kind (by_span is allocated) large = record {
       made = allocated.made;
-      room = let seen = allocated.seen in let room = allocated.room in let capacity = ap (λ (p : Parts). p.setup.capacity) allocated.parts_are in omega arith;
+      room = let seen = allocated.seen in let room = allocated.room in
+          let capacity = ap (λ (p : Parts). p.setup.capacity) allocated.parts_are in omega arith;
     }
   alloc_room (Err fault) answers passed light order cached = tt
 
-  pub alloc_none : (result : Result Block AllocFault) → Answers bytes result x.view y.view → Passes (request_costs bytes (y.view.moves - x.view.moves)) x.view y.view
+  pub alloc_none : (result : Result Block AllocFault) → Answers bytes result x.view y.view
+      → Passes (request_costs bytes (y.view.moves - x.view.moves)) x.view y.view
       → IfGoing result (y.view.cuts ≡ x.view.cuts → HoldingRow (light_request bytes (y.view.moves - x.view.moves)) x y)
       → IfErr result (λ fault. (looks : Looks) → fault ≡ Full looks → IsTurnedAway bytes looks s.view y.view)
   alloc_none (Ok b) answers passed light = tt
-  alloc_none (Err (Full found)) answers passed light = λ looks same. subst (λ l. IsTurnedAway bytes l s.view y.view) (one_looks found looks same) (away found (answers_state (Err (Full found)) answers)) where
-    looks_in : AllocFault → Looks
-    looks_in (Full l) = l
-    looks_in (StoppedFault e) = found
+  alloc_none (Err (Full found)) answers passed light = λ looks same. subst (λ l. IsTurnedAway bytes l s.view y.view)
+      (one_looks found looks same) (away found (answers_state (Err (Full found)) answers)) where
+        looks_in : AllocFault → Looks
+        looks_in (Full l) = l
+        looks_in (StoppedFault e) = found
 
-    one_looks : (a b : Looks) → Full a ≡ Full b → a ≡ b
-    one_looks a b same = ap looks_in same
+        one_looks : (a b : Looks) → Full a ≡ Full b → a ≡ b
+        one_looks a b same = ap looks_in same
 
-    away : (looks : Looks) → IsRefused bytes looks s.view y.view → IsTurnedAway bytes looks s.view y.view
-    away looks (by_class class least full none) = record {
-      light = light_by light;
-      parts_are = full.parts_are;
-      cuts = full.cuts;
-      gives = no_gives passed;
-      costs = uncut_state light full.cuts;
-      for_class = λ c other. subst (λ k. IsFull k looks s.view y.view × (of_class s.view.caches k ≡ [])) (one_least bytes class c least other) (full, none);
-      for_span = λ large. absurd (let small = least_small bytes class least in omega arith);
-    }
-    away looks (by_span is none) = record {
-      light = light_by light;
-      parts_are = none.parts_are;
-      cuts = none.cuts;
-      gives = no_gives passed;
-      costs = uncut_state light none.cuts;
-      for_class = λ c least. absurd (let small = least_small bytes c least in omega arith);
-      for_span = λ large. none;
-    }
+        away : (looks : Looks) → IsRefused bytes looks s.view y.view → IsTurnedAway bytes looks s.view y.view
+        away looks (by_class class least full none) = record {
+          light = light_by light;
+          parts_are = full.parts_are;
+          cuts = full.cuts;
+          gives = no_gives passed;
+          costs = uncut_state light full.cuts;
+          for_class = λ c other. subst (λ k. IsFull k looks s.view y.view × (of_class s.view.caches k ≡ [])) (one_least bytes class c least other)
+              (full, none);
+          for_span = λ large. absurd (let small = least_small bytes class least in omega arith);
+        }
+        away looks (by_span is none) = record {
+          light = light_by light;
+          parts_are = none.parts_are;
+          cuts = none.cuts;
+          gives = no_gives passed;
+          costs = uncut_state light none.cuts;
+          for_class = λ c least. absurd (let small = least_small bytes c least in omega arith);
+          for_span = λ large. none;
+        }
   alloc_none (Err (StoppedFault e)) answers passed light = λ looks same. absurd (let no = ap kind_of same in omega arith) where
     kind_of : AllocFault → ℕ
     kind_of (Full l) = 1
     kind_of (StoppedFault f) = 0
 
 -- a seat that has the same stays idle
-pub same_between : (v w : View) → IsIdle v → HasShortCaches v → w.batch ≡ v.batch → w.raw ≡ v.raw → w.split ≡ v.split → w.cutting ≡ v.cutting → w.classed ≡ v.classed → w.caches ≡ v.caches → IsIdle w × HasShortCaches w
+pub same_between : (v w : View) → IsIdle v → HasShortCaches v → w.batch ≡ v.batch → w.raw ≡ v.raw → w.split ≡ v.split → w.cutting ≡ v.cutting
+    → w.classed ≡ v.classed → w.caches ≡ v.caches → IsIdle w × HasShortCaches w
 same_between v w idle short batch raw split cutting classed caches = (
-  record { batch = batch ∙ idle.batch; raw = raw ∙ idle.raw; split = split ∙ idle.split; cutting = cutting ∙ idle.cutting; classed = classed ∙ idle.classed },
+  record {
+    batch = batch ∙ idle.batch;
+    raw = raw ∙ idle.raw;
+    split = split ∙ idle.split;
+    cutting = cutting ∙ idle.cutting;
+    classed = classed ∙ idle.classed;
+  },
   record { each = λ class is. let s = short.each class is in let e = ap (λ l. length (of_class l class)) caches in omega arith },
 )
 
 pub parts_between : (v w : View) → IsIdle v → HasShortCaches v → parts w ≡ parts v → IsIdle w × HasShortCaches w
-parts_between v w idle short same = same_between v w idle short (ap (λ (p : Parts). p.batch) same) (ap (λ (p : Parts). p.raw) same) (ap (λ (p : Parts). p.split) same) (ap (λ (p : Parts). p.cutting) same) (ap (λ (p : Parts). p.classed) same) (ap (λ (p : Parts). p.caches) same)
+parts_between v w idle short same = same_between v w idle short (ap (λ (p : Parts). p.batch) same) (ap (λ (p : Parts). p.raw) same)
+    (ap (λ (p : Parts). p.split) same) (ap (λ (p : Parts). p.cutting) same) (ap (λ (p : Parts). p.classed) same) (ap (λ (p : Parts). p.caches) same)
 
 -- the caches stay short
-pub short_but : (v : View) (class : ℕ) (cache : List ℕ) (caches : List (List ℕ)) → class < length v.caches → HasShortCaches v → caches ≡ set v.caches class cache → length cache < blocks_of class
+pub short_but : (v : View) (class : ℕ) (cache : List ℕ) (caches : List (List ℕ)) → class < length v.caches → HasShortCaches v
+    → caches ≡ set v.caches class cache → length cache < blocks_of class
     → (c : ℕ) → IsClass c → length (of_class caches c) < blocks_of c
 short_but v class cache caches below short is few c is_class = elim (cases_eq c class) as (λ _. length (of_class caches c) < blocks_of c) [
   | inl same ↦ subst (λ k. length (of_class caches k) < blocks_of k) (sym same)
       (let e = ap length (ap (λ l. of_class l class) is ∙ get_or-set_same v.caches class cache [] below) in omega arith)
-  | inr other ↦ let e = ap length (ap (λ l. of_class l c) is ∙ get_or-set_other v.caches class c cache [] other) in let s = short.each c is_class in omega arith
+  | inr other ↦ let e = ap length (ap (λ l. of_class l c) is ∙ get_or-set_other v.caches class c cache [] other) in
+      let s = short.each c is_class in omega arith
 ]
 
-pub alloc_between : (bytes : ℕ) (v w : View) (has : HasSoundState v) (result : Result Block AllocFault) → IsIdle v → HasShortCaches v → Answers bytes result v w → IsBetweenCalls w
+pub alloc_between : (bytes : ℕ) (v w : View) (has : HasSoundState v) (result : Result Block AllocFault) → IsIdle v → HasShortCaches v
+    → Answers bytes result v w → IsBetweenCalls w
 alloc_between bytes v w has (Ok b) idle short (by_class class least allocated) going = (
   record {
     batch = ap (λ (p : Parts). p.batch) allocated.parts_are ∙ idle.batch;
@@ -301,10 +356,15 @@ alloc_between bytes v w has (Ok b) idle short (by_class class least allocated) g
     cutting = ap (λ (p : Parts). p.cutting) allocated.parts_are ∙ idle.cutting;
     classed = ap (λ (p : Parts). p.classed) allocated.parts_are ∙ idle.classed;
   },
-  record { each = short_but v class allocated.cache w.caches (let long = (has.sound.good.set_up has.seat v has.below has.at).caches in let last = least.is_class.last in omega arith) short (ap (λ (p : Parts). p.caches) allocated.parts_are) allocated.short },
+  record {
+    each = short_but v class allocated.cache w.caches (let long = (has.sound.good.set_up has.seat v has.below has.at).caches in
+        let last = least.is_class.last in omega arith) short (ap (λ (p : Parts). p.caches) allocated.parts_are) allocated.short;
+  },
 )
 alloc_between bytes v w has (Ok b) idle short (by_span large allocated) going = same_between v w idle short
-    (ap (λ (p : Parts). p.batch) allocated.parts_are) (ap (λ (p : Parts). p.raw) allocated.parts_are) (ap (λ (p : Parts). p.split) allocated.parts_are) (ap (λ (p : Parts). p.cutting) allocated.parts_are) (ap (λ (p : Parts). p.classed) allocated.parts_are) (ap (λ (p : Parts). p.caches) allocated.parts_are)
+    (ap (λ (p : Parts). p.batch) allocated.parts_are) (ap (λ (p : Parts). p.raw) allocated.parts_are)
+    (ap (λ (p : Parts). p.split) allocated.parts_are) (ap (λ (p : Parts). p.cutting) allocated.parts_are)
+    (ap (λ (p : Parts). p.classed) allocated.parts_are) (ap (λ (p : Parts). p.caches) allocated.parts_are)
 alloc_between bytes v w has (Err (Full looks)) idle short (by_class class least full none) going = parts_between v w idle short full.parts_are
 alloc_between bytes v w has (Err (Full looks)) idle short (by_span large none) going = parts_between v w idle short none.parts_are
 alloc_between bytes v w has (Err (StoppedFault e)) idle short stop going = not_both stop.at going
@@ -315,7 +375,8 @@ request_few bytes moves = record { draws = omega arith; wins = omega arith; give
 
 -- it draws few tickets, or it cut a superblock or stopped
 module _ (bytes moves : ℕ) (x y : SeatView) (ran : x.view.stopped ≡ None) (passes : Passes (request_costs bytes moves) x.view y.view) where
-  paid_for : x.view.taken + length y.view.large ≤ y.view.taken + length x.view.large → (y.view.cuts ≡ x.view.cuts → HoldingRow (light_request bytes moves) x y) → IsPaid x.view y.view
+  paid_for : x.view.taken + length y.view.large ≤ y.view.taken + length x.view.large
+      → (y.view.cuts ≡ x.view.cuts → HoldingRow (light_request bytes moves) x y) → IsPaid x.view y.view
   paid_for left light = elim (cases_lt x.view.cuts y.view.cuts) as (λ _. IsPaid x.view y.view) [
     | inl rose ↦ paid_most (request_costs bytes moves) x.view y.view (request_few bytes moves) passes
         (let g = passes.more.gives in let going = ap one_if_some ran in omega arith)
@@ -323,7 +384,9 @@ module _ (bytes moves : ℕ) (x y : SeatView) (ran : x.view.stopped ≡ None) (p
         (let c = passes.more.cuts in let g = passes.more.gives in let going = ap one_if_some ran in omega arith)
   ]
 
-  pub alloc_paid : (result : Result Block AllocFault) → Answers bytes result x.view y.view → IfGoing result (y.view.cuts ≡ x.view.cuts → HoldingRow (light_request bytes moves) x y) → OnErr result (Row (request_costs bytes moves) x y) → IsPaid x.view y.view
+  pub alloc_paid : (result : Result Block AllocFault) → Answers bytes result x.view y.view
+      → IfGoing result (y.view.cuts ≡ x.view.cuts → HoldingRow (light_request bytes moves) x y)
+      → OnErr result (Row (request_costs bytes moves) x y) → IsPaid x.view y.view
   alloc_paid (Ok b) (by_class class least allocated) light row =
       paid_for (let t = passes.more.taken in let spans = ap (λ (p : Parts). length p.large) allocated.parts_are in omega arith) light
   alloc_paid (Ok b) (by_span large allocated) light row =

@@ -33,7 +33,8 @@ use Rattle.thread_cache.specs.Keeps.{KeepsCosts}
 pub state_is : {C : Type 0} {s t : CacheValue C} → s ≡ t → s.state ≡ t.state
 state_is same = ap (λ (s : CacheValue _). s.state) same
 
-pub asked_at : {C : Type 0} {gives : C → ℕ → C → Type 0} {before s : CacheValue C} {w : View} {new : C} → before ≡ s → HasAsked gives before.state.view w before.chance new
+pub asked_at : {C : Type 0} {gives : C → ℕ → C → Type 0} {before s : CacheValue C} {w : View} {new : C} → before ≡ s
+    → HasAsked gives before.state.view w before.chance new
     → HasAsked gives s.state.view w s.chance new
 asked_at {C} {gives} {before} {s} {w} {new} is asked = subst (λ (x : CacheValue C). HasAsked gives x.state.view w x.chance new) is asked
 
@@ -69,10 +70,12 @@ pub next_low : (v : View) → HasSoundState v → v.setup.budget < 2 ^ 40 → v.
 next_low v has low going = let most = view_below v going has in omega arith
 
 -- a call that is done, and one that stops
-pub runs_law : (v w : View) (marks marks' : List Bool) (n n' : CallCounts) → HasSoundState w → v.stopped ≡ None → w.stopped ≡ None → next_of v < next_of w → Runs (heap_view_of v marks n) (heap_view_of w marks' n')
+pub runs_law : (v w : View) (marks marks' : List Bool) (n n' : CallCounts) → HasSoundState w → v.stopped ≡ None → w.stopped ≡ None
+    → next_of v < next_of w → Runs (heap_view_of v marks n) (heap_view_of w marks' n')
 runs_law v w marks marks' n n' has ran going later = record { ran = ran; running = going; drew = later; below = view_below w going has }
 
-pub stops_law : (v w : View) (marks marks' : List Bool) (n n' : CallCounts) (step : ℕ) → v.stopped ≡ None → w.setup ≡ v.setup → Stops step v w → HeapStops step (heap_view_of v marks n) (heap_view_of w marks' n')
+pub stops_law : (v w : View) (marks marks' : List Bool) (n n' : CallCounts) (step : ℕ) → v.stopped ≡ None → w.setup ≡ v.setup → Stops step v w
+    → HeapStops step (heap_view_of v marks n) (heap_view_of w marks' n')
 stops_law v w marks marks' n n' step ran setup stop = record {
   stopped = stop.at;
   above = let same = ap (λ (k : Setup). k.budget) setup in let b = stop.budget in omega arith;
@@ -82,7 +85,8 @@ stops_law v w marks marks' n n' step ran setup stop = record {
 }
 
 -- what every call leaves: setup and tickets, and what is known of the mark
-pub goes_on_law : {a : Costs} (v w : View) (marks marks' : List Bool) (n n' : CallCounts) → Passes a v w → GoesOn (heap_view_of v marks n) (heap_view_of w marks' n')
+pub goes_on_law : {a : Costs} (v w : View) (marks marks' : List Bool) (n n' : CallCounts) → Passes a v w
+    → GoesOn (heap_view_of v marks n) (heap_view_of w marks' n')
 goes_on_law v w marks marks' n n' passes = record {
   capacity = ap (λ (k : Setup). k.capacity) passes.setup;
   kinds = ap opened_kinds passes.setup;
@@ -102,7 +106,8 @@ pub record SmallStep (s : CacheState) (x y : SeatView) (n : CallCounts) : Type 0
   pub bytes : n.refused_bytes ≡ s.refused_bytes
   pub refused : n.refused_looks ≡ s.refused_looks
 
-pub small_step : (before s : CacheState) → before ≡ s → (x y : SeatView) → x.view ≡ before.view → x.marks ≡ before.marks → HasSoundState y.view → s.view.stopped ≡ None
+pub small_step : (before s : CacheState) → before ≡ s → (x y : SeatView) → x.view ≡ before.view → x.marks ≡ before.marks → HasSoundState y.view
+    → s.view.stopped ≡ None
     → SmallStep s x y (record (counts_of before) { small_calls = before.small_calls + 1 })
 small_step before s is x y view marks has ran = record {
   was = record { view = view ∙ ap (λ (s : CacheState). s.view) is; marks = marks ∙ ap (λ (s : CacheState). s.marks) is };
@@ -130,11 +135,13 @@ module _ (s : CacheState) (x y : SeatView) (n : CallCounts) (step : SmallStep s 
     large = step.large;
     taken = let least = passes.more.taken in let most = passes.most.taken in omega arith;
     used_look = ap look_of looks.used;
-    head_look = λ list. ap (λ (l : LastLook). look_of (get_or y.view.head_looks list l)) looks.used ∙ ap (λ heads. look_of (get_or heads list s.view.used_look)) looks.heads;
+    head_look = λ list. ap (λ (l : LastLook). look_of (get_or y.view.head_looks list l)) looks.used
+        ∙ ap (λ heads. look_of (get_or heads list s.view.used_look)) looks.heads;
     refusals = record { count = step.refusals; bytes = step.bytes; looks = step.refused };
   }
 
-  pub small_keeps : y.view.large ≡ x.view.large → KeepsCosts s.view s.small_calls s.large_calls y.view n.small_calls n.large_calls × (role y.view ≡ role s.view)
+  pub small_keeps : y.view.large ≡ x.view.large → KeepsCosts s.view s.small_calls s.large_calls y.view n.small_calls n.large_calls
+      × (role y.view ≡ role s.view)
   small_keeps same = (
     record {
       setup = passes.setup;
@@ -143,13 +150,15 @@ module _ (s : CacheState) (x y : SeatView) (n : CallCounts) (step : SmallStep s 
       none_falls = passes.more;
       small_rise = let e = step.small in omega arith;
       large_rise = let e = step.large in omega arith;
-      draws = let e = step.small in let f = step.large in let l = passes.more.losses in let m = passes.more.moves in let d = passes.most.draws in omega arith;
+      draws = let e = step.small in let f = step.large in let l = passes.more.losses in let m = passes.more.moves in
+          let d = passes.most.draws in omega arith;
       wins = let f = step.large in let d = passes.most.wins in let m = passes.more.moves in omega arith;
       gives = let f = step.large in let d = passes.most.gives in omega arith;
       cuts = let f = step.large in let d = passes.most.cuts in omega arith;
       light = let e = step.small in let f = step.large in let l = passes.more.losses in let d = passes.most.draws in
           let c = passes.more.cuts in let g = passes.more.gives in let t = passes.more.taken in
-          let r = ap (λ (x : Role). x.accepts) passes.role_is in let ran = ap one_if_some step.ran in let spans = ap length (at_state (λ v. y.view.large ≡ v.large) s x step.was same) in omega arith;
+          let r = ap (λ (x : Role). x.accepts) passes.role_is in let ran = ap one_if_some step.ran in
+          let spans = ap length (at_state (λ v. y.view.large ≡ v.large) s x step.was same) in omega arith;
     },
     passes.role_is,
   )
@@ -157,11 +166,14 @@ module _ (s : CacheState) (x y : SeatView) (n : CallCounts) (step : SmallStep s 
   pub small_own : {a : Costs} → Row a x y → KeepsOwn (heap_view s) (heap_view_of y.view y.marks n)
   small_own {a} row = kept_at s y.view (heap_view_of y.view y.marks n) refl refl refl refl (at_state (λ v. ViewRow a v y.view) s x step.was row.view)
 
-  pub small_stops : {A : Type 0} (result : Result A Stopped) → IfErr result (λ e. Stops e.step x.view y.view) → IfErr result (λ e. HeapStops e.step (heap_view s) (heap_view_of y.view y.marks n))
+  pub small_stops : {A : Type 0} (result : Result A Stopped) → IfErr result (λ e. Stops e.step x.view y.view)
+      → IfErr result (λ e. HeapStops e.step (heap_view s) (heap_view_of y.view y.marks n))
   small_stops (Ok a) stop = tt
-  small_stops (Err e) stop = stops_law s.view y.view s.marks y.marks (counts_of s) n e.step step.ran passes.setup (at_state (λ v. Stops e.step v y.view) s x step.was stop)
+  small_stops (Err e) stop = stops_law s.view y.view s.marks y.marks (counts_of s) n e.step step.ran passes.setup
+      (at_state (λ v. Stops e.step v y.view) s x step.was stop)
 
-  pub small_unstored : {A : Type 0} (result : Result A Stopped) → OnErr result (Row one_draw x y) → OnErr result (KeepsOwn (heap_view s) (heap_view_of y.view y.marks n))
+  pub small_unstored : {A : Type 0} (result : Result A Stopped) → OnErr result (Row one_draw x y)
+      → OnErr result (KeepsOwn (heap_view s) (heap_view_of y.view y.marks n))
   small_unstored (Ok a) row = tt
   small_unstored (Err e) row = small_own row
 
@@ -179,15 +191,20 @@ between_then v w drew ran before going = let is = before ran in let same = drew.
     cutting = ap (λ (p : Parts). p.cutting) same ∙ is.0.cutting;
     classed = ap (λ (p : Parts). p.classed) same ∙ is.0.classed;
   },
-  record { each = λ class is_class. let less = is.1.each class is_class in let e = ap (λ (p : Parts). length (of_class p.caches class)) same in omega arith },
+  record {
+    each = λ class is_class. let less = is.1.each class is_class in let e = ap (λ (p : Parts). length (of_class p.caches class)) same in
+        omega arith;
+  },
 )
 
-pub counts_then : (small large refusals : ℕ) (v w : View) → next_of v < next_of w → HasCounts small large refusals v → HasCounts (small + 1) large refusals w
+pub counts_then : (small large refusals : ℕ) (v w : View) → next_of v < next_of w → HasCounts small large refusals v
+    → HasCounts (small + 1) large refusals w
 counts_then small large refusals v w later counts = (let c = counts.0 in omega arith, counts.1)
 
 -- a spot is a word of the seat's
 pub spot_held : (s : CacheState) (spot : Spot) → IsOwnSpot (heap_view s) spot → IsHeldWord s.view (word_of spot)
-spot_held s (InBlock b index) own = own_held s (b.first_word + index) (in_block b (b.first_word + index) own.0 (record { from = omega arith; until = (let less = own.1 in omega arith) }))
+spot_held s (InBlock b index) own = own_held s (b.first_word + index)
+    (in_block b (b.first_word + index) own.0 (record { from = omega arith; until = (let less = own.1 in omega arith) }))
 spot_held s (Root i) own = own_held s (root_word i) (in_root i (root_word i) own refl)
 
 pub spot_low : (s : CacheState) (spot : Spot) → IsOwnSpot (heap_view s) spot → word_of spot < 2 ^ 48
@@ -197,12 +214,16 @@ spot_low s (Root i) own = let below = (seat_law s).roots_are i own in omega arit
 -- a load, and a fence
 module _ (s : CacheState) (x y : SeatView) (n : CallCounts) (step : SmallStep s x y n) where
   runs_of : RunsOn x.view y.view → Runs (heap_view s) (heap_view_of y.view y.marks n)
-  runs_of runs = let r = at_state (λ v. RunsOn v y.view) s x step.was runs in runs_law s.view y.view s.marks y.marks (counts_of s) n step.has r.ran r.going r.later
+  runs_of runs = let r = at_state (λ v. RunsOn v y.view) s x step.was runs in
+      runs_law s.view y.view s.marks y.marks (counts_of s) n step.has r.ran r.going r.later
 
-  marks_kept : (word : ℕ) → (IsMarked x.marks word → IsMarked y.marks word) → Contains (marked_words s.marks) word → Contains (marked_words y.marks) word
-  marks_kept word keeps pending = marked_words-has y.marks word (keeps (subst (λ marks. IsMarked marks word) (sym step.was.marks) (marked_words-only s.marks word pending)))
+  marks_kept : (word : ℕ) → (IsMarked x.marks word → IsMarked y.marks word) → Contains (marked_words s.marks) word
+      → Contains (marked_words y.marks) word
+  marks_kept word keeps pending = marked_words-has y.marks word (keeps
+      (subst (λ marks. IsMarked marks word) (sym step.was.marks) (marked_words-only s.marks word pending)))
 
-  pub small_loads : (word : ℕ) (result : Result ℕ Stopped) → y.marks ≡ x.marks → IfOk result (λ value. HasValue word value x.view y.view) → IfOk result (λ value. Loads word value (heap_view s) (heap_view_of y.view y.marks n))
+  pub small_loads : (word : ℕ) (result : Result ℕ Stopped) → y.marks ≡ x.marks → IfOk result (λ value. HasValue word value x.view y.view)
+      → IfOk result (λ value. Loads word value (heap_view s) (heap_view_of y.view y.marks n))
   small_loads word (Ok value) marks loaded = record {
     runs = runs_of loaded.runs;
     seen = loaded.seen;
@@ -230,14 +251,17 @@ module _ (s : CacheState) (x y : SeatView) (n : CallCounts) (step : SmallStep s 
   } where
     by_spot : (at : Spot) → IsOwnSpot (heap_view s) at → ((k : ℕ) → k < image_words x.view.setup.capacity → k / 8 ≡ word_of at / 8 → IsMarked y.marks k)
         → (word : ℕ) → IsWrittenWith at word → IsMarked y.marks word
-    by_spot (InBlock b index) held line word within = line word (own_below x.view word (owns_held x.view word (subst (λ (v : View). IsHeldWord v word) (sym step.was.view)
+    by_spot (InBlock b index) held line word within = line word (own_below x.view word
+        (owns_held x.view word (subst (λ (v : View). IsHeldWord v word) (sym step.was.view)
         (own_held s word (in_block b word held.0 within.0))))) within.1
     by_spot (Root i) held line word within = subst (λ k. IsMarked y.marks k) (sym within) (line (root_word i)
-        (own_below x.view (root_word i) (owns_held x.view (root_word i) (subst (λ (v : View). IsHeldWord v (root_word i)) (sym step.was.view) (spot_held s (Root i) held)))) refl)
+        (own_below x.view (root_word i) (owns_held x.view (root_word i)
+        (subst (λ (v : View). IsHeldWord v (root_word i)) (sym step.was.view) (spot_held s (Root i) held)))) refl)
   small_writes_back spot (Err e) own marked keeps = tt
 
   pub small_stores : (word value : ℕ) (result : Result ⊤ Stopped) → OnOk result (HasValue word value x.view y.view)
-      → ((other : ℕ) → other ≢ word → IsMarked x.marks other → IsMarked y.marks other) → OnOk result (Stores word value (heap_view s) (heap_view_of y.view y.marks n))
+      → ((other : ℕ) → other ≢ word → IsMarked x.marks other → IsMarked y.marks other)
+      → OnOk result (Stores word value (heap_view s) (heap_view_of y.view y.marks n))
   small_stores word value (Ok a) stored keeps = record {
     runs = runs_of stored.runs;
     seen = stored.seen;
@@ -246,16 +270,19 @@ module _ (s : CacheState) (x y : SeatView) (n : CallCounts) (step : SmallStep s 
   small_stores word value (Err e) stored keeps = tt
 
   -- a store may leave the value in its word, and stores to no other
-  pub small_may_store : (word value : ℕ) → StoringRow word one_draw x y → MayHave word value x.view y.view → MayHaveStored word value (heap_view s) (heap_view_of y.view y.marks n)
+  pub small_may_store : (word value : ℕ) → StoringRow word one_draw x y → MayHave word value x.view y.view
+      → MayHaveStored word value (heap_view s) (heap_view_of y.view y.marks n)
   small_may_store word value row may = record {
     held = held_same y.view s.view.setup s.view.small s.view.large (at_state (λ v. y.view.setup ≡ v.setup) s x step.was row.but.passes.setup)
         (at_state (λ v. y.view.small ≡ v.small) s x step.was row.small) (at_state (λ v. y.view.large ≡ v.large) s x step.was row.large);
     roots = at_state (λ v. y.view.roots ≡ v.roots) s x step.was row.but.passes.roots;
     others = λ other own differs. word_law s.view y.view s.marks y.marks (counts_of s) n other
-        (at_state (λ v. KeepsRowWord v y.view other) s x step.was (row.but.words other (subst (λ (v : View). IsHeldWord v other) (sym step.was.view) (own_held s other own), differs)));
+        (at_state (λ v. KeepsRowWord v y.view other) s x step.was (row.but.words other
+        (subst (λ (v : View). IsHeldWord v other) (sym step.was.view) (own_held s other own), differs)));
     stored = λ read is. by_may (at_state (λ v. MayHave word value v y.view) s x step.was may) read is;
   } where
-    by_may : MayHave word value s.view y.view → (read : ℕ) → MayReadHeap (heap_view_of y.view y.marks n) word read → (read ≡ value) ⊎ MayReadHeap (heap_view s) word read
+    by_may : MayHave word value s.view y.view → (read : ℕ) → MayReadHeap (heap_view_of y.view y.marks n) word read
+        → (read ≡ value) ⊎ MayReadHeap (heap_view s) word read
     by_may may read is = elim (may.each read (read_to y.view word read is)) as (λ _. (read ≡ value) ⊎ MayReadHeap (heap_view s) word read) [
       | inl new ↦ inl new
       | inr old ↦ inr (read_from s.view word read old)

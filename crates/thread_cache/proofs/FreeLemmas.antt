@@ -32,21 +32,40 @@ use Rattle.thread_cache.proofs.CallLemmas.{at_state, runs_law}
 use Rattle.thread_cache.proofs.LargeLemmas.{IsFew, IsPaid, LargeStep, paid_light, paid_most}
 
 -- the block that goes
-gives_block : (class : ℕ) (b : Block) (v w : View) → w.setup ≡ v.setup → w.roots ≡ v.roots → IsSmallBlock class b v → w.small ≡ set v.small class (without b.first_word (of_class v.small class)) → w.large ≡ v.large → GivesBlock class b v w
-gives_block class b v w setup roots is small large = record { is_class = is.is_class; words = is.words; there = is.there; setup = setup; roots = roots; small = small; large = large }
+gives_block : (class : ℕ) (b : Block) (v w : View) → w.setup ≡ v.setup → w.roots ≡ v.roots → IsSmallBlock class b v
+    → w.small ≡ set v.small class (without b.first_word (of_class v.small class)) → w.large ≡ v.large → GivesBlock class b v w
+gives_block class b v w setup roots is small large = record {
+  is_class = is.is_class;
+  words = is.words;
+  there = is.there;
+  setup = setup;
+  roots = roots;
+  small = small;
+  large = large;
+}
 
-gives_span : (d : ℕ) (b : Block) (v w : View) → w.setup ≡ v.setup → w.roots ≡ v.roots → IsSpan d b v → w.small ≡ v.small → w.large ≡ without_span d v.large → GivesSpan d b v w
-gives_span d b v w setup roots is small large = record { there = is.there; block = is.block; setup = setup; roots = roots; small = small; large = large }
+gives_span : (d : ℕ) (b : Block) (v w : View) → w.setup ≡ v.setup → w.roots ≡ v.roots → IsSpan d b v → w.small ≡ v.small
+    → w.large ≡ without_span d v.large → GivesSpan d b v w
+gives_span d b v w setup roots is small large = record {
+  there = is.there;
+  block = is.block;
+  setup = setup;
+  roots = roots;
+  small = small;
+  large = large;
+}
 
 given_going : (b : Block) (v w : View) → IsGivenBack b v w → w.stopped ≡ None
 given_going b v w (of_a_class class is freed) = freed.going
 given_going b v w (of_a_span d is freed) = freed.going
 
 -- a held block of the heap's seat is one of the core's
-pub held_block : (s : CacheState) (x : SeatView) → HasSoundState x.view → x.view ≡ s.view → (b : Block) → Contains (heap_view s).held b → IsHeld x.view b
+pub held_block : (s : CacheState) (x : SeatView) → HasSoundState x.view → x.view ≡ s.view → (b : Block) → Contains (heap_view s).held b
+    → IsHeld x.view b
 held_block s x has view b there = held_is x.view has b (subst (λ (v : View). Contains (held_blocks v) b) (sym view) there)
 
-module _ (b : Block) (s : CacheState) (x y : SeatView) (n : CallCounts) (step : LargeStep s x y n) (had : HasSoundState x.view) (later : next_of x.view < next_of y.view) {a : Costs}
+module _ (b : Block) (s : CacheState) (x y : SeatView) (n : CallCounts) (step : LargeStep s x y n) (had : HasSoundState x.view)
+    (later : next_of x.view < next_of y.view) {a : Costs}
     (row : RowBut (IsHeldOutside x.view b) a x y) (same : SameRefusals (heap_view s) (heap_view_of y.view y.marks n)) where
   has_state : HasSoundState s.view
   has_state = subst HasSoundState step.was.view had
@@ -59,14 +78,19 @@ module _ (b : Block) (s : CacheState) (x y : SeatView) (n : CallCounts) (step : 
 
   -- it is gone
   loses : IsGivenBack b s.view y.view → Loses b (heap_view s) (heap_view_of y.view y.marks n)
-  loses (of_a_class class is freed) = gives_by s.view y.view s.marks y.marks (counts_of s) n (λ not. not has_state step.has) class b (class_in s.view has_state class is.is_class)
-      (gives_block class b s.view y.view passes.setup passes.roots is (ap (λ (p : Parts). p.small) freed.parts_are) (ap (λ (p : Parts). p.large) freed.parts_are))
+  loses (of_a_class class is freed) = gives_by s.view y.view s.marks y.marks (counts_of s) n (λ not. not has_state step.has) class b
+      (class_in s.view has_state class is.is_class)
+      (gives_block class b s.view y.view passes.setup passes.roots is (ap (λ (p : Parts). p.small) freed.parts_are)
+      (ap (λ (p : Parts). p.large) freed.parts_are))
   loses (of_a_span d is freed) = gives_span_by s.view y.view s.marks y.marks (counts_of s) n (λ not. not has_state step.has) d b
-      (gives_span d b s.view y.view passes.setup passes.roots is (ap (λ (p : Parts). p.small) freed.parts_are) (ap (λ (p : Parts). p.large) freed.parts_are))
+      (gives_span d b s.view y.view passes.setup passes.roots is (ap (λ (p : Parts). p.small) freed.parts_are)
+      (ap (λ (p : Parts). p.large) freed.parts_are))
 
-  pub free_ok : (result : Result ⊤ Stopped) → OnOk result (IsGivenBack b x.view y.view) → OnOk result (Frees b (heap_view s) (heap_view_of y.view y.marks n))
+  pub free_ok : (result : Result ⊤ Stopped) → OnOk result (IsGivenBack b x.view y.view)
+      → OnOk result (Frees b (heap_view s) (heap_view_of y.view y.marks n))
   free_ok (Ok r) given = let is = at_state (λ v. IsGivenBack b v y.view) s x step.was given in record {
-    runs = runs_law s.view y.view s.marks y.marks (counts_of s) n step.has step.ran (given_going b s.view y.view is) (at_state (λ v. next_of v < next_of y.view) s x step.was later);
+    runs = runs_law s.view y.view s.marks y.marks (counts_of s) n step.has step.ran (given_going b s.view y.view is)
+        (at_state (λ v. next_of v < next_of y.view) s x step.was later);
     gone = (loses is).gone;
     pending = λ word own out. pending_of s x y n step.was word (row.marks word (outside word own out));
   }
@@ -78,7 +102,8 @@ module _ (b : Block) (s : CacheState) (x y : SeatView) (n : CallCounts) (step : 
   may_lose (of_a_class class is may) = elim may.small [
     | inl stays ↦ let all = held_same y.view s.view.setup s.view.small s.view.large passes.setup stays may.large in
         (λ c there. subst (λ l. Contains l c) all there, λ c there other. subst (λ l. Contains l c) (sym all) there)
-    | inr less ↦ let l = gives_by s.view y.view s.marks y.marks (counts_of s) n (λ not. not has_state step.has) class b (class_in s.view has_state class is.is_class)
+    | inr less ↦ let l = gives_by s.view y.view s.marks y.marks (counts_of s) n (λ not. not has_state step.has) class b
+        (class_in s.view has_state class is.is_class)
         (gives_block class b s.view y.view passes.setup passes.roots is less may.large) in (l.only, l.keeps)
   ]
   may_lose (of_a_span d is may) = elim may.large [
@@ -93,7 +118,8 @@ module _ (b : Block) (s : CacheState) (x y : SeatView) (n : CallCounts) (step : 
     only = l.0;
     keeps = l.1;
     roots = passes.roots;
-    words = λ word own out. word_law s.view y.view s.marks y.marks (counts_of s) n word (at_state (λ v. KeepsRowWord v y.view word) s x step.was (row.words word (outside word own out)));
+    words = λ word own out. word_law s.view y.view s.marks y.marks (counts_of s) n word
+        (at_state (λ v. KeepsRowWord v y.view word) s x step.was (row.words word (outside word own out)));
     refusals = same;
   }
 
@@ -102,23 +128,35 @@ module _ (b : Block) (s : CacheState) (x y : SeatView) (n : CallCounts) (step : 
   free_cached light gives large = at_state (λ v. Passes light_free_costs v y.view) s x step.was
       (light (gives ∙ ap (λ (v : View). v.gives) (sym step.was.view)) (large ∙ ap (λ (v : View). v.large) (sym step.was.view))).passes
 
-  free_light : (result : Result ⊤ Stopped) → OnOk result (y.view.gives ≡ x.view.gives → y.view.large ≡ x.view.large → RowBut (IsHeldOutside x.view b) light_free_costs x y) → OnOk result (IsLight s.view y.view)
-  free_light (Ok r) light = λ cuts gives taken large. let few = free_cached light gives large in let d = few.most.draws in let l = few.more.losses in omega arith
+  free_light : (result : Result ⊤ Stopped) → OnOk result (y.view.gives ≡ x.view.gives → y.view.large ≡ x.view.large
+      → RowBut (IsHeldOutside x.view b) light_free_costs x y) → OnOk result (IsLight s.view y.view)
+  free_light (Ok r) light = λ cuts gives taken large. let few = free_cached light gives large in let d = few.most.draws in
+      let l = few.more.losses in omega arith
   free_light (Err e) light = tt
 
   -- what it costs, whatever it answers
   pub free_costs : a ≡ most_free_costs → Passes most_free_costs s.view y.view
   free_costs are = subst (λ (k : Costs). Passes k s.view y.view) are passes
 
-  pub free_put : a ≡ most_free_costs → (result : Result ⊤ Stopped) → OnOk result (IsGivenBack b x.view y.view) → OnOk result (y.view.gives ≡ x.view.gives → y.view.large ≡ x.view.large → RowBut (IsHeldOutside x.view b) light_free_costs x y) → OnOk result (IsPutBack b s.view y.view)
-  free_put are (Ok r) given light = let costs = free_costs are in record { light = free_light (Ok r) light; cuts = let most = costs.most.cuts in let more = costs.more.cuts in omega arith; costs = costs; cached = free_cached light; given = at_state (λ v. IsGivenBack b v y.view) s x step.was given }
+  pub free_put : a ≡ most_free_costs → (result : Result ⊤ Stopped) → OnOk result (IsGivenBack b x.view y.view)
+      → OnOk result (y.view.gives ≡ x.view.gives → y.view.large ≡ x.view.large → RowBut (IsHeldOutside x.view b) light_free_costs x y)
+      → OnOk result (IsPutBack b s.view y.view)
+  free_put are (Ok r) given light = let costs = free_costs are in
+      record {
+        light = free_light (Ok r) light;
+        cuts = let most = costs.most.cuts in let more = costs.more.cuts in omega arith;
+        costs = costs;
+        cached = free_cached light;
+        given = at_state (λ v. IsGivenBack b v y.view) s x step.was given;
+      }
   free_put are (Err e) given light = tt
 
 pub free_few : IsFew most_free_costs
 free_few = record { draws = omega arith; wins = omega arith; gives = omega arith; cuts = omega arith }
 
 -- the seat is idle then, and its caches are short
-pub free_between : (b : Block) (v w : View) (has : HasSoundState v) (result : Result ⊤ Stopped) → IsIdle v → HasShortCaches v → OnOk result (IsGivenBack b v w) → IfErr result (λ e. Stops e.step v w) → IsBetweenCalls w
+pub free_between : (b : Block) (v w : View) (has : HasSoundState v) (result : Result ⊤ Stopped) → IsIdle v → HasShortCaches v
+    → OnOk result (IsGivenBack b v w) → IfErr result (λ e. Stops e.step v w) → IsBetweenCalls w
 free_between b v w has (Ok r) idle short (of_a_class class is freed) stop going = (
   record {
     batch = ap (λ (p : Parts). p.batch) freed.parts_are ∙ idle.batch;
@@ -127,10 +165,14 @@ free_between b v w has (Ok r) idle short (of_a_class class is freed) stop going 
     cutting = ap (λ (p : Parts). p.cutting) freed.parts_are ∙ idle.cutting;
     classed = ap (λ (p : Parts). p.classed) freed.parts_are ∙ idle.classed;
   },
-  record { each = short_but v class freed.cache w.caches (let long = (has.sound.good.set_up has.seat v has.below has.at).caches in let last = is.is_class.last in omega arith) short (ap (λ (p : Parts). p.caches) freed.parts_are) freed.short },
+  record {
+    each = short_but v class freed.cache w.caches (let long = (has.sound.good.set_up has.seat v has.below has.at).caches in
+        let last = is.is_class.last in omega arith) short (ap (λ (p : Parts). p.caches) freed.parts_are) freed.short;
+  },
 )
 free_between b v w has (Ok r) idle short (of_a_span d is freed) stop going = same_between v w idle short
-    (ap (λ (p : Parts). p.batch) freed.parts_are) (ap (λ (p : Parts). p.raw) freed.parts_are) (ap (λ (p : Parts). p.split) freed.parts_are) (ap (λ (p : Parts). p.cutting) freed.parts_are) (ap (λ (p : Parts). p.classed) freed.parts_are) (ap (λ (p : Parts). p.caches) freed.parts_are)
+    (ap (λ (p : Parts). p.batch) freed.parts_are) (ap (λ (p : Parts). p.raw) freed.parts_are) (ap (λ (p : Parts). p.split) freed.parts_are)
+    (ap (λ (p : Parts). p.cutting) freed.parts_are) (ap (λ (p : Parts). p.classed) freed.parts_are) (ap (λ (p : Parts). p.caches) freed.parts_are)
 free_between b v w has (Err e) idle short given stop going = not_both stop.at going
 
 -- a large block that goes is one
@@ -149,7 +191,8 @@ spans_left : (d : ℕ) (spans : List Span) → length (without_span d spans) ≤
 spans_left d [] = omega arith
 spans_left d (span ∷ spans) = elim (cases_eq span.first d) as (λ _. length (without_span d (span ∷ spans)) ≤ length (span ∷ spans)) [
   | inl same ↦ let e = ap (λ test. length (cond test spans (span ∷ without_span d spans))) (eq-eqb span.first d same) in omega arith
-  | inr other ↦ let e = ap (λ test. length (cond test spans (span ∷ without_span d spans))) (ne_eqb span.first d other) in let rest = spans_left d spans in omega arith
+  | inr other ↦ let e = ap (λ test. length (cond test spans (span ∷ without_span d spans))) (ne_eqb span.first d other) in
+      let rest = spans_left d spans in omega arith
 ]
 
 may_fewer : (b : Block) (v w : View) → MayBeGivenBack b v w → length w.large ≤ length v.large
@@ -161,13 +204,18 @@ may_fewer b v w (of_a_span d is may) = elim may.large [
 
 -- it draws few tickets, or it gave a batch, gave up a large block or stopped
 module _ (b : Block) (x y : SeatView) (ran : x.view.stopped ≡ None) (cost : Passes most_free_costs x.view y.view) where
-  pub free_paid : (result : Result ⊤ Stopped) → OnOk result (IsGivenBack b x.view y.view) → MayBeGivenBack b x.view y.view → IfErr result (λ e. Stops e.step x.view y.view)
-      → OnOk result (y.view.gives ≡ x.view.gives → y.view.large ≡ x.view.large → RowBut (IsHeldOutside x.view b) light_free_costs x y) → IsPaid x.view y.view
+  pub free_paid : (result : Result ⊤ Stopped) → OnOk result (IsGivenBack b x.view y.view) → MayBeGivenBack b x.view y.view
+      → IfErr result (λ e. Stops e.step x.view y.view)
+      → OnOk result (y.view.gives ≡ x.view.gives → y.view.large ≡ x.view.large → RowBut (IsHeldOutside x.view b) light_free_costs x y)
+      → IsPaid x.view y.view
   free_paid (Ok r) (of_a_class class is freed) may stop light = elim (cases_lt x.view.gives y.view.gives) as (λ _. IsPaid x.view y.view) [
     | inl rose ↦ paid_most most_free_costs x.view y.view free_few cost
-        (let c = cost.more.cuts in let t = cost.more.taken in let spans = ap (λ (p : Parts). length p.large) freed.parts_are in let going = ap one_if_some ran in omega arith)
-    | inr none ↦ paid_light light_free_costs x.view y.view (omega arith) (light (let g = cost.more.gives in omega arith) (ap (λ (p : Parts). p.large) freed.parts_are)).passes
-        (let c = cost.more.cuts in let g = cost.more.gives in let t = cost.more.taken in let spans = ap (λ (p : Parts). length p.large) freed.parts_are in let going = ap one_if_some ran in omega arith)
+        (let c = cost.more.cuts in let t = cost.more.taken in let spans = ap (λ (p : Parts). length p.large) freed.parts_are in
+        let going = ap one_if_some ran in omega arith)
+    | inr none ↦ paid_light light_free_costs x.view y.view (omega arith)
+        (light (let g = cost.more.gives in omega arith) (ap (λ (p : Parts). p.large) freed.parts_are)).passes
+        (let c = cost.more.cuts in let g = cost.more.gives in let t = cost.more.taken in
+        let spans = ap (λ (p : Parts). length p.large) freed.parts_are in let going = ap one_if_some ran in omega arith)
   ]
   free_paid (Ok r) (of_a_span d is freed) may stop light = paid_most most_free_costs x.view y.view free_few cost
       (let c = cost.more.cuts in let g = cost.more.gives in let t = cost.more.taken in let going = ap one_if_some ran in

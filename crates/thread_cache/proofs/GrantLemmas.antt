@@ -22,30 +22,58 @@ light_refill moves = record no_costs { draws = 9; wins = 2; moves = moves }
 module _ (v t : SeatView) (class : ℕ) where
   pub full_row : Row (refill_costs class (t.view.moves - v.view.moves)) v t → HoldingRow (alloc_costs class (t.view.moves - v.view.moves)) v t
   full_row row = but_fewer (IsHeldBoth v.view t.view) (alloc_costs class (t.view.moves - v.view.moves)) v t (λ k both. both.0)
-      (record { draws = omega arith; wins = omega arith; gives = omega arith; cuts = omega arith; taken = omega arith; moves = omega arith }) (row_but v t row)
+      (record { draws = omega arith; wins = omega arith; gives = omega arith; cuts = omega arith; taken = omega arith; moves = omega arith })
+      (row_but v t row)
 
   pub full_light : Row (light_refill (t.view.moves - v.view.moves)) v t → HoldingRow (light_alloc (t.view.moves - v.view.moves)) v t
   full_light row = but_fewer (IsHeldBoth v.view t.view) (light_alloc (t.view.moves - v.view.moves)) v t (λ k both. both.0)
-      (record { draws = omega arith; wins = omega arith; gives = omega arith; cuts = omega arith; taken = omega arith; moves = omega arith }) (row_but v t row)
+      (record { draws = omega arith; wins = omega arith; gives = omega arith; cuts = omega arith; taken = omega arith; moves = omega arith })
+      (row_but v t row)
 
   module _ (w : SeatView) (row : Row (refill_costs class (t.view.moves - v.view.moves)) v t) where
     pub stopped_row : Row one_draw t w → Row (alloc_costs class (w.view.moves - v.view.moves)) v w
     stopped_row none = row_within (alloc_costs class (w.view.moves - v.view.moves)) v w
-        (let m = row.view.passes.more.moves in let n = none.view.passes.more.moves in record { draws = omega arith; wins = omega arith; gives = omega arith; cuts = omega arith; taken = omega arith; moves = omega (arith, m, n) })
+        (let m = row.view.passes.more.moves in let n = none.view.passes.more.moves in
+        record {
+          draws = omega arith;
+          wins = omega arith;
+          gives = omega arith;
+          cuts = omega arith;
+          taken = omega arith;
+          moves = omega (arith, m, n);
+        })
         (row_then v t w row none)
 
     pub alloc_row : HoldingRow one_draw t w → HoldingRow (alloc_costs class (w.view.moves - v.view.moves)) v w
     alloc_row holding = holding_within (alloc_costs class (w.view.moves - v.view.moves)) v w
-        (let m = row.view.passes.more.moves in let n = holding.passes.more.moves in record { draws = omega arith; wins = omega arith; gives = omega arith; cuts = omega arith; taken = omega arith; moves = omega (arith, m, n) })
+        (let m = row.view.passes.more.moves in let n = holding.passes.more.moves in
+        record {
+          draws = omega arith;
+          wins = omega arith;
+          gives = omega arith;
+          cuts = omega arith;
+          taken = omega arith;
+          moves = omega (arith, m, n);
+        })
         (then_holding v t w row holding)
 
-    pub alloc_light : (t.view.cuts ≡ v.view.cuts → Row (light_refill (t.view.moves - v.view.moves)) v t) → HoldingRow one_draw t w → w.view.cuts ≡ v.view.cuts → HoldingRow (light_alloc (w.view.moves - v.view.moves)) v w
+    pub alloc_light : (t.view.cuts ≡ v.view.cuts → Row (light_refill (t.view.moves - v.view.moves)) v t) → HoldingRow one_draw t w
+        → w.view.cuts ≡ v.view.cuts → HoldingRow (light_alloc (w.view.moves - v.view.moves)) v w
     alloc_light light holding same = holding_within (light_alloc (w.view.moves - v.view.moves)) v w
-        (let m = row.view.passes.more.moves in let n = holding.passes.more.moves in record { draws = omega arith; wins = omega arith; gives = omega arith; cuts = omega arith; taken = omega arith; moves = omega (arith, m, n) })
+        (let m = row.view.passes.more.moves in let n = holding.passes.more.moves in
+        record {
+          draws = omega arith;
+          wins = omega arith;
+          gives = omega arith;
+          cuts = omega arith;
+          taken = omega arith;
+          moves = omega (arith, m, n);
+        })
         (then_holding v t w (light (let a = row.view.passes.more.cuts in let b = holding.passes.more.cuts in omega (arith, a, b, same))) holding)
 
 -- the cache was filled before
-pub filled_alloc : (v t w : View) (class : ℕ) (b : Block) → length (of_class v.caches class) ≡ 0 → HasFilled class v t → HasAllocated class b t w → HasAllocated class b v w
+pub filled_alloc : (v t w : View) (class : ℕ) (b : Block) → length (of_class v.caches class) ≡ 0 → HasFilled class v t
+    → HasAllocated class b t w → HasAllocated class b v w
 filled_alloc v t w class b none filled allocated = record {
   going = allocated.going;
   size = allocated.size;
@@ -53,7 +81,8 @@ filled_alloc v t w class b none filled allocated = record {
   first = λ some. absurd (omega (arith, some, none));
   short = allocated.short;
   parts_are = allocated.parts_are ∙ ap (with_allocated class b.first_word allocated.cache) filled.parts_are
-      ∙ ap (λ l. record (with_allocated class b.first_word allocated.cache (parts v)) { caches = l }) (set-set v.caches class filled.blocks allocated.cache);
+      ∙ ap (λ l. record (with_allocated class b.first_word allocated.cache (parts v)) { caches = l })
+      (set-set v.caches class filled.blocks allocated.cache);
 }
 
 -- a draw with a change of the seat's parts looks at no list
@@ -81,15 +110,19 @@ seen_still list v t w same next seen = record {
   empty = ap (λ (l : LastLook). head_first l.word) (looks_still list t w same) ∙ seen.empty;
 }
 
-pub order_still : (class : ℕ) (v : View) (t w : SeatView) → IsFilledInOrder class v t.view → SameLooks t.view w.view → HoldingRow one_draw t w → IsFilledInOrder class v w.view
-order_still class v t w order same row = let taken = row.passes.most.taken in let more = row.passes.more.taken in let cuts = row.passes.most.cuts in let more_cuts = row.passes.more.cuts in record {
-  cut = λ rose. seen_still class v t.view w.view same row.passes.next (order.cut (omega (arith, cuts, rose)));
-  claimed = λ rose. let won = order.claimed (omega (arith, cuts, rose)) in let e = ap (λ (l : LastLook). l.wins) (looks_still class t.view w.view same) in
-      let least = row.passes.more.wins in let most = row.passes.most.wins in let moved = row.passes.most.moves in omega (arith, won, e, least, most, moved);
-  uncut = λ uncut. let before = order.uncut (omega (arith, cuts, more_cuts, uncut)) in omega (arith, taken, more, before);
-  fresh = λ rose. let none = order.fresh (omega (arith, taken, rose)) in record {
-    of_class = seen_still class v t.view w.view same row.passes.next none.of_class;
-    free = seen_still 0 v t.view w.view same row.passes.next none.free;
-    order = none.order;
-  };
-}
+pub order_still : (class : ℕ) (v : View) (t w : SeatView) → IsFilledInOrder class v t.view → SameLooks t.view w.view → HoldingRow one_draw t w
+    → IsFilledInOrder class v w.view
+order_still class v t w order same row = let taken = row.passes.most.taken in let more = row.passes.more.taken in
+    let cuts = row.passes.most.cuts in let more_cuts = row.passes.more.cuts in record {
+      cut = λ rose. seen_still class v t.view w.view same row.passes.next (order.cut (omega (arith, cuts, rose)));
+      claimed = λ rose. let won = order.claimed (omega (arith, cuts, rose)) in
+          let e = ap (λ (l : LastLook). l.wins) (looks_still class t.view w.view same) in
+          let least = row.passes.more.wins in let most = row.passes.most.wins in let moved = row.passes.most.moves in
+          omega (arith, won, e, least, most, moved);
+      uncut = λ uncut. let before = order.uncut (omega (arith, cuts, more_cuts, uncut)) in omega (arith, taken, more, before);
+      fresh = λ rose. let none = order.fresh (omega (arith, taken, rose)) in record {
+        of_class = seen_still class v t.view w.view same row.passes.next none.of_class;
+        free = seen_still 0 v t.view w.view same row.passes.next none.free;
+        order = none.order;
+      };
+    }

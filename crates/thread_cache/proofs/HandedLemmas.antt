@@ -36,7 +36,8 @@ use Rattle.thread_cache.proofs.FreeLemmas.{held_block}
 use Rattle.thread_cache.proofs.CallLemmas.{SmallStep, at_state, runs_law, small_own}
 
 module _ (b : Block) (table : TableId) (v w : View) where
-  pub offered_between : (answer : Result CarrierView Stopped) → IfOk answer (λ c. HasOffered b c table v w) → IfErr answer (λ e. Stops e.step v w) → v.stopped ≡ None → IsBetweenCalls v → IsBetweenCalls w
+  pub offered_between : (answer : Result CarrierView Stopped) → IfOk answer (λ c. HasOffered b c table v w)
+      → IfErr answer (λ e. Stops e.step v w) → v.stopped ≡ None → IsBetweenCalls v → IsBetweenCalls w
   offered_between (Ok c) has stops ran before going = let is = before ran in let left = has.left in let drawn = has.drawn.left in (
     record {
       batch = ap (λ (x : View). x.batch) left ∙ ap (λ (x : View). x.batch) drawn ∙ is.0.batch;
@@ -45,16 +46,21 @@ module _ (b : Block) (table : TableId) (v w : View) where
       cutting = ap (λ (x : View). x.cutting) left ∙ ap (λ (x : View). x.cutting) drawn ∙ is.0.cutting;
       classed = ap (λ (x : View). x.classed) left ∙ ap (λ (x : View). x.classed) drawn ∙ is.0.classed;
     },
-    record { each = λ class is_class. let less = is.1.each class is_class in let e = ap (λ (x : View). length (of_class x.caches class)) left in let f = ap (λ (x : View). length (of_class x.caches class)) drawn in omega arith },
+    record {
+      each = λ class is_class. let less = is.1.each class is_class in let e = ap (λ (x : View). length (of_class x.caches class)) left in
+          let f = ap (λ (x : View). length (of_class x.caches class)) drawn in omega arith;
+    },
   )
   offered_between (Err e) has stops ran before going = absurd (let z = ap one_if_some (sym going ∙ stops.at) in omega (arith, z))
 
-  pub offered_later : (answer : Result CarrierView Stopped) → IfOk answer (λ c. HasOffered b c table v w) → IfErr answer (λ e. Stops e.step v w) → v.stopped ≡ None → next_of v < next_of w
+  pub offered_later : (answer : Result CarrierView Stopped) → IfOk answer (λ c. HasOffered b c table v w) → IfErr answer (λ e. Stops e.step v w)
+      → v.stopped ≡ None → next_of v < next_of w
   offered_later (Ok c) has stops ran = let e = ap next_of has.left in let f = ap next_of has.drawn.left in let l = has.drawn.later in omega arith
   offered_later (Err e) has stops ran = let n = stops.now ran in let l = ap after_ticket stops.last in omega arith
 
 module _ (carrier : CarrierView) (v w : View) where
-  pub accepted_between : (answer : Result Block (Stopped × CarrierView)) → IfOk answer (λ b. HasAccepted b carrier v w) → IfErr answer (λ e. Stops e.0.step v w × (e.1 ≡ carrier)) → v.stopped ≡ None → IsBetweenCalls v → IsBetweenCalls w
+  pub accepted_between : (answer : Result Block (Stopped × CarrierView)) → IfOk answer (λ b. HasAccepted b carrier v w)
+      → IfErr answer (λ e. Stops e.0.step v w × (e.1 ≡ carrier)) → v.stopped ≡ None → IsBetweenCalls v → IsBetweenCalls w
   accepted_between (Ok b) has stops ran before going = let is = before ran in let left = has.left in let drawn = has.drawn.left in (
     record {
       batch = ap (λ (x : View). x.batch) left ∙ ap (λ (x : View). x.batch) drawn ∙ is.0.batch;
@@ -63,11 +69,15 @@ module _ (carrier : CarrierView) (v w : View) where
       cutting = ap (λ (x : View). x.cutting) left ∙ ap (λ (x : View). x.cutting) drawn ∙ is.0.cutting;
       classed = ap (λ (x : View). x.classed) left ∙ ap (λ (x : View). x.classed) drawn ∙ is.0.classed;
     },
-    record { each = λ class is_class. let less = is.1.each class is_class in let e = ap (λ (x : View). length (of_class x.caches class)) left in let f = ap (λ (x : View). length (of_class x.caches class)) drawn in omega arith },
+    record {
+      each = λ class is_class. let less = is.1.each class is_class in let e = ap (λ (x : View). length (of_class x.caches class)) left in
+          let f = ap (λ (x : View). length (of_class x.caches class)) drawn in omega arith;
+    },
   )
   accepted_between (Err e) has stops ran before going = absurd (let z = ap one_if_some (sym going ∙ stops.0.at) in omega (arith, z))
 
-  pub accepted_later : (answer : Result Block (Stopped × CarrierView)) → IfOk answer (λ b. HasAccepted b carrier v w) → IfErr answer (λ e. Stops e.0.step v w × (e.1 ≡ carrier)) → v.stopped ≡ None → next_of v < next_of w
+  pub accepted_later : (answer : Result Block (Stopped × CarrierView)) → IfOk answer (λ b. HasAccepted b carrier v w)
+      → IfErr answer (λ e. Stops e.0.step v w × (e.1 ≡ carrier)) → v.stopped ≡ None → next_of v < next_of w
   accepted_later (Ok b) has stops ran = let e = ap next_of has.left in let f = ap next_of has.drawn.left in let l = has.drawn.later in omega arith
   accepted_later (Err e) has stops ran = let n = stops.0.now ran in let l = ap after_ticket stops.0.last in omega arith
 
@@ -87,7 +97,15 @@ handled v w offers accepts p = record {
   roots = p.roots;
   floor = p.floor;
   next = p.next;
-  more = let m = p.more in record { draws = m.draws; wins = m.wins; losses = m.losses; gives = m.gives; moves = m.moves; cuts = m.cuts; taken = m.taken };
+  more = let m = p.more in record {
+    draws = m.draws;
+    wins = m.wins;
+    losses = m.losses;
+    gives = m.gives;
+    moves = m.moves;
+    cuts = m.cuts;
+    taken = m.taken;
+  };
   most = let m = p.most in record { draws = m.draws; wins = m.wins; gives = m.gives; cuts = m.cuts; taken = m.taken; moves = m.moves };
   no_less = p.looks.no_less;
 }
@@ -96,7 +114,8 @@ handled v w offers accepts p = record {
 fewer_spans : (test : ℕ → Bool) (spans : List Span) → length (chosen_spans test spans) ≤ length spans
 fewer_spans test [] = omega arith
 fewer_spans test (span ∷ spans) = by_test (test span.first) (fewer_spans test spans) where
-  by_test : (t : Bool) → length (chosen_spans test spans) ≤ length spans → length (cond t (span ∷ chosen_spans test spans) (chosen_spans test spans)) ≤ length (span ∷ spans)
+  by_test : (t : Bool) → length (chosen_spans test spans) ≤ length spans
+      → length (cond t (span ∷ chosen_spans test spans) (chosen_spans test spans)) ≤ length (span ∷ spans)
   by_test true rest = omega arith
   by_test false rest = omega arith
 
@@ -110,21 +129,30 @@ module _ (s : CacheState) (x y : SeatView) (n : CallCounts) (step : SmallStep s 
 
   pub handed_counted : SameLooks x.view y.view → IsSmallCall (heap_view s) (heap_view_of y.view y.marks n)
   handed_counted same = let looks = at_state (λ v. SameLooks v y.view) s x step.was same in record {
-    goes_on = record { capacity = ap (λ (k : Setup). k.capacity) does.setup; kinds = ap opened_kinds does.setup; budget = ap (λ (k : Setup). k.budget) does.setup; tickets = does.next; used = does.no_less };
+    goes_on = record {
+      capacity = ap (λ (k : Setup). k.capacity) does.setup;
+      kinds = ap opened_kinds does.setup;
+      budget = ap (λ (k : Setup). k.budget) does.setup;
+      tickets = does.next;
+      used = does.no_less;
+    };
     small = step.small ∙ ap (λ o. counted o s.small_calls) (sym step.ran);
     large = step.large;
     taken = let least = does.more.taken in let most = does.most.taken in omega arith;
     used_look = ap look_of looks.used;
-    head_look = λ list. ap (λ (l : LastLook). look_of (get_or y.view.head_looks list l)) looks.used ∙ ap (λ heads. look_of (get_or heads list s.view.used_look)) looks.heads;
+    head_look = λ list. ap (λ (l : LastLook). look_of (get_or y.view.head_looks list l)) looks.used
+        ∙ ap (λ heads. look_of (get_or heads list s.view.used_look)) looks.heads;
     refusals = record { count = step.refusals; bytes = step.bytes; looks = step.refused };
   }
 
   pub handed_draws : y.view.losses ≡ x.view.losses → OnlyDraws s.view y.view
   handed_draws same = let l = at_state (λ v. y.view.losses ≡ v.losses) s x step.was same in let more = does.more in let most = does.most in
-      let a = more.moves in let b = most.moves in let c = more.wins in let d = most.wins in let e = more.gives in let f = most.gives in let g = more.cuts in let h = most.cuts in let i = more.taken in let j = most.taken in let k = most.draws in
+      let a = more.moves in let b = most.moves in let c = more.wins in let d = most.wins in let e = more.gives in let f = most.gives in
+      let g = more.cuts in let h = most.cuts in let i = more.taken in let j = most.taken in let k = most.draws in
       record { draws = omega arith; wins = omega arith; losses = l; taken = omega arith; cuts = omega arith; gives = omega arith; moves = omega arith }
 
-  pub handed_keeps : x.view.accepts + length y.view.large ≤ y.view.accepts + length x.view.large → KeepsCosts s.view s.small_calls s.large_calls y.view n.small_calls n.large_calls
+  pub handed_keeps : x.view.accepts + length y.view.large ≤ y.view.accepts + length x.view.large
+      → KeepsCosts s.view s.small_calls s.large_calls y.view n.small_calls n.large_calls
   handed_keeps paid = record {
     setup = does.setup;
     roots = does.roots;
@@ -138,15 +166,18 @@ module _ (s : CacheState) (x y : SeatView) (n : CallCounts) (step : SmallStep s 
     cuts = let f = step.large in let d = does.most.cuts in omega arith;
     light = let e = step.small in let f = step.large in let l = does.more.losses in let d = does.most.draws in
         let c = does.more.cuts in let g = does.more.gives in let t = does.more.taken in
-        let ran = ap one_if_some step.ran in let spans : s.view.accepts + length y.view.large ≤ y.view.accepts + length s.view.large = at_state (λ v. v.accepts + length y.view.large ≤ y.view.accepts + length v.large) s x step.was paid in omega arith;
+        let ran = ap one_if_some step.ran in let spans : s.view.accepts + length y.view.large ≤ y.view.accepts + length s.view.large =
+        at_state (λ v. v.accepts + length y.view.large ≤ y.view.accepts + length v.large) s x step.was paid in omega arith;
   }
 
 -- where the same parts are held
 drawn_alike : (v u : View) → HasDrawn v u → (a : Block) → IsHeld v a → IsHeld u a
-drawn_alike v u drawn = held_alike v u (ap (λ (x : View). x.setup) drawn.left) (ap (λ (x : View). x.small) drawn.left) (ap (λ (x : View). x.large) drawn.left)
+drawn_alike v u drawn = held_alike v u (ap (λ (x : View). x.setup) drawn.left) (ap (λ (x : View). x.small) drawn.left)
+    (ap (λ (x : View). x.large) drawn.left)
 
 drawn_back : (v u : View) → HasDrawn v u → (a : Block) → IsHeld u a → IsHeld v a
-drawn_back v u drawn = held_alike u v (ap (λ (x : View). x.setup) (sym drawn.left)) (ap (λ (x : View). x.small) (sym drawn.left)) (ap (λ (x : View). x.large) (sym drawn.left))
+drawn_back v u drawn = held_alike u v (ap (λ (x : View). x.setup) (sym drawn.left)) (ap (λ (x : View). x.small) (sym drawn.left))
+    (ap (λ (x : View). x.large) (sym drawn.left))
 
 -- the held blocks of the state are those of the core's seat
 module _ (s : CacheState) (x : SeatView) (was : IsStateOf s x) (had : HasSoundState x.view) where
@@ -162,11 +193,13 @@ module _ (b : Block) (s : CacheState) (x y : SeatView) (n : CallCounts) (step : 
     offer_blocks held = let before = drawn_alike x.view has.behind has.drawn b (state_held s x step.was had b held) in record {
       new = λ there. offer_gone has.behind b (subst (λ v. IsHeld v b) has.left (held_is y.view step.has b there));
       has = held;
-      keeps = λ a there. held_state s x step.was had a (drawn_back x.view has.behind has.drawn a (offer_keeps has.behind has.has b before a (subst (λ v. IsHeld v a) has.left (held_is y.view step.has a there))));
-      only = λ a there. elim (offer_only has.behind has.has b before a (drawn_alike x.view has.behind has.drawn a (state_held s x step.was had a there))) [
-        | inl same ↦ inl same
-        | inr left ↦ inr (listed y.view a (subst (λ v. IsHeld v a) (sym has.left) left))
-      ];
+      keeps = λ a there. held_state s x step.was had a (drawn_back x.view has.behind has.drawn a
+          (offer_keeps has.behind has.has b before a (subst (λ v. IsHeld v a) has.left (held_is y.view step.has a there))));
+      only = λ a there. elim (offer_only has.behind has.has b before a
+          (drawn_alike x.view has.behind has.drawn a (state_held s x step.was had a there))) [
+            | inl same ↦ inl same
+            | inr left ↦ inr (listed y.view a (subst (λ v. IsHeld v a) (sym has.left) left))
+          ];
       roots = ap (λ (v : View). v.roots) (sym step.was.view) ∙ sym (roots_of has);
     } where
       roots_of : HasOffered b c table x.view y.view → y.view.roots ≡ x.view.roots
@@ -181,17 +214,21 @@ module _ (b : Block) (s : CacheState) (x y : SeatView) (n : CallCounts) (step : 
       roots = has.carries.carrier.roots;
       contents = record {
         words = λ word within.
-            let is = sends.words word (alone_word x.view c.view b has.carries.holding has.carries.alone has.carries.capacity_is had (state_held s x step.was had b held) word within) in
-            let p = word_law s.view c.view s.marks s.marks (counts_of s) (counts_of s) word (at_state (λ v. KeepsRowWord v c.view word) s x step.was is) in
+            let is = sends.words word (alone_word x.view c.view b has.carries.holding has.carries.alone has.carries.capacity_is had
+            (state_held s x step.was had b held) word within) in
+            let p = word_law s.view c.view s.marks s.marks (counts_of s) (counts_of s) word
+            (at_state (λ v. KeepsRowWord v c.view word) s x step.was is) in
             record { volatile = p.volatile; durable = p.durable };
       };
     }
 
-  pub offer_ok : (table : TableId) (result : Result CarrierView Stopped) → IfOk result (λ c. HasOffered b c table x.view y.view) → OnOk result (OfferRow x y) → next_of x.view < next_of y.view → Contains (heap_view s).held b
+  pub offer_ok : (table : TableId) (result : Result CarrierView Stopped) → IfOk result (λ c. HasOffered b c table x.view y.view)
+      → OnOk result (OfferRow x y) → next_of x.view < next_of y.view → Contains (heap_view s).held b
       → OnOk result (Offers b (heap_view s) (heap_view_of y.view y.marks n))
   offer_ok table (Err e) has row later held = tt
   offer_ok table (Ok c) has row later held = record {
-    runs = runs_law s.view y.view s.marks y.marks (counts_of s) n step.has step.ran going (at_state (λ v. next_of v < next_of y.view) s x step.was later);
+    runs = runs_law s.view y.view s.marks y.marks (counts_of s) n step.has step.ran going
+        (at_state (λ v. next_of v < next_of y.view) s x step.was later);
     blocks = offer_blocks c table has held;
     words = λ word own. word_law s.view y.view s.marks y.marks (counts_of s) n word (kept word (word_held y.view step.has word own));
     pending = λ word own. pending_of s x y n step.was word (row.marks word (word_held y.view step.has word own));
@@ -200,7 +237,8 @@ module _ (b : Block) (s : CacheState) (x y : SeatView) (n : CallCounts) (step : 
     going = ap (λ (v : View). v.stopped) has.left ∙ ap (λ (v : View). v.stopped) has.drawn.left ∙ has.drawn.went
 
     kept : (word : ℕ) → IsHeldWord y.view word → KeepsRowWord s.view y.view word
-    kept word held = at_state (λ v. KeepsRowWord v y.view word) s x step.was (let p = row.words word held in record { volatile = p.volatile; durable = p.durable })
+    kept word held = at_state (λ v. KeepsRowWord v y.view word) s x step.was (let p = row.words word held in
+        record { volatile = p.volatile; durable = p.durable })
 
   module _ (c : CarrierView) (has : HasAccepted b c x.view y.view) where
     abbrev carries : Carries x.view.setup.capacity c.view b
@@ -214,25 +252,34 @@ module _ (b : Block) (s : CacheState) (x y : SeatView) (n : CallCounts) (step : 
 
     pub accept_blocks : Adds b (heap_view s) (heap_view_of y.view y.marks n)
     accept_blocks = record {
-      new = λ there. accept_new has.behind c.view b carries.holding carries.alone capacity has.has after (drawn_alike x.view has.behind has.drawn b (state_held s x step.was had b there));
-      has = listed y.view b (subst (λ v. IsHeld v b) (sym has.left) (accept_has has.behind c.view b carries.holding carries.alone capacity has.has after));
-      keeps = λ a there. listed y.view a (subst (λ v. IsHeld v a) (sym has.left) (accept_keeps has.behind c.view b carries.holding carries.alone capacity has.has after a (drawn_alike x.view has.behind has.drawn a (state_held s x step.was had a there))));
-      only = λ a there. elim (accept_only has.behind c.view b carries.holding carries.alone capacity has.has after a (subst (λ v. IsHeld v a) has.left (held_is y.view step.has a there))) [
-        | inl same ↦ inl same
-        | inr mine ↦ inr (held_state s x step.was had a (drawn_back x.view has.behind has.drawn a mine))
-      ];
+      new = λ there. accept_new has.behind c.view b carries.holding carries.alone capacity has.has after
+          (drawn_alike x.view has.behind has.drawn b (state_held s x step.was had b there));
+      has = listed y.view b (subst (λ v. IsHeld v b) (sym has.left) (accept_has has.behind c.view b carries.holding carries.alone capacity
+          has.has after));
+      keeps = λ a there. listed y.view a (subst (λ v. IsHeld v a) (sym has.left)
+          (accept_keeps has.behind c.view b carries.holding carries.alone capacity has.has after a
+          (drawn_alike x.view has.behind has.drawn a (state_held s x step.was had a there))));
+      only = λ a there. elim (accept_only has.behind c.view b carries.holding carries.alone capacity has.has after a
+          (subst (λ v. IsHeld v a) has.left (held_is y.view step.has a there))) [
+            | inl same ↦ inl same
+            | inr mine ↦ inr (held_state s x step.was had a (drawn_back x.view has.behind has.drawn a mine))
+          ];
       roots = ap (λ (v : View). v.roots) has.left ∙ ap (λ (v : View). v.roots) has.drawn.left ∙ ap (λ (v : View). v.roots) step.was.view;
     }
 
     pub accept_contents : BringsWords c.view y.view → ComesWith b (contents_of c) (heap_view_of y.view y.marks n)
-    accept_contents brings = record { volatile = λ word within. brings.seen word (theirs word within); durable = λ word within. brings.left word (theirs word within) } where
+    accept_contents brings = record {
+      volatile = λ word within. brings.seen word (theirs word within);
+      durable = λ word within. brings.left word (theirs word within);
+    } where
       theirs : (word : ℕ) → IsIn b word → IsHeldWord c.view word
       theirs = alone_word y.view c.view b carries.holding carries.alone (capacity ∙ ap (λ (v : View). v.setup.capacity) (sym has.left)) step.has
           (subst (λ v. IsHeld v b) (sym has.left) (accept_has has.behind c.view b carries.holding carries.alone capacity has.has after))
 
     pub accepts_law : AcceptRow x y → next_of x.view < next_of y.view → Accepts b (heap_view s) (heap_view_of y.view y.marks n)
     accepts_law row later = record {
-      runs = runs_law s.view y.view s.marks y.marks (counts_of s) n step.has step.ran going (at_state (λ v. next_of v < next_of y.view) s x step.was later);
+      runs = runs_law s.view y.view s.marks y.marks (counts_of s) n step.has step.ran going
+          (at_state (λ v. next_of v < next_of y.view) s x step.was later);
       blocks = accept_blocks;
       words = λ word own. word_law s.view y.view s.marks y.marks (counts_of s) n word (kept word (mine word own));
       pending = λ word own. pending_of s x y n step.was word (row.marks word (mine word own));
@@ -244,7 +291,8 @@ module _ (b : Block) (s : CacheState) (x y : SeatView) (n : CallCounts) (step : 
       mine word own = subst (λ (v : View). IsHeldWord v word) (sym step.was.view) (own_held s word own)
 
       kept : (word : ℕ) → IsHeldWord x.view word → KeepsRowWord s.view y.view word
-      kept word held = at_state (λ v. KeepsRowWord v y.view word) s x step.was (let p = row.words word held in record { volatile = p.volatile; durable = p.durable })
+      kept word held = at_state (λ v. KeepsRowWord v y.view word) s x step.was (let p = row.words word held in
+          record { volatile = p.volatile; durable = p.durable })
 
 -- over both answers
 module _ (b : Block) (s : CacheState) (x y : SeatView) (n : CallCounts) (step : SmallStep s x y n) (had : HasSoundState x.view) where
@@ -252,38 +300,49 @@ module _ (b : Block) (s : CacheState) (x y : SeatView) (n : CallCounts) (step : 
   offer_handled (Ok c) row none = handled x.view y.view (x.view.offers + 1) x.view.accepts row.passes
   offer_handled (Err e) row none = handled x.view y.view x.view.offers x.view.accepts none.view.passes
 
-  pub offer_paid : (table : TableId) (result : Result CarrierView Stopped) → IfOk result (λ c. HasOffered b c table x.view y.view) → OnErr result (Row one_draw x y) → x.view.accepts + length y.view.large ≤ y.view.accepts + length x.view.large
+  pub offer_paid : (table : TableId) (result : Result CarrierView Stopped) → IfOk result (λ c. HasOffered b c table x.view y.view)
+      → OnErr result (Row one_draw x y) → x.view.accepts + length y.view.large ≤ y.view.accepts + length x.view.large
   offer_paid table (Ok c) has none =
       let count = ap (λ (v : View). v.accepts) has.left ∙ ap (λ (v : View). v.accepts) has.drawn.left in
       let spans = ap (λ (v : View). length v.large) has.left in let before = ap (λ (v : View). length v.large) has.drawn.left in
       let fewer = fewer_spans (λ d. not (nat_eq d (superblock_at has.behind.setup.capacity b.first_word))) has.behind.large in omega arith
-  offer_paid table (Err e) has none = let count = ap (λ (r : Role). r.accepts) none.view.passes.role_is in let spans = ap length none.view.large in omega arith
+  offer_paid table (Err e) has none = let count = ap (λ (r : Role). r.accepts) none.view.passes.role_is in
+      let spans = ap length none.view.large in omega arith
 
-  pub offer_sent : (table t : TableId) (result : Result CarrierView Stopped) → IfOk result (λ c. HasOffered b c table x.view y.view) → IfOk result (λ c. SendsWords c.view x.view) → table ≡ t → t ≡ s.table → Contains (heap_view s).held b
+  pub offer_sent : (table t : TableId) (result : Result CarrierView Stopped) → IfOk result (λ c. HasOffered b c table x.view y.view)
+      → IfOk result (λ c. SendsWords c.view x.view) → table ≡ t → t ≡ s.table → Contains (heap_view s).held b
       → IfOk result (λ c. IsSent b c s)
   offer_sent table t (Ok c) has sends same of held = offer_sent_law b s x y n step had c table has t same of sends held
   offer_sent table t (Err e) has sends same of held = tt
 
-  pub handed_own : {A E : Type 0} (result : Result A E) → OnErr result (Row one_draw x y) → OnErr result (KeepsOwn (heap_view s) (heap_view_of y.view y.marks n))
+  pub handed_own : {A E : Type 0} (result : Result A E) → OnErr result (Row one_draw x y)
+      → OnErr result (KeepsOwn (heap_view s) (heap_view_of y.view y.marks n))
   handed_own (Ok a) none = tt
   handed_own (Err e) none = small_own s x y n step none.view.passes none
 
   module _ (c : CarrierView) where
-    pub accept_handled : (result : Result Block (Stopped × CarrierView)) → OnOk result (AcceptRow x y) → OnErr result (Row one_draw x y) → IsHandled x.view y.view
+    pub accept_handled : (result : Result Block (Stopped × CarrierView)) → OnOk result (AcceptRow x y) → OnErr result (Row one_draw x y)
+        → IsHandled x.view y.view
     accept_handled (Ok a) row none = handled x.view y.view x.view.offers (x.view.accepts + 1) row.passes
     accept_handled (Err e) row none = handled x.view y.view x.view.offers x.view.accepts none.view.passes
 
-    pub accept_paid : (result : Result Block (Stopped × CarrierView)) → IfOk result (λ a. HasAccepted a c x.view y.view) → OnErr result (Row one_draw x y) → x.view.accepts + length y.view.large ≤ y.view.accepts + length x.view.large
+    pub accept_paid : (result : Result Block (Stopped × CarrierView)) → IfOk result (λ a. HasAccepted a c x.view y.view)
+        → OnErr result (Row one_draw x y) → x.view.accepts + length y.view.large ≤ y.view.accepts + length x.view.large
     accept_paid (Ok a) has none =
         let count = ap (λ (v : View). v.accepts) has.left in let before = ap (λ (v : View). v.accepts) has.drawn.left in
         let spans = ap (λ (v : View). length v.large) has.left in let then = ap (λ (v : View). length v.large) has.drawn.left in
         let one = one_span c.view a has.carries.holding has.carries.alone in let both = length-append c.view.large has.behind.large in omega arith
-    accept_paid (Err e) has none = let count = ap (λ (r : Role). r.accepts) none.view.passes.role_is in let spans = ap length none.view.large in omega arith
+    accept_paid (Err e) has none = let count = ap (λ (r : Role). r.accepts) none.view.passes.role_is in let spans = ap length none.view.large in
+        omega arith
 
-    pub accept_ok : (result : Result Block (Stopped × CarrierView)) → IfOk result (λ a. HasAccepted a c x.view y.view) → OnOk result (AcceptRow x y) → next_of x.view < next_of y.view → OnOk result (Accepts c.block (heap_view s) (heap_view_of y.view y.marks n))
-    accept_ok (Ok a) has row later = subst (λ d. Accepts d (heap_view s) (heap_view_of y.view y.marks n)) has.block (accepts_law a s x y n step had c has row later)
+    pub accept_ok : (result : Result Block (Stopped × CarrierView)) → IfOk result (λ a. HasAccepted a c x.view y.view)
+        → OnOk result (AcceptRow x y) → next_of x.view < next_of y.view → OnOk result (Accepts c.block (heap_view s) (heap_view_of y.view y.marks n))
+    accept_ok (Ok a) has row later = subst (λ d. Accepts d (heap_view s) (heap_view_of y.view y.marks n)) has.block
+        (accepts_law a s x y n step had c has row later)
     accept_ok (Err e) has row later = tt
 
-    pub accept_brings : (result : Result Block (Stopped × CarrierView)) → IfOk result (λ a. HasAccepted a c x.view y.view) → OnOk result (BringsWords c.view y.view) → OnOk result (ComesWith c.block (contents_of c) (heap_view_of y.view y.marks n))
-    accept_brings (Ok a) has brings = subst (λ d. ComesWith d (contents_of c) (heap_view_of y.view y.marks n)) has.block (accept_contents a s x y n step had c has brings)
+    pub accept_brings : (result : Result Block (Stopped × CarrierView)) → IfOk result (λ a. HasAccepted a c x.view y.view)
+        → OnOk result (BringsWords c.view y.view) → OnOk result (ComesWith c.block (contents_of c) (heap_view_of y.view y.marks n))
+    accept_brings (Ok a) has brings = subst (λ d. ComesWith d (contents_of c) (heap_view_of y.view y.marks n)) has.block
+        (accept_contents a s x y n step had c has brings)
     accept_brings (Err e) has brings = tt

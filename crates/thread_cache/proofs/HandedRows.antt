@@ -31,13 +31,16 @@ use Rattle.thread_cache.specs.Sending.{AcceptRow, ComesWith, GoesWith, OfferRow}
 within_less : (test : ℕ → Bool) (words word : ℕ) (xs : List ℕ) → times_within words word (chosen test xs) ≤ times_within words word xs
 within_less test words word [] = omega arith
 within_less test words word (x ∷ xs) = by_test (test x) (within_less test words word xs) where
-  by_test : (t : Bool) → times_within words word (chosen test xs) ≤ times_within words word xs → times_within words word (cond t (x ∷ chosen test xs) (chosen test xs)) ≤ times_within words word (x ∷ xs)
+  by_test : (t : Bool) → times_within words word (chosen test xs) ≤ times_within words word xs
+      → times_within words word (cond t (x ∷ chosen test xs) (chosen test xs)) ≤ times_within words word (x ∷ xs)
   by_test true rest = omega arith
   by_test false rest = omega arith
 
-classes_less : (test : ℕ → Bool) (word class : ℕ) (xss : List (List ℕ)) → times_in_classes word class (chosen_lists test xss) ≤ times_in_classes word class xss
+classes_less : (test : ℕ → Bool) (word class : ℕ) (xss : List (List ℕ))
+    → times_in_classes word class (chosen_lists test xss) ≤ times_in_classes word class xss
 classes_less test word class [] = omega arith
-classes_less test word class (xs ∷ xss) = let here = within_less test (words_of_class class) word xs in let rest = classes_less test word (class + 1) xss in omega arith
+classes_less test word class (xs ∷ xss) = let here = within_less test (words_of_class class) word xs in
+    let rest = classes_less test word (class + 1) xss in omega arith
 
 -- what is left after an offer, and what goes
 module _ (v : View) (block : ℕ) where
@@ -51,7 +54,8 @@ module _ (v : View) (block : ℕ) where
   left_less (anchor_cell d) = omega arith
   left_less (link_cell d) = omega arith
   left_less (root_cell i) = chosen_less (λ n. true) i v.roots
-  left_less (data_cell word) = let s = classes_less (λ b. not (nat_eq b block)) word 0 v.small in let l = spans_less (λ d. not (nat_eq d place)) (superblock_at v.setup.capacity word) v.large in omega arith
+  left_less (data_cell word) = let s = classes_less (λ b. not (nat_eq b block)) word 0 v.small in
+      let l = spans_less (λ d. not (nat_eq d place)) (superblock_at v.setup.capacity word) v.large in omega arith
   left_less no_cell = omega arith
 
   sent_less : (cell : Cell) → times_held (carrier_of v block) cell ≤ times_held v cell
@@ -61,7 +65,8 @@ module _ (v : View) (block : ℕ) where
   sent_less (anchor_cell d) = omega arith
   sent_less (link_cell d) = omega arith
   sent_less (root_cell i) = chosen_less (λ n. false) i v.roots
-  sent_less (data_cell word) = let s = classes_less (λ b. nat_eq b block) word 0 v.small in let l = spans_less (λ d. nat_eq d place) (superblock_at v.setup.capacity word) v.large in omega arith
+  sent_less (data_cell word) = let s = classes_less (λ b. nat_eq b block) word 0 v.small in
+      let l = spans_less (λ d. nat_eq d place) (superblock_at v.setup.capacity word) v.large in omega arith
   sent_less no_cell = omega arith
 
   left_word : (word : ℕ) → IsHeldWord (offered v block) word → KeepsWord v (offered v block) word
@@ -82,7 +87,15 @@ module _ (v : View) (block : ℕ) where
     floor = p.floor;
     next = p.next;
     tickets = p.tickets;
-    more = let m = p.more in record { draws = m.draws; wins = m.wins; losses = m.losses; gives = m.gives; moves = m.moves; cuts = m.cuts; taken = m.taken };
+    more = let m = p.more in record {
+      draws = m.draws;
+      wins = m.wins;
+      losses = m.losses;
+      gives = m.gives;
+      moves = m.moves;
+      cuts = m.cuts;
+      taken = m.taken;
+    };
     most = let m = p.most in record { draws = m.draws; wins = m.wins; gives = m.gives; cuts = m.cuts; taken = m.taken; moves = m.moves };
     looks = let l = p.looks in record { used = l.used; heads = l.heads; no_less = l.no_less };
   }
@@ -91,17 +104,21 @@ module _ (v : View) (block : ℕ) where
 marks_same : (v u w : SeatView) → KeepsStores v u → KeepsStores u w → (word : ℕ) → IsMarked v.marks word → IsMarked w.marks word
 marks_same v u w first next word marked = subst (λ m. IsMarked m word) (sym (next.marks ∙ first.marks)) marked
 
-pub offer_row : (v u w : SeatView) (b : Block) → Row one_draw v u → HasDrawn v.view u.view → KeepsStores v u → w.view ≡ offered u.view b.first_word → KeepsStores u w → OfferRow v w
+pub offer_row : (v u w : SeatView) (b : Block) → Row one_draw v u → HasDrawn v.view u.view → KeepsStores v u
+    → w.view ≡ offered u.view b.first_word → KeepsStores u w → OfferRow v w
 offer_row v u w b row drawn first is next = record {
   passes = subst (Passes one_draw (record v.view { offers = v.view.offers + 1 })) (sym is) (offer_passes u.view b.first_word v.view row.view.passes);
-  words = λ word held. subst (λ x. KeepsWord (record v.view { offers = v.view.offers + 1 }) x word) (sym is) (kept word (subst (λ x. IsHeldWord x word) is held));
+  words = λ word held. subst (λ x. KeepsWord (record v.view { offers = v.view.offers + 1 }) x word) (sym is)
+      (kept word (subst (λ x. IsHeldWord x word) is held));
   marks = λ word held marked. inl (marks_same v u w first next word marked);
 } where
-  kept : (word : ℕ) → IsHeldWord (offered u.view b.first_word) word → KeepsWord (record v.view { offers = v.view.offers + 1 }) (offered u.view b.first_word) word
+  kept : (word : ℕ) → IsHeldWord (offered u.view b.first_word) word
+      → KeepsWord (record v.view { offers = v.view.offers + 1 }) (offered u.view b.first_word) word
   kept word held =
       let less = left_less u.view b.first_word (cell_at u.view.setup.capacity word) in
       let before = row_held v.view u.view row.view word (omega arith) in
-      let p = word_then v.view u.view (offered u.view b.first_word) word (drawn.words word (owns_held v.view word before)) (left_word u.view b.first_word word held) in
+      let p = word_then v.view u.view (offered u.view b.first_word) word (drawn.words word (owns_held v.view word before))
+      (left_word u.view b.first_word word held) in
       record { volatile = p.volatile; durable = p.durable }
 
 pub offer_sent : (v u : View) (block : ℕ) (x : View) → ViewRow one_draw v u → HasDrawn v u → x ≡ carrier_of u block → GoesWith x v
@@ -132,9 +149,11 @@ none_known None not = refl
 none_known (Some value) not = absurd (not value refl)
 
 -- a seat that accepted
-module _ (v u : View) (capacity : v.setup.capacity ≡ u.setup.capacity) (carrier : IsCarrier u) (knows : KnowsItsOwn u) (has : HasSoundState v) (after : HasSoundState (accepted v u)) where
+module _ (v u : View) (capacity : v.setup.capacity ≡ u.setup.capacity) (carrier : IsCarrier u) (knows : KnowsItsOwn u) (has : HasSoundState v)
+    (after : HasSoundState (accepted v u)) where
   no_raw : (d : ℕ) → times_raw d u ≡ 0
-  no_raw d = let c = carrier.claims in ap (λ (p : List ℕ × (List ℕ × List ℕ)). times d p.0 + times d p.1.0 + times d p.1.1) (λ i. (c.0 i, (c.1 i, c.2 i)))
+  no_raw d = let c = carrier.claims in ap (λ (p : List ℕ × (List ℕ × List ℕ)). times d p.0 + times d p.1.0 + times d p.1.1)
+      (λ i. (c.0 i, (c.1 i, c.2 i)))
 
   own_both : (cell : Cell) → times_own v cell + times_own u cell ≤ times_own (accepted v u) cell
   own_both used_cell = omega arith
@@ -145,7 +164,8 @@ module _ (v u : View) (capacity : v.setup.capacity ≡ u.setup.capacity) (carrie
   own_both (root_cell i) = let z = ap (times i) carrier.roots in omega arith
   own_both (data_cell word) =
       let s = both_within word 0 u.small v.small in
-      let c = ap (times_in_classes word 0) carrier.free.0 in let b = ap (λ (x : Batch). times_within (words_of_class x.class) word x.blocks) carrier.free.1 in
+      let c = ap (times_in_classes word 0) carrier.free.0 in let b =
+      ap (λ (x : Batch). times_within (words_of_class x.class) word x.blocks) carrier.free.1 in
       let l = large_append (superblock_at v.setup.capacity word) u.large v.large in let z = no_raw (superblock_at u.setup.capacity word) in
       let p = ap (λ n. times_large (superblock_at n word) u.large) capacity in omega arith
   own_both no_cell = omega arith
@@ -154,7 +174,8 @@ module _ (v u : View) (capacity : v.setup.capacity ≡ u.setup.capacity) (carrie
   not_both_own : (word : ℕ) → Owns v word → Owns u word → ⊥
   not_both_own word mine theirs =
       let cell = cell_at v.setup.capacity word in
-      let most = once.own_once v.setup (memory_of v.setup.capacity after.words) after.views after.sound.good after.seat (accepted v u) after.below after.at cell in
+      let most = once.own_once v.setup (memory_of v.setup.capacity after.words) after.views after.sound.good after.seat
+      (accepted v u) after.below after.at cell in
       let sum = own_both cell in let same = ap (λ n. times_own u (cell_at n word)) capacity in omega arith
 
   -- so of the seat's words the carrier knows nothing, and of the carrier's the seat
@@ -165,7 +186,8 @@ module _ (v u : View) (capacity : v.setup.capacity ≡ u.setup.capacity) (carrie
   )
 
   -- a word of the carrier's by its cell
-  theirs_there : (word : ℕ) → Owns u word → (is_cell v.setup.capacity (cell_at v.setup.capacity word) ≡ true) × (index_of (cell_at v.setup.capacity word) ≡ word) × (word < image_words v.setup.capacity)
+  theirs_there : (word : ℕ) → Owns u word → (is_cell v.setup.capacity (cell_at v.setup.capacity word) ≡ true)
+      × (index_of (cell_at v.setup.capacity word) ≡ word) × (word < image_words v.setup.capacity)
   theirs_there word theirs = (
     ap (λ n. is_cell n (cell_at n word)) capacity ∙ own_there u word theirs,
     ap (λ n. index_of (cell_at n word)) capacity ∙ own_index u word theirs,
@@ -175,12 +197,15 @@ module _ (v u : View) (capacity : v.setup.capacity ≡ u.setup.capacity) (carrie
   seat_blank : (word : ℕ) → Owns u word → (get_or v.volatile word None ≡ None) × (get_or v.durable word None ≡ None)
   seat_blank word theirs =
       let there = theirs_there word theirs in let words = has.sound.good.words has.seat v has.below has.at in (
-        none_known (get_or v.volatile word None) (λ value is. not_both_own word (words.volatile (cell_at v.setup.capacity word) value there.0 (ap (λ n. get_or v.volatile n None) there.1 ∙ is)).0 theirs),
-        none_known (get_or v.durable word None) (λ value is. not_both_own word (words.durable (cell_at v.setup.capacity word) value there.0 (ap (λ n. get_or v.durable n None) there.1 ∙ is)).0 theirs),
+        none_known (get_or v.volatile word None) (λ value is. not_both_own word
+            (words.volatile (cell_at v.setup.capacity word) value there.0 (ap (λ n. get_or v.volatile n None) there.1 ∙ is)).0 theirs),
+        none_known (get_or v.durable word None) (λ value is. not_both_own word
+            (words.durable (cell_at v.setup.capacity word) value there.0 (ap (λ n. get_or v.durable n None) there.1 ∙ is)).0 theirs),
       )
 
   pub kept_word : (word : ℕ) → Owns v word → KeepsWord v (accepted v u) word
-  kept_word word mine = let blank = carrier_blank word mine in let below = own_below v word mine in let l = volatile_long v has in let k = durable_long v has in
+  kept_word word mine = let blank = carrier_blank word mine in let below = own_below v word mine in let l = volatile_long v has in
+      let k = durable_long v has in
       word_same v (accepted v u) word
       (either_get u.volatile v.volatile word (omega arith) ∙ second_of (get_or u.volatile word None) (get_or v.volatile word None) blank.0)
       (either_get u.durable v.durable word (omega arith) ∙ second_of (get_or u.durable word None) (get_or v.durable word None) blank.1)
@@ -188,9 +213,11 @@ module _ (v u : View) (capacity : v.setup.capacity ≡ u.setup.capacity) (carrie
   pub came_with : ComesWith u (accepted v u)
   came_with = record {
     seen = λ word held. let theirs = owns_held u word held in let below = (theirs_there word theirs).2 in let l = volatile_long v has in
-        either_get u.volatile v.volatile word (omega arith) ∙ first_of (get_or u.volatile word None) (get_or v.volatile word None) (seat_blank word theirs).0;
+        either_get u.volatile v.volatile word (omega arith) ∙ first_of (get_or u.volatile word None) (get_or v.volatile word None)
+        (seat_blank word theirs).0;
     left = λ word held. let theirs = owns_held u word held in let below = (theirs_there word theirs).2 in let l = durable_long v has in
-        either_get u.durable v.durable word (omega arith) ∙ first_of (get_or u.durable word None) (get_or v.durable word None) (seat_blank word theirs).1;
+        either_get u.durable v.durable word (omega arith) ∙ first_of (get_or u.durable word None) (get_or v.durable word None)
+        (seat_blank word theirs).1;
   }
 
   accept_passes : (x : View) → Passes one_draw x v → Passes one_draw (record x { accepts = x.accepts + 1 }) (accepted v u)
@@ -201,12 +228,21 @@ module _ (v u : View) (capacity : v.setup.capacity ≡ u.setup.capacity) (carrie
     floor = p.floor;
     next = p.next;
     tickets = p.tickets;
-    more = let m = p.more in record { draws = m.draws; wins = m.wins; losses = m.losses; gives = m.gives; moves = m.moves; cuts = m.cuts; taken = m.taken };
+    more = let m = p.more in record {
+      draws = m.draws;
+      wins = m.wins;
+      losses = m.losses;
+      gives = m.gives;
+      moves = m.moves;
+      cuts = m.cuts;
+      taken = m.taken;
+    };
     most = let m = p.most in record { draws = m.draws; wins = m.wins; gives = m.gives; cuts = m.cuts; taken = m.taken; moves = m.moves };
     looks = let l = p.looks in record { used = l.used; heads = l.heads; no_less = l.no_less };
   }
 
-pub accept_row : (v u w : SeatView) (x : View) (b : Block) → Row one_draw v u → HasDrawn v.view u.view → KeepsStores v u → HasSoundState u.view → Carries u.view.setup.capacity x b → w.view ≡ accepted u.view x → KeepsStores u w → HasSoundState w.view
+pub accept_row : (v u w : SeatView) (x : View) (b : Block) → Row one_draw v u → HasDrawn v.view u.view → KeepsStores v u → HasSoundState u.view
+    → Carries u.view.setup.capacity x b → w.view ≡ accepted u.view x → KeepsStores u w → HasSoundState w.view
     → AcceptRow v w
 accept_row v u w x b row drawn first has carries is next after = record {
   passes = subst (Passes one_draw (record v.view { accepts = v.view.accepts + 1 })) (sym is)
@@ -218,8 +254,10 @@ accept_row v u w x b row drawn first has carries is next after = record {
   kept word held =
       let still = row_holds v.view u.view row.view word held in
       let p = word_then v.view u.view (accepted u.view x) word (drawn.words word (owns_held v.view word held))
-      (kept_word u.view x (sym carries.capacity_is) carries.carrier carries.knows has (subst HasSoundState is after) word (owns_held u.view word still)) in
+      (kept_word u.view x (sym carries.capacity_is) carries.carrier carries.knows has (subst HasSoundState is after) word
+      (owns_held u.view word still)) in
       record { volatile = p.volatile; durable = p.durable }
 
 pub accept_brought : (u w x : View) (b : Block) → HasSoundState u → Carries u.setup.capacity x b → w ≡ accepted u x → HasSoundState w → ComesWith x w
-accept_brought u w x b has carries is after = subst (ComesWith x) (sym is) (came_with u x (sym carries.capacity_is) carries.carrier carries.knows has (subst HasSoundState is after))
+accept_brought u w x b has carries is after = subst (ComesWith x) (sym is)
+    (came_with u x (sym carries.capacity_is) carries.carrier carries.knows has (subst HasSoundState is after))

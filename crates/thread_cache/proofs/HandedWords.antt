@@ -14,7 +14,11 @@ word_comes b c v w word goes comes within = let keeps = goes.words word within i
 
 -- a word that is not stored to stays durable
 pub durable_comes : (v w : View) (word : ℕ) → KeepsWord v w word → IsDurable v word → IsDurable w word
-durable_comes v w word keeps durable = record { value = durable.value; seen = keeps.volatile durable.value durable.seen; left = by_left (w.durable word) refl } where
+durable_comes v w word keeps durable = record {
+  value = durable.value;
+  seen = keeps.volatile durable.value durable.seen;
+  left = by_left (w.durable word) refl;
+} where
   one : (value : ℕ) → MayBe (w.durable word) value → value ≡ durable.value
   one value may = elim (keeps.durable value may) as (λ _. value ≡ durable.value) [
     | inl seen ↦ subst (λ o. MayBe o value) durable.seen seen

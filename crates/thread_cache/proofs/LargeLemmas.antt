@@ -23,7 +23,8 @@ pub record LargeStep (s : CacheState) (x y : SeatView) (n : CallCounts) : Type 0
   pub small : n.small_calls ≡ s.small_calls
   pub large : n.large_calls ≡ s.large_calls + 1
 
-pub large_step : (before s : CacheState) → before ≡ s → (x y : SeatView) → x.view ≡ before.view → x.marks ≡ before.marks → HasSoundState y.view → s.view.stopped ≡ None
+pub large_step : (before s : CacheState) → before ≡ s → (x y : SeatView) → x.view ≡ before.view → x.marks ≡ before.marks → HasSoundState y.view
+    → s.view.stopped ≡ None
     → LargeStep s x y (record (counts_of before) { large_calls = before.large_calls + 1 })
 large_step before s is x y view marks has ran = record {
   was = record { view = view ∙ ap (λ (s : CacheState). s.view) is; marks = marks ∙ ap (λ (s : CacheState). s.marks) is };
@@ -49,17 +50,27 @@ IsPaid v w = w.draws + most_draws * (traces v + length w.large) + 16 * v.losses 
 abbrev left_behind : View → ℕ
 left_behind v = v.cuts + v.gives + v.taken + one_if_some v.stopped
 
-pub paid_light : (a : Costs) (v w : View) → a.draws ≤ light_draws + a.credit → Passes a v w → left_behind v + length w.large ≤ left_behind w + length v.large → IsPaid v w
-paid_light a v w few passes left = let r = ap (λ (x : Role). x.accepts) passes.role_is in let d = passes.most.draws in let l = passes.more.losses in omega arith
+pub paid_light : (a : Costs) (v w : View) → a.draws ≤ light_draws + a.credit → Passes a v w
+    → left_behind v + length w.large ≤ left_behind w + length v.large → IsPaid v w
+paid_light a v w few passes left = let r = ap (λ (x : Role). x.accepts) passes.role_is in let d = passes.most.draws in
+    let l = passes.more.losses in omega arith
 
 pub paid_most : (a : Costs) (v w : View) → IsFew a → Passes a v w → left_behind v + length w.large + 1 ≤ left_behind w + length v.large → IsPaid v w
-paid_most a v w few passes left = let r = ap (λ (x : Role). x.accepts) passes.role_is in let most = few.draws in let d = passes.most.draws in let l = passes.more.losses in omega arith
+paid_most a v w few passes left = let r = ap (λ (x : Role). x.accepts) passes.role_is in let most = few.draws in let d = passes.most.draws in
+    let l = passes.more.losses in omega arith
 
 -- a last look, for the core and for the heap
 look_law : (v w : View) (before now : LastLook) → IsKeptOrMade v w before now
     → (look_of now ≡ look_of before) ⊎ IsMadeHeap (next_of v) (next_of w) v.taken w.taken (look_of now)
 look_law v w before now (inl same) = inl (ap look_of same)
-look_law v w before now (inr made) = inr (record { ticket = made.ticket; by = made.by; since = made.since; below = made.below; least = made.taken_least; most = made.taken_most })
+look_law v w before now (inr made) = inr (record {
+  ticket = made.ticket;
+  by = made.by;
+  since = made.since;
+  below = made.below;
+  least = made.taken_least;
+  most = made.taken_most;
+})
 
 module _ {a : Costs} (s : CacheState) (x y : SeatView) (n : CallCounts) (step : LargeStep s x y n) (passed : Passes a x.view y.view) where
   passes : Passes a s.view y.view
@@ -78,7 +89,8 @@ module _ {a : Costs} (s : CacheState) (x y : SeatView) (n : CallCounts) (step : 
     };
   }
 
-  pub large_keeps : IsFew a → IsPaid x.view y.view → KeepsCosts s.view s.small_calls s.large_calls y.view n.small_calls n.large_calls × (role y.view ≡ role s.view)
+  pub large_keeps : IsFew a → IsPaid x.view y.view → KeepsCosts s.view s.small_calls s.large_calls y.view n.small_calls n.large_calls
+      × (role y.view ≡ role s.view)
   large_keeps few paid = (
     record {
       setup = passes.setup;
@@ -87,11 +99,13 @@ module _ {a : Costs} (s : CacheState) (x y : SeatView) (n : CallCounts) (step : 
       none_falls = passes.more;
       small_rise = let e = step.small in omega arith;
       large_rise = let e = step.large in omega arith;
-      draws = let e = step.small in let f = step.large in let l = passes.more.losses in let m = passes.more.moves in let d = passes.most.draws in let most = few.draws in omega arith;
+      draws = let e = step.small in let f = step.large in let l = passes.more.losses in let m = passes.more.moves in
+          let d = passes.most.draws in let most = few.draws in omega arith;
       wins = let f = step.large in let d = passes.most.wins in let m = passes.more.moves in let most = few.wins in omega arith;
       gives = let f = step.large in let d = passes.most.gives in let most = few.gives in omega arith;
       cuts = let f = step.large in let d = passes.most.cuts in let most = few.cuts in omega arith;
-      light = let e = step.small in let f = step.large in let p : IsPaid s.view y.view = at_state (λ v. IsPaid v y.view) s x step.was paid in omega arith;
+      light = let e = step.small in let f = step.large in let p : IsPaid s.view y.view = at_state (λ v. IsPaid v y.view) s x step.was paid in
+          omega arith;
     },
     passes.role_is,
   )
@@ -99,17 +113,21 @@ module _ {a : Costs} (s : CacheState) (x y : SeatView) (n : CallCounts) (step : 
   pub large_own : {b : Costs} → Row b x y → KeepsOwn (heap_view s) (heap_view_of y.view y.marks n)
   large_own {b} row = kept_at s y.view (heap_view_of y.view y.marks n) refl refl refl refl (at_state (λ v. ViewRow b v y.view) s x step.was row.view)
 
-  pub large_refused : (b : Costs) {A E : Type 0} (result : Result A E) → OnErr result (Row b x y) → OnErr result (KeepsOwn (heap_view s) (heap_view_of y.view y.marks n))
+  pub large_refused : (b : Costs) {A E : Type 0} (result : Result A E) → OnErr result (Row b x y)
+      → OnErr result (KeepsOwn (heap_view s) (heap_view_of y.view y.marks n))
   large_refused b (Ok r) row = tt
   large_refused b (Err e) row = large_own row
 
-  pub large_pending : Row a x y → (word : ℕ) → IsOwn (heap_view s).held s.view.roots word → KeepsPending (heap_view s) (heap_view_of y.view y.marks n) word
+  pub large_pending : Row a x y → (word : ℕ) → IsOwn (heap_view s).held s.view.roots word
+      → KeepsPending (heap_view s) (heap_view_of y.view y.marks n) word
   large_pending row = pending_at s x y (heap_view_of y.view y.marks n) step.was refl refl refl row
 
   pub large_stop : (ticket : ℕ) → Stops ticket x.view y.view → HeapStops ticket (heap_view s) (heap_view_of y.view y.marks n)
-  large_stop ticket stop = stops_law s.view y.view s.marks y.marks (counts_of s) n ticket step.ran passes.setup (at_state (λ v. Stops ticket v y.view) s x step.was stop)
+  large_stop ticket stop = stops_law s.view y.view s.marks y.marks (counts_of s) n ticket step.ran passes.setup
+      (at_state (λ v. Stops ticket v y.view) s x step.was stop)
 
-  pub large_stops : {A : Type 0} (result : Result A Stopped) → IfErr result (λ e. Stops e.step x.view y.view) → IfErr result (λ e. HeapStops e.step (heap_view s) (heap_view_of y.view y.marks n))
+  pub large_stops : {A : Type 0} (result : Result A Stopped) → IfErr result (λ e. Stops e.step x.view y.view)
+      → IfErr result (λ e. HeapStops e.step (heap_view s) (heap_view_of y.view y.marks n))
   large_stops (Ok b) stop = tt
   large_stops (Err e) stop = large_stop e.step stop
 
@@ -120,5 +138,6 @@ draws_later v w passes more = let t = passes.tickets in omega arith
 pub stop_later : (v w : View) (step : ℕ) → v.stopped ≡ None → Stops step v w → next_of v < next_of w
 stop_later v w step ran stop = let from = stop.now ran in let last = ap after_ticket stop.last in omega arith
 
-pub large_counts_then : (small large refusals : ℕ) (v w : View) → next_of v < next_of w → HasCounts small large refusals v → HasCounts small (large + 1) refusals w
+pub large_counts_then : (small large refusals : ℕ) (v w : View) → next_of v < next_of w → HasCounts small large refusals v
+    → HasCounts small (large + 1) refusals w
 large_counts_then small large refusals v w later counts = (let c = counts.0 in omega arith, let c = counts.1 in omega arith)

@@ -67,7 +67,8 @@ module _ (v u : View) (word : ℕ) (drawn : HasDrawn v u) (own : Owns v word) wh
     loaded = record {
       runs = runs_on v u w drawn (ap (λ (x : View). x.stopped) event.after) (ap parts event.after) (ap (λ (x : View). x.last_ticket) event.after);
       seen = ap (λ (x : View). seen_at x word) event.after
-          ∙ get_or-set_same u.volatile word (Some found) None (let l = volatile_long u event.before in let b = own_below u word event.may.ready in omega arith);
+          ∙ get_or-set_same u.volatile word (Some found) None (let l = volatile_long u event.before in
+          let b = own_below u word event.may.ready in omega arith);
     }
 
     pub load_looks : SameLooks v u → SameLooks v w
@@ -81,7 +82,8 @@ module _ (v : View) (has : HasSoundState v) where
         let is = (has.sound.good.blocks has.seat v has.below has.at).cached h.n word h.there in
         let class : IsClass h.n = subst IsClass is (block_class v has word (omega arith)) in
         let two = two_words h.n class in
-        let own = in_classes_word word word 0 h.n v.caches (omega arith) (let e : 0 + h.n ≡ h.n = omega arith in let f = ap words_of_class e in omega arith) h.there in
+        let own = in_classes_word word word 0 h.n v.caches (omega arith) (let e : 0 + h.n ≡ h.n = omega arith in let f = ap words_of_class e in
+        omega arith) h.there in
         let none = not_held v has word (omega arith) in absurd (omega arith)
     | inr none ↦ omega arith
   ]
@@ -102,7 +104,8 @@ one_of true = refl
 one_of false = refl
 
 still_none : (word : ℕ) (b : Batch) → b ≡ no_batch → record b { linked = cond (nat_eq word (last_of b.blocks)) false b.linked } ≡ b
-still_none word b bare = subst (λ (x : Batch). record x { linked = cond (nat_eq word (last_of x.blocks)) false x.linked } ≡ x) (sym bare) (ap (λ l. record no_batch { linked = l }) (one_of (nat_eq word 0)))
+still_none word b bare = subst (λ (x : Batch). record x { linked = cond (nat_eq word (last_of x.blocks)) false x.linked } ≡ x) (sym bare)
+    (ap (λ l. record no_batch { linked = l }) (one_of (nat_eq word 0)))
 
 -- a store to a held word changes no part, and what is known of that word alone
 record IsStoredAlone (x y : View) : Type 0 where
@@ -120,8 +123,24 @@ alone x v (head_cell list) value held bare = absurd (omega arith)
 alone x v (info_cell d) value held bare = absurd (omega arith)
 alone x v (anchor_cell d) value held bare = absurd (omega arith)
 alone x v (link_cell d) value held bare = absurd (omega arith)
-alone x v (root_cell i) value held bare = record { parts_are = refl; stopped = refl; last = refl; used = refl; heads = refl; volatile = refl; durable = refl }
-alone x v (data_cell word) value held bare = record { parts_are = ap (λ b. record (parts x) { batch = b }) (still_none word x.batch bare); stopped = refl; last = refl; used = refl; heads = refl; volatile = refl; durable = refl }
+alone x v (root_cell i) value held bare = record {
+  parts_are = refl;
+  stopped = refl;
+  last = refl;
+  used = refl;
+  heads = refl;
+  volatile = refl;
+  durable = refl;
+}
+alone x v (data_cell word) value held bare = record {
+  parts_are = ap (λ b. record (parts x) { batch = b }) (still_none word x.batch bare);
+  stopped = refl;
+  last = refl;
+  used = refl;
+  heads = refl;
+  volatile = refl;
+  durable = refl;
+}
 alone x v no_cell value held bare = absurd (omega arith)
 
 -- what is known of a word that was not stored to yet
@@ -157,11 +176,13 @@ module _ (v u : View) (has : HasSoundState v) (word value : ℕ) (drawn : HasDra
     held_u = subst (λ n. 0 < times_held v (cell_at n word)) (sym (ap (λ (y : View). y.setup.capacity) drawn.left)) held
 
     is_alone : IsStoredAlone x w
-    is_alone = subst (IsStoredAlone x) (sym event.after) (alone x v (cell_at u.setup.capacity word) value held_u (ap (λ (y : View). y.batch) drawn.left ∙ bare))
+    is_alone = subst (IsStoredAlone x) (sym event.after) (alone x v (cell_at u.setup.capacity word) value held_u
+        (ap (λ (y : View). y.batch) drawn.left ∙ bare))
 
     seen_now : seen_at w word ≡ Some value
     seen_now = ap (λ values. get_or values word None) is_alone.volatile
-        ∙ get_or-set_same u.volatile word (Some value) None (let l = volatile_long u event.before in let b = own_below u word event.may.ready.0 in omega arith)
+        ∙ get_or-set_same u.volatile word (Some value) None (let l = volatile_long u event.before in
+        let b = own_below u word event.may.ready.0 in omega arith)
 
     pub has_stored : HasValue word value v w
     has_stored = record { runs = runs_on v u w drawn is_alone.stopped is_alone.parts_are is_alone.last; seen = seen_now }
@@ -182,7 +203,8 @@ module _ (v u : View) (has : HasSoundState v) (word value : ℕ) (drawn : HasDra
 module _ (v u w : SeatView) (drawn : HasDrawn v.view u.view) where
   pub marked_line : (word : ℕ) → IsLineMarked word u w → HasMarkedLine word v w
   marked_line word line = record {
-    runs = runs_on v.view u.view w.view drawn (ap (λ (y : View). y.stopped) line.view) (ap parts line.view) (ap (λ (y : View). y.last_ticket) line.view);
+    runs = runs_on v.view u.view w.view drawn (ap (λ (y : View). y.stopped) line.view) (ap parts line.view)
+        (ap (λ (y : View). y.last_ticket) line.view);
     marked = λ k below same. line.in_line k (subst (λ n. k < image_words n) (sym (ap (λ (y : View). y.setup.capacity) drawn.left)) below) same;
   }
 
@@ -196,15 +218,19 @@ module _ (v u w : SeatView) (drawn : HasDrawn v.view u.view) where
   }
 
   pub line_looks : (word : ℕ) → IsLineMarked word u w → SameLooks v.view u.view → SameLooks v.view w.view
-  line_looks word line before = same_looks v.view u.view w.view drawn before (ap (λ (y : View). y.used_look) line.view) (ap (λ (y : View). y.head_looks) line.view)
+  line_looks word line before = same_looks v.view u.view w.view drawn before (ap (λ (y : View). y.used_look) line.view)
+      (ap (λ (y : View). y.head_looks) line.view)
 
   pub fence_looks : IsSeatFence u w → SameLooks v.view u.view → SameLooks v.view w.view
-  fence_looks fence before = same_looks v.view u.view w.view drawn before (ap (λ (y : View). y.used_look) fence.rest) (ap (λ (y : View). y.head_looks) fence.rest)
+  fence_looks fence before = same_looks v.view u.view w.view drawn before (ap (λ (y : View). y.used_look) fence.rest)
+      (ap (λ (y : View). y.head_looks) fence.rest)
 
   pub has_fenced : u.marks ≡ v.marks → IsSeatFence u w → HasFenced v w
   has_fenced marks fence = record {
-    runs = runs_on v.view u.view w.view drawn (ap (λ (y : View). y.stopped) fence.rest) (ap parts fence.rest) (ap (λ (y : View). y.last_ticket) fence.rest);
-    durable = λ word own marked. fenced u w fence word (subst (λ (y : View). Owns y word) (sym drawn.left) own) (subst (λ m. IsMarked m word) (sym marks) marked);
+    runs = runs_on v.view u.view w.view drawn (ap (λ (y : View). y.stopped) fence.rest) (ap parts fence.rest)
+        (ap (λ (y : View). y.last_ticket) fence.rest);
+    durable = λ word own marked. fenced u w fence word (subst (λ (y : View). Owns y word) (sym drawn.left) own)
+        (subst (λ m. IsMarked m word) (sym marks) marked);
   }
 
 -- a store leaves what a crash leaves
@@ -220,4 +246,5 @@ stored_durable v (data_cell word) value = refl
 stored_durable v no_cell value = refl
 
 pub store_durable : (word value : ℕ) (u w : View) (found : ℕ) → IsEvent (Store word value) u found w → w.durable ≡ u.durable
-store_durable word value u w found e = ap (λ (x : View). x.durable) e.after ∙ stored_durable (record (used_up u) { volatile = learn u.volatile word value }) (cell_at u.setup.capacity word) value
+store_durable word value u w found e = ap (λ (x : View). x.durable) e.after
+    ∙ stored_durable (record (used_up u) { volatile = learn u.volatile word value }) (cell_at u.setup.capacity word) value

@@ -17,5 +17,7 @@ may_hand v w drawn has = record {
 }
 
 pub holds_still : (v w : View) (b : Block) → HasDrawn v w → IsHeld v b → IsHeld w b
-holds_still v w b drawn (a_small class first there) = subst (λ (x : View). IsHeld x (record { first_word = first; words = words_of_class class })) (sym drawn.left) (a_small class first there)
-holds_still v w b drawn (a_large d n some is) = subst (λ (x : View). IsHeld x (record { first_word = start_word v.setup.capacity d; words = superblock_words * n })) (sym drawn.left) (a_large d n some is)
+holds_still v w b drawn (a_small class first there) = subst (λ (x : View). IsHeld x
+    (record { first_word = first; words = words_of_class class })) (sym drawn.left) (a_small class first there)
+holds_still v w b drawn (a_large d n some is) = subst (λ (x : View). IsHeld x
+    (record { first_word = start_word v.setup.capacity d; words = superblock_words * n })) (sym drawn.left) (a_large d n some is)

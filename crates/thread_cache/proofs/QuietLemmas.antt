@@ -21,11 +21,13 @@ abbrev sum_from : (ℕ → ℕ) → ℕ → ℕ → ℕ
 sum_from most from zero = 0
 sum_from most from (suc n) = most from + sum_from most (from + 1) n
 
-total_few : (xs : List (List ℕ)) (most : ℕ → ℕ) (from : ℕ) → ((i : ℕ) → i < length xs → length (get_or xs i []) ≤ most (from + i)) → total length xs ≤ sum_from most from (length xs)
+total_few : (xs : List (List ℕ)) (most : ℕ → ℕ) (from : ℕ) → ((i : ℕ) → i < length xs → length (get_or xs i []) ≤ most (from + i))
+    → total length xs ≤ sum_from most from (length xs)
 total_few [] most from few = omega arith
 total_few (x ∷ xs) most from few =
     let first : length x ≤ most from = subst (λ k. length x ≤ most k) (let e : from + 0 ≡ from = omega arith in e) (few 0 (omega arith)) in
-    let rest = total_few xs most (from + 1) (λ i less. subst (λ k. length (get_or xs i []) ≤ most k) (let e : from + suc i ≡ from + 1 + i = omega arith in e) (few (suc i) (omega arith))) in omega arith
+    let rest = total_few xs most (from + 1) (λ i less. subst (λ k. length (get_or xs i []) ≤ most k)
+    (let e : from + suc i ≡ from + 1 + i = omega arith in e) (few (suc i) (omega arith))) in omega arith
 
 -- short caches have so many blocks at most, all together
 abbrev most_short : ℕ → ℕ
@@ -40,23 +42,30 @@ cached_few v has short =
     let long = (has.sound.good.set_up has.seat v has.below has.at).caches in
     let few = total_few v.caches most_short 0 (λ i less. elim (cases_lt 0 i) as (λ _. length (get_or v.caches i []) ≤ most_short (0 + i)) [
       | inl some ↦ let is : IsClass i = record { some = some; last = omega arith } in let l = short.each i is in
-          subst (λ k. length (get_or v.caches i []) ≤ most_short k) (let e : i ≡ 0 + i = omega arith in e) (let m : length (get_or v.caches i []) ≤ blocks_of i - 1 = omega arith in m)
-      | inr zeroth ↦ let none = first_none v has in let same : i ≡ 0 = omega arith in let is = ap (λ k. length (of_class v.caches k)) same in omega arith
+          subst (λ k. length (get_or v.caches i []) ≤ most_short k) (let e : i ≡ 0 + i = omega arith in
+          e) (let m : length (get_or v.caches i []) ≤ blocks_of i - 1 = omega arith in m)
+      | inr zeroth ↦ let none = first_none v has in let same : i ≡ 0 = omega arith in let is = ap (λ k. length (of_class v.caches k)) same in
+          omega arith
     ]) in
     let sum = ap (sum_from most_short 0) long in let most = all_short in omega arith
 
 pub quiet_few : (v : View) → HasSoundState v → HasShortCaches v → IsFew (all_costs v)
-quiet_few v has short = let few = cached_few v has short in let runs = all_runs_few v.setup.capacity v.caches in record { draws = omega arith; wins = omega arith; gives = omega arith; cuts = omega arith }
+quiet_few v has short = let few = cached_few v has short in let runs = all_runs_few v.setup.capacity v.caches in
+    record { draws = omega arith; wins = omega arith; gives = omega arith; cuts = omega arith }
 
 -- it gave a batch or stopped
-pub quiet_paid : (v w : View) (result : Result ⊤ Stopped) → v.stopped ≡ None → 1 ≤ cached v → IsFew (all_costs v) → Passes (all_costs v) v w → w.large ≡ v.large → OnOk result (HasFlushedAll v w) → IfErr result (λ e. Stops e.step v w) → IsPaid v w
+pub quiet_paid : (v w : View) (result : Result ⊤ Stopped) → v.stopped ≡ None → 1 ≤ cached v → IsFew (all_costs v) → Passes (all_costs v) v w
+    → w.large ≡ v.large → OnOk result (HasFlushedAll v w) → IfErr result (λ e. Stops e.step v w) → IsPaid v w
 quiet_paid v w (Ok a) ran some few passes same done stop = paid_most (all_costs v) v w few passes
-    (let gave = done.gave some in let c = passes.more.cuts in let t = passes.more.taken in let spans = ap length same in let going = ap one_if_some ran in omega arith)
+    (let gave = done.gave some in let c = passes.more.cuts in let t = passes.more.taken in let spans = ap length same in
+    let going = ap one_if_some ran in omega arith)
 quiet_paid v w (Err e) ran some few passes same done stop = paid_most (all_costs v) v w few passes
-    (let c = passes.more.cuts in let g = passes.more.gives in let t = passes.more.taken in let spans = ap length same in let going = ap one_if_some ran in let stops = ap one_if_some stop.at in omega arith)
+    (let c = passes.more.cuts in let g = passes.more.gives in let t = passes.more.taken in let spans = ap length same in
+    let going = ap one_if_some ran in let stops = ap one_if_some stop.at in omega arith)
 
 -- the seat is idle then, and has no block cached
-pub quiet_between : (v w : View) (result : Result ⊤ Stopped) → IsIdle v → OnOk result (HasFlushedAll v w) → IfErr result (λ e. Stops e.step v w) → IsBetweenCalls w
+pub quiet_between : (v w : View) (result : Result ⊤ Stopped) → IsIdle v → OnOk result (HasFlushedAll v w) → IfErr result (λ e. Stops e.step v w)
+    → IsBetweenCalls w
 quiet_between v w (Ok a) idle done stop going = (
   record {
     batch = ap (λ (p : Parts). p.batch) done.parts_are ∙ idle.batch;
@@ -69,7 +78,8 @@ quiet_between v w (Ok a) idle done stop going = (
 )
 quiet_between v w (Err e) idle done stop going = not_both stop.at going
 
-pub quiet_later : (v w : View) (result : Result ⊤ Stopped) → v.stopped ≡ None → 1 ≤ cached v → Passes (all_costs v) v w → OnOk result (HasFlushedAll v w) → IfErr result (λ e. Stops e.step v w) → next_of v < next_of w
+pub quiet_later : (v w : View) (result : Result ⊤ Stopped) → v.stopped ≡ None → 1 ≤ cached v → Passes (all_costs v) v w
+    → OnOk result (HasFlushedAll v w) → IfErr result (λ e. Stops e.step v w) → next_of v < next_of w
 quiet_later v w (Ok a) ran some passes done stop = draws_later v w passes (done.more some)
 quiet_later v w (Err e) ran some passes done stop = stop_later v w e.step ran stop
 

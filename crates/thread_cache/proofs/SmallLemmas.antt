@@ -75,14 +75,18 @@ module _ (v : View) (has : HasSoundState v) (class block : ℕ) (is : IsClass cl
   -- it is not the last one of the batch, so a store to it leaves the batch as it is
   not_last : block ≢ last_of v.batch.blocks
   not_last same = elim (cases_lt 0 (length v.batch.blocks)) [
-    | inl some ↦ absurd (let none = held_once in let there = subst (λ n. 0 < times n v.batch.blocks) (sym same) (last_there v.batch.blocks (omega arith)) in let no = none.1 in omega arith)
-    | inr none ↦ let zero_last = of_none v.batch.blocks (omega arith) in let range = block_range v has block had in let low = range.0 in omega (arith, same, zero_last, low)
+    | inl some ↦ absurd (let none = held_once in let there = subst (λ n. 0 < times n v.batch.blocks) (sym same)
+        (last_there v.batch.blocks (omega arith)) in let no = none.1 in omega arith)
+    | inr none ↦ let zero_last = of_none v.batch.blocks (omega arith) in let range = block_range v has block had in let low = range.0 in
+        omega (arith, same, zero_last, low)
   ]
 
   batch_is : record v.batch { linked = cond (nat_eq block (last_of v.batch.blocks)) false v.batch.linked } ≡ v.batch
-  batch_is = ap (λ l. record v.batch { linked = l }) (skip (nat_eq block (last_of v.batch.blocks)) false v.batch.linked (not-eq block (last_of v.batch.blocks) not_last))
+  batch_is = ap (λ l. record v.batch { linked = l }) (skip (nat_eq block (last_of v.batch.blocks)) false v.batch.linked
+      (not-eq block (last_of v.batch.blocks) not_last))
 
-  pub way_left : (u w : View) (first found : ℕ) → HasDrawn v u → first ≡ first_of (of_class u.caches class) → IsEvent (Store block first) u found w → HasWay block class v w
+  pub way_left : (u w : View) (first found : ℕ) → HasDrawn v u → first ≡ first_of (of_class u.caches class)
+      → IsEvent (Store block first) u found w → HasWay block class v w
   way_left u w first found drawn first_is event = record {
     ran = drawn.went;
     going = ap (λ (x : View). x.stopped) left ∙ drawn.went;
@@ -93,10 +97,16 @@ module _ (v : View) (has : HasSoundState v) (class block : ℕ) (is : IsClass cl
     here : cell_at u.setup.capacity block ≡ data_cell block
     here = ap (λ (x : View). cell_at x.setup.capacity block) drawn.left ∙ block_is
 
-    left : w ≡ record (used_up (drawn_as v drawn.ticket u)) { volatile = learn u.volatile block first; batch = record v.batch { linked = cond (nat_eq block (last_of v.batch.blocks)) false v.batch.linked } }
+    left : w ≡ record (used_up (drawn_as v drawn.ticket u)) {
+      volatile = learn u.volatile block first;
+      batch = record v.batch { linked = cond (nat_eq block (last_of v.batch.blocks)) false v.batch.linked };
+    }
     left = event.after
         ∙ ap (λ (cell : Cell). stored (record (used_up u) { volatile = learn u.volatile block first }) cell first) here
-        ∙ ap (λ (x : View). record (used_up x) { volatile = learn u.volatile block first; batch = record x.batch { linked = cond (nat_eq block (last_of x.batch.blocks)) false x.batch.linked } }) drawn.left
+        ∙ ap (λ (x : View). record (used_up x) {
+          volatile = learn u.volatile block first;
+          batch = record x.batch { linked = cond (nat_eq block (last_of x.batch.blocks)) false x.batch.linked };
+        }) drawn.left
 
   pub no_way : (u : View) → HasDrawn v u → length (of_class u.caches class) ≡ 0 → HasWay block class v u
   no_way u drawn none = record {
@@ -113,20 +123,23 @@ module _ (v : View) (has : HasSoundState v) (class block : ℕ) (is : IsClass cl
       ran = way.ran;
       going = ap (λ (x : View). x.stopped) (early_rest t early settles) ∙ way.going;
       parts_are = ap parts (early_rest t early settles) ∙ way.parts_are;
-      way = λ some. (early_words t early settles block (still_owns v t way.parts_are block block_owned)).volatile (first_of (of_class v.caches class)) (way.way some);
+      way = λ some. (early_words t early settles block (still_owns v t way.parts_are block block_owned)).volatile
+          (first_of (of_class v.caches class)) (way.way some);
     }
 
   abbrev free_shown : (t : View) → HasWay block class v t → CanFree t block
   free_shown t way = record {
     class = class;
     held = subst (λ (p : Parts). 0 < times block (of_class p.small class)) (sym way.parts_are) held;
-    linked = subst (λ (p : Parts). 1 ≤ length (of_class p.caches class) → Shows t (data_cell block) (first_of (of_class p.caches class))) (sym way.parts_are) way.way;
+    linked = subst (λ (p : Parts). 1 ≤ length (of_class p.caches class) → Shows t (data_cell block) (first_of (of_class p.caches class)))
+        (sym way.parts_are) way.way;
   }
 
   pub can_free : (t : View) → HasWay block class v t → Can t (Tick (Some (Free block)))
   can_free t way = record { going = way.going; ticket = tt; shown = free_shown t way }
 
-  module _ (t early w : View) (found : ℕ) (way : HasWay block class v t) (settles : Settles t early) (event : IsEvent (Tick (Some (Free block))) early found w) where
+  module _ (t early w : View) (found : ℕ) (way : HasWay block class v t) (settles : Settles t early)
+      (event : IsEvent (Tick (Some (Free block))) early found w) where
     freed_is : w.stopped ≡ None → w ≡ after_free (drew early found) class block
     freed_is going = draw_frees block early w found event going (free_shown early (way_early t way early settles))
 
@@ -144,12 +157,16 @@ module _ (v : View) (has : HasSoundState v) (class block : ℕ) (is : IsClass cl
 
     pub free_stopped : {a : Costs} → Passes a v t → (result : Result ⊤ Stopped) → TellsDraw w result → IfErr result (λ e. Stops e.step v w)
     free_stopped passes (Ok x) going = tt
-    free_stopped passes (Err e) told = stops_passed v t w e.step way.ran way.going passes (stops t early settles (Some (Free block)) w found event e.step way.going told)
+    free_stopped passes (Err e) told = stops_passed v t w e.step way.ran way.going passes
+        (stops t early settles (Some (Free block)) w found event e.step way.going told)
 
     pub may_hold_less : MayHoldLess block class v w
     may_hold_less = by_stop w.stopped refl where
       by_stop : (o : Option ℕ) → w.stopped ≡ o → MayHoldLess block class v w
-      by_stop None going = let p = (cached going).parts_are in record { large = ap (λ (x : Parts). x.large) p; small = inr (ap (λ (x : Parts). x.small) p) }
+      by_stop None going = let p = (cached going).parts_are in record {
+        large = ap (λ (x : Parts). x.large) p;
+        small = inr (ap (λ (x : Parts). x.small) p);
+      }
       by_stop (Some step) stop = let row = row_of_stop t early settles (Some (Free block)) w found event step way.going stop in record {
         large = row.large ∙ ap (λ (x : Parts). x.large) way.parts_are;
         small = inl (row.small ∙ ap (λ (x : Parts). x.small) way.parts_are);
@@ -182,11 +199,13 @@ module _ (v : View) (class block : ℕ) (below : class < length v.small) (held :
       let plus : 0 + class ≡ class = omega arith in
       let all = in_classes_set word 0 class v.small (without block (of_class v.small class)) below in
       let some = within_without (words_of_class (0 + class)) word block (of_class v.small class) held in
-      let none = outside block (words_of_class (0 + class)) word (subst (λ c. IsIn (block_of c block) word → ⊥) (sym plus) (subst (λ n. IsIn (block_of class block) n → ⊥) (sym at) out)) in
+      let none = outside block (words_of_class (0 + class)) word (subst (λ c. IsIn (block_of c block) word → ⊥) (sym plus)
+      (subst (λ n. IsIn (block_of class block) n → ⊥) (sym at) out)) in
       omega (arith, all, some, none)
   held_words k no_cell at out = refl
 
-  pub held_outside : (w : View) → w.setup ≡ v.setup → w.roots ≡ v.roots → MayHoldLess block class v w → (k : ℕ) → IsHeldOutside v (block_of class block) k → IsHeldWord w k
+  pub held_outside : (w : View) → w.setup ≡ v.setup → w.roots ≡ v.roots → MayHoldLess block class v w → (k : ℕ)
+      → IsHeldOutside v (block_of class block) k → IsHeldWord w k
   held_outside w setup roots may k kept = elim may.small as (λ _. IsHeldWord w k) [
     | inl same ↦ still_held v w setup same may.large roots k kept.0
     | inr less ↦ still_held without_it w setup less may.large roots k
@@ -198,25 +217,33 @@ class_below v has class is = let long = (has.sound.good.set_up has.seat v has.be
 
 -- a row that stores to no held word, as one that may
 pub row_storing : {a : Costs} (word : ℕ) (v w : SeatView) → Row a v w → StoringRow word a v w
-row_storing {a} word v w p = record { small = p.view.small; large = p.view.large; but = but_fewer (λ k. IsHeldWord v.view k × (k ≢ word)) a v w (λ k both. both.0) within_itself (row_but v w p) }
+row_storing {a} word v w p = record {
+  small = p.view.small;
+  large = p.view.large;
+  but = but_fewer (λ k. IsHeldWord v.view k × (k ≢ word)) a v w (λ k both. both.0) within_itself (row_but v w p);
+}
 
 is_first : (class block : ℕ) → IsClass class → IsIn (block_of class block) block
 is_first class block is = let two = two_words class is in record { from = omega arith; until = omega arith }
 
-pub lead_row : (v t : SeatView) (class block : ℕ) → IsClass class → StoringRow block one_draw v t → RowBut (IsHeldOutside v.view (block_of class block)) (record no_costs { draws = 2 }) v t
+pub lead_row : (v t : SeatView) (class block : ℕ) → IsClass class → StoringRow block one_draw v t
+    → RowBut (IsHeldOutside v.view (block_of class block)) (record no_costs { draws = 2 }) v t
 lead_row v t class block is storing = but_fewer (IsHeldOutside v.view (block_of class block)) (record no_costs { draws = 2 }) v t
     (λ k kept. (kept.0, λ same. kept.1 (subst (IsIn (block_of class block)) (sym same) (is_first class block is))))
     (record { draws = omega arith; wins = omega arith; gives = omega arith; cuts = omega arith; taken = omega arith; moves = omega arith }) storing.but
 
 -- the store, and the draw with the change
-pub freed_row : (v t w : SeatView) (has : HasSoundState v.view) (class block : ℕ) (is : IsClass class) (held : 0 < times block (of_class v.view.small class))
+pub freed_row : (v t w : SeatView) (has : HasSoundState v.view) (class block : ℕ) (is : IsClass class)
+    (held : 0 < times block (of_class v.view.small class))
     → StoringRow block one_draw v t → HoldingRow one_draw t w → MayHoldLess block class v.view w.view
     → RowBut (IsHeldOutside v.view (block_of class block)) (record no_costs { draws = 2 }) v w
 freed_row v t w has class block is held storing holding may = but_then v t w
-    (but_fewer Kept one_draw v t (λ k kept. (kept.0, λ same. kept.1 (subst (IsIn (block_of class block)) (sym same) (is_first class block is)))) within_itself storing.but)
+    (but_fewer Kept one_draw v t (λ k kept. (kept.0, λ same. kept.1 (subst (IsIn (block_of class block)) (sym same) (is_first class block is))))
+    within_itself storing.but)
     (but_fewer Kept one_draw t w (λ k kept. (
       still_held v.view t.view storing.but.passes.setup storing.small storing.large storing.but.passes.roots k kept.0,
-      held_outside v.view class block (class_below v.view has class is) held w.view (holding.passes.setup ∙ storing.but.passes.setup) (holding.passes.roots ∙ storing.but.passes.roots) may k kept,
+      held_outside v.view class block (class_below v.view has class is) held w.view (holding.passes.setup ∙ storing.but.passes.setup)
+          (holding.passes.roots ∙ storing.but.passes.roots) may k kept,
     )) within_itself holding) where
       Kept : ℕ → Type 0
       Kept = IsHeldOutside v.view (block_of class block)
@@ -227,7 +254,8 @@ module _ (v t : View) (has : HasSoundState v) (class block : ℕ) (is : IsClass 
   in_caches = let long = (has.sound.good.set_up has.seat v has.below has.at).caches in let last = is.last in omega arith
 
   cache_is : of_class t.caches class ≡ block ∷ of_class v.caches class
-  cache_is = ap (λ (p : Parts). of_class p.caches class) cached.parts_are ∙ get_or-set_same v.caches class (block ∷ of_class v.caches class) [] in_caches
+  cache_is = ap (λ (p : Parts). of_class p.caches class) cached.parts_are
+      ∙ get_or-set_same v.caches class (block ∷ of_class v.caches class) [] in_caches
 
   pub one_more : length (of_class t.caches class) ≡ length (of_class v.caches class) + 1
   one_more = let e = ap length cache_is in omega arith
@@ -248,7 +276,8 @@ module _ (v t : View) (has : HasSoundState v) (class block : ℕ) (is : IsClass 
   same_runs : cache_runs t class ≡ runs_of v.setup.capacity (block ∷ of_class v.caches class)
   same_runs = ap (λ (p : Parts). runs_of p.setup.capacity (of_class t.caches class)) cached.parts_are ∙ ap (runs_of v.setup.capacity) cache_is
 
-  pub freed_flushed : (w : View) → v.gives ≤ t.gives → t.gives ≤ v.gives + 0 → blocks_of class ≤ length (of_class t.caches class) → HasFlushed class t w → HasFreed block class v w
+  pub freed_flushed : (w : View) → v.gives ≤ t.gives → t.gives ≤ v.gives + 0 → blocks_of class ≤ length (of_class t.caches class)
+      → HasFlushed class t w → HasFreed block class v w
   freed_flushed w before none many flushed = record {
     going = flushed.going;
     cache = [];
@@ -265,24 +294,37 @@ module _ (v t : View) (has : HasSoundState v) (class block : ℕ) (is : IsClass 
   pub idle_still : IsIdle v → t.batch ≡ no_batch
   idle_still idle = ap (λ (p : Parts). p.batch) cached.parts_are ∙ idle.batch
 
-pub freed_behind : {a : Costs} (v w x : SeatView) (class block : ℕ) → MayHoldLess block class v.view w.view → Row a w x → MayHoldLess block class v.view x.view
+pub freed_behind : {a : Costs} (v w x : SeatView) (class block : ℕ) → MayHoldLess block class v.view w.view → Row a w x
+    → MayHoldLess block class v.view x.view
 freed_behind v w x class block may row = record {
   large = row.view.large ∙ may.large;
   small = elim may.small [ inl same ↦ inl (row.view.small ∙ same) | inr less ↦ inr (row.view.small ∙ less) ];
 }
 
 -- a free, and the flush behind it
-pub flushed_row : (v t w : SeatView) (has : HasSoundState v.view) (class block : ℕ) (is : IsClass class) (held : 0 < times block (of_class v.view.small class)) → MayHoldLess block class v.view t.view → length (of_class t.view.caches class) ≤ blocks_of class
-    → RowBut (IsHeldOutside v.view (block_of class block)) (record no_costs { draws = 2 }) v t → Row (cache_costs t.view class) t w → RowBut (IsHeldOutside v.view (block_of class block)) (free_costs (blocks_of class)) v w
+pub flushed_row : (v t w : SeatView) (has : HasSoundState v.view) (class block : ℕ) (is : IsClass class)
+    (held : 0 < times block (of_class v.view.small class)) → MayHoldLess block class v.view t.view
+    → length (of_class t.view.caches class) ≤ blocks_of class
+    → RowBut (IsHeldOutside v.view (block_of class block)) (record no_costs { draws = 2 }) v t → Row (cache_costs t.view class) t w
+    → RowBut (IsHeldOutside v.view (block_of class block)) (free_costs (blocks_of class)) v w
 flushed_row v t w has class block is held may few row flush = let runs = runs_few t.view.setup.capacity (of_class t.view.caches class) in
     but_fewer Kept (free_costs (blocks_of class)) v w (λ k kept. kept)
-    (record { draws = omega (arith, few); wins = omega (arith, few); gives = omega (arith, few); cuts = omega arith; taken = omega arith; moves = omega (arith, few) })
+    (record {
+      draws = omega (arith, few);
+      wins = omega (arith, few);
+      gives = omega (arith, few);
+      cuts = omega arith;
+      taken = omega arith;
+      moves = omega (arith, few);
+    })
     (but_then v t w row (but_fewer Kept (cache_costs t.view class) t w
-    (λ k kept. held_outside v.view class block (class_below v.view has class is) held t.view row.passes.setup row.passes.roots may k kept) within_itself (row_but t w flush))) where
+    (λ k kept. held_outside v.view class block (class_below v.view has class is) held t.view row.passes.setup row.passes.roots may k kept)
+    within_itself (row_but t w flush))) where
       Kept : ℕ → Type 0
       Kept = IsHeldOutside v.view (block_of class block)
 
-pub free_costs_most : (class : ℕ) (v t : SeatView) (block : ℕ) → RowBut (IsHeldOutside v.view (block_of class block)) (record no_costs { draws = 2 }) v t → RowBut (IsHeldOutside v.view (block_of class block)) (free_costs (blocks_of class)) v t
+pub free_costs_most : (class : ℕ) (v t : SeatView) (block : ℕ) → RowBut (IsHeldOutside v.view (block_of class block))
+    (record no_costs { draws = 2 }) v t → RowBut (IsHeldOutside v.view (block_of class block)) (free_costs (blocks_of class)) v t
 free_costs_most class v t block row = but_fewer (IsHeldOutside v.view (block_of class block)) (free_costs (blocks_of class)) v t (λ k kept. kept)
     (record { draws = omega arith; wins = omega arith; gives = omega arith; cuts = omega arith; taken = omega arith; moves = omega arith }) row
 
@@ -292,7 +334,8 @@ rest_length [] some = absurd (omega (arith, some))
 rest_length (b ∷ bs) some = omega arith
 
 module _ (v early w : View) (class found : ℕ) (settles : Settles v early) (event : IsEvent (Tick (Some (Alloc class))) early found w) where
-  pub allocated : (first words : ℕ) → 1 ≤ length (of_class v.caches class) → length (of_class v.caches class) ≤ blocks_of class → first ≡ first_of (of_class v.caches class) → words ≡ words_of_class class → w.stopped ≡ None
+  pub allocated : (first words : ℕ) → 1 ≤ length (of_class v.caches class) → length (of_class v.caches class) ≤ blocks_of class
+      → first ≡ first_of (of_class v.caches class) → words ≡ words_of_class class → w.stopped ≡ None
       → HasAllocated class (record { first_word = first; words = words }) v w
   allocated first words some most is size going = record {
     going = going;
@@ -301,7 +344,10 @@ module _ (v early w : View) (class found : ℕ) (settles : Settles v early) (eve
     first = λ _. first_rest (of_class v.caches class) some ∙ ap (λ b. b ∷ rest_of (of_class v.caches class)) (sym is);
     short = let rest = rest_length (of_class v.caches class) some in omega (arith, rest, most);
     parts_are = ap parts (shifted_is v early settles (Some (Alloc class)) w found event going)
-        ∙ ap (λ b. record (parts v) { small = set v.small class (b ∷ of_class v.small class); caches = set v.caches class (rest_of (of_class v.caches class)) }) (sym is);
+        ∙ ap (λ b. record (parts v) {
+          small = set v.small class (b ∷ of_class v.small class);
+          caches = set v.caches class (rest_of (of_class v.caches class));
+        }) (sym is);
   }
 
   pub alloc_looks : w.stopped ≡ None → SameLooks v w

@@ -29,14 +29,20 @@ none_left d n k (suc m) less =
     ∙ ap (λ i. without_range d n (steps i 1 m)) (let e : d + k + 1 ≡ d + (k + 1) = omega arith in e)
     ∙ none_left d n (k + 1) m (omega arith)
 
-taken_and_held : (d n : ℕ) (p : Parts) → p.raw ≡ [] → p.split ≡ [] → with_large d n (with_fresh d n p) ≡ record p { large = record { first = d; count = n } ∷ p.large }
+taken_and_held : (d n : ℕ) (p : Parts) → p.raw ≡ [] → p.split ≡ []
+    → with_large d n (with_fresh d n p) ≡ record p { large = record { first = d; count = n } ∷ p.large }
 taken_and_held d n p raw split =
-    ap (λ l. record p { large = record { first = d; count = n } ∷ p.large; raw = without_range d n (l ++ steps d 1 n); split = without_range d n p.split }) raw
+    ap (λ l. record p {
+      large = record { first = d; count = n } ∷ p.large;
+      raw = without_range d n (l ++ steps d 1 n);
+      split = without_range d n p.split;
+    }) raw
     ∙ ap (λ l. record p { large = record { first = d; count = n } ∷ p.large; raw = l; split = without_range d n p.split })
     (ap (λ i. without_range d n (steps i 1 n)) (let e : d ≡ d + 0 = omega arith in e) ∙ none_left d n 0 n (omega arith) ∙ sym raw)
     ∙ ap (λ l. record p { large = record { first = d; count = n } ∷ p.large; split = l }) (ap (without_range d n) split ∙ sym split)
 
-pub allocated : (v t w : View) (n d : ℕ) (b : Block) → IsIdle v → HasTakenFresh n d v t → HasHeld d n b t w → next_of t ≤ next_of w → w.taken ≡ t.taken → HasAllocatedLarge n b v w
+pub allocated : (v t w : View) (n d : ℕ) (b : Block) → IsIdle v → HasTakenFresh n d v t → HasHeld d n b t w → next_of t ≤ next_of w
+    → w.taken ≡ t.taken → HasAllocatedLarge n b v w
 allocated v t w n d b idle taken held later same = record {
   going = held.going;
   first = d;
@@ -82,10 +88,24 @@ abbrev pub taking : ℕ → Costs
 taking n = record no_costs { draws = 3; wins = 1; taken = n }
 
 pub not_held_row : (v t w : SeatView) (n : ℕ) → Row (taking n) v t → Row (record no_costs { draws = 2 }) t w → Row (large_costs n) v w
-not_held_row v t w n take row = row_within (large_costs n) v w (record { draws = omega arith; wins = omega arith; gives = omega arith; cuts = omega arith; taken = omega arith; moves = omega arith }) (row_then v t w take row)
+not_held_row v t w n take row = row_within (large_costs n) v w (record {
+  draws = omega arith;
+  wins = omega arith;
+  gives = omega arith;
+  cuts = omega arith;
+  taken = omega arith;
+  moves = omega arith;
+}) (row_then v t w take row)
 
 pub held_row : (v t w : SeatView) (n : ℕ) → Row (taking n) v t → HoldingRow (record no_costs { draws = 2 }) t w → HoldingRow (large_costs n) v w
-held_row v t w n take row = holding_within (large_costs n) v w (record { draws = omega arith; wins = omega arith; gives = omega arith; cuts = omega arith; taken = omega arith; moves = omega arith }) (then_holding v t w take row)
+held_row v t w n take row = holding_within (large_costs n) v w (record {
+  draws = omega arith;
+  wins = omega arith;
+  gives = omega arith;
+  cuts = omega arith;
+  taken = omega arith;
+  moves = omega arith;
+}) (then_holding v t w take row)
 
 -- the first of some numbers stands in the list that has them from the last on, and without it the others are left
 has_first : (d m : ℕ) → 0 < times d (down d (suc m))
@@ -109,7 +129,8 @@ module _ (v : View) (d m : ℕ) (raw : v.raw ≡ down d (suc m)) (cutting : v.cu
 
   pub listed_parts : v.split ≡ [] → without_claim_of d (parts v) ≡ record (parts v) { raw = down (d + 1) m }
   listed_parts split =
-      ap (λ t. cond t (record (parts v) { raw = without d v.raw; split = without d v.split }) (record (parts v) { classed = without_claim d v.classed }))
+      ap (λ t. cond t (record (parts v) { raw = without d v.raw; split = without d v.split })
+      (record (parts v) { classed = without_claim d v.classed }))
       (lt-ltb 0 (times d v.raw + times d v.split) (let l = first_there in omega arith))
       ∙ ap (λ l. record (parts v) { raw = l; split = without d v.split }) (ap (without d) raw ∙ without_first d m)
       ∙ ap (λ l. record (parts v) { raw = down (d + 1) m; split = l }) (ap (without d) split ∙ sym split)
@@ -133,7 +154,14 @@ module _ (v t : SeatView) (d n e : ℕ) (from : d ≤ e) (until : e < d + n) (li
 
   module _ (w : SeatView) (row : Row (record one_push { draws = 3 }) t w) where
     pub listing_row : Row (list_costs n) v w
-    listing_row = row_within (list_costs n) v w (record { draws = omega arith; wins = omega arith; gives = omega arith; cuts = omega arith; taken = omega arith; moves = omega arith }) (row_then v t w listing.row row)
+    listing_row = row_within (list_costs n) v w (record {
+      draws = omega arith;
+      wins = omega arith;
+      gives = omega arith;
+      cuts = omega arith;
+      taken = omega arith;
+      moves = omega arith;
+    }) (row_then v t w listing.row row)
 
     pub listing_on : v.view.split ≡ [] → HasPushed 0 e 3 t.view w.view → Listing d n (e + 1) v w
     listing_on split pushed = record {
@@ -141,8 +169,18 @@ module _ (v t : SeatView) (d n e : ℕ) (from : d ≤ e) (until : e < d + n) (li
       most = omega arith;
       parts_are = pushed.parts_are ∙ listed_parts t.view e (d + n - (e + 1)) raw_is cutting_is (ap (λ (p : Parts). p.split) listing.parts_are ∙ split)
           ∙ ap (λ (p : Parts). record p { raw = down (e + 1) (d + n - (e + 1)) }) listing.parts_are;
-      row = row_within (list_costs (e + 1 - d)) v w (record { draws = omega arith; wins = omega arith; gives = omega arith; cuts = omega arith; taken = omega arith; moves = omega arith }) (row_then v t w listing.row row);
+      row = row_within (list_costs (e + 1 - d)) v w (record {
+        draws = omega arith;
+        wins = omega arith;
+        gives = omega arith;
+        cuts = omega arith;
+        taken = omega arith;
+        moves = omega arith;
+      }) (row_then v t w listing.row row);
     }
 
-pub freed_row : (v t w : SeatView) (n : ℕ) → HoldingRow (record no_costs { draws = n + 1 }) v t → Row (list_costs n) t w → HoldingRow (large_free_costs n) v w
-freed_row v t w n split row = holding_within (large_free_costs n) v w (record { draws = omega arith; wins = omega arith; gives = omega arith; cuts = omega arith; taken = omega arith; moves = omega arith }) (holding_then v t w split row)
+pub freed_row : (v t w : SeatView) (n : ℕ) → HoldingRow (record no_costs { draws = n + 1 }) v t → Row (list_costs n) t w
+    → HoldingRow (large_free_costs n) v w
+freed_row v t w n split row = holding_within (large_free_costs n) v w
+    (record { draws = omega arith; wins = omega arith; gives = omega arith; cuts = omega arith; taken = omega arith; moves = omega arith })
+    (holding_then v t w split row)

@@ -24,9 +24,12 @@ light_draws = 64
 abbrev pub traces : View → ℕ
 traces v = v.cuts + v.gives + v.taken + v.accepts + one_if_some v.stopped
 
--- Between two views of a seat, with so many small and large calls by then, the setup and the owned roots stay, no count falls, and what is known of the durable
--- mark does not. A small call draws one ticket at most, and any other the most; it cuts one superblock at most. To that come 16 tickets for each lost exchange and
--- each move, and 2 wins for each move. A large call draws as many tickets as a light one, with the most for each trace and for each large block that is held no more.
+-- Between two views of a seat, with so many small and large calls by then, the setup and the owned roots stay, no count
+-- falls, and what is known of the durable
+-- mark does not. A small call draws one ticket at most, and any other the most; it cuts one superblock at most. To that
+-- come 16 tickets for each lost exchange and
+-- each move, and 2 wins for each move. A large call draws as many tickets as a light one, with the most for each trace
+-- and for each large block that is held no more.
 pub record KeepsCosts (v : View) (small large : ℕ) (w : View) (smalls larges : ℕ) : Type 0 where
   pub setup : w.setup ≡ v.setup
   pub roots : w.roots ≡ v.roots
@@ -34,7 +37,8 @@ pub record KeepsCosts (v : View) (small large : ℕ) (w : View) (smalls larges :
   pub none_falls : NoneFalls v w
   pub small_rise : small ≤ smalls
   pub large_rise : large ≤ larges
-  pub draws : w.draws + small + most_draws * large + 16 * v.losses + 16 * v.moves ≤ v.draws + smalls + most_draws * larges + 16 * w.losses + 16 * w.moves
+  pub draws : w.draws + small + most_draws * large + 16 * v.losses + 16 * v.moves ≤ v.draws + smalls + most_draws * larges + 16 * w.losses + 16
+      * w.moves
   pub wins : w.wins + most_wins * large + 2 * v.moves ≤ v.wins + most_wins * larges + 2 * w.moves
   pub gives : w.gives + most_gives * large ≤ v.gives + most_gives * larges
   pub cuts : w.cuts + large ≤ v.cuts + larges

@@ -11,7 +11,8 @@ use Rattle.cache_fill.specs.Refills.{IsLook}
 use Rattle.seat_costs.specs.Costs.{Costs, no_costs}
 use Rattle.seat_costs.specs.Rows.{IsMade, Stops, next_of, parts}
 
--- a block of n superblocks is held, which are the first that were not taken, as the last look at the mark said: there is room for them, and they count as taken
+-- a block of n superblocks is held, which are the first that were not taken, as the last look at the mark said: there
+-- is room for them, and they count as taken
 pub record HasAllocatedLarge (n : ℕ) (b : Block) (v w : View) : Type 0 where
   pub going : w.stopped ≡ None
   pub first : ℕ

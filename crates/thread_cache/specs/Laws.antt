@@ -9,7 +9,15 @@ costs_none s = record {
   setup = refl;
   roots = refl;
   floor = omega arith;
-  none_falls = record { draws = omega arith; wins = omega arith; losses = omega arith; gives = omega arith; moves = omega arith; cuts = omega arith; taken = omega arith };
+  none_falls = record {
+    draws = omega arith;
+    wins = omega arith;
+    losses = omega arith;
+    gives = omega arith;
+    moves = omega arith;
+    cuts = omega arith;
+    taken = omega arith;
+  };
   small_rise = omega arith;
   large_rise = omega arith;
   draws = omega arith;
@@ -19,7 +27,8 @@ costs_none s = record {
   light = omega arith;
 }
 
-costs_row : (s t u : CacheState) → KeepsCosts s.view s.small_calls s.large_calls t.view t.small_calls t.large_calls → KeepsCosts t.view t.small_calls t.large_calls u.view u.small_calls u.large_calls
+costs_row : (s t u : CacheState) → KeepsCosts s.view s.small_calls s.large_calls t.view t.small_calls t.large_calls
+    → KeepsCosts t.view t.small_calls t.large_calls u.view u.small_calls u.large_calls
     → KeepsCosts s.view s.small_calls s.large_calls u.view u.small_calls u.large_calls
 costs_row s t u p q = record {
   setup = q.setup ∙ p.setup;

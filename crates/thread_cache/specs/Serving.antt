@@ -10,7 +10,8 @@ use Rattle.cache_fill.specs.Refills.{IsFilledInOrder, IsFull}
 use Rattle.seat_costs.specs.Costs.{one_draw}
 use Rattle.seat_costs.specs.Rows.{IsMade, Passes, next_of, parts}
 
--- a call that cuts, gives and takes nothing, and holds or frees no large block, draws 64 tickets at most, and 16 for each lost exchange and each superblock that it moves
+-- a call that cuts, gives and takes nothing, and holds or frees no large block, draws 64 tickets at most, and 16 for
+-- each lost exchange and each superblock that it moves
 abbrev pub IsLight : View → View → Type 0
 IsLight v w = w.cuts ≡ v.cuts → w.gives ≡ v.gives → w.taken ≡ v.taken → w.large ≡ v.large
     → w.draws + 16 * v.losses + 16 * v.moves ≤ v.draws + 64 + 16 * w.losses + 16 * w.moves
@@ -20,8 +21,10 @@ pub record HasSeenRoom (bytes : ℕ) (v w : View) : Type 0 where
   pub made : IsMade (next_of v) (next_of w) v.taken v.taken w.used_look
   pub room : w.used_look.word + span_of bytes ≤ w.setup.capacity
 
--- A granted request. A block of a class is the first of its cache, where that had one, by one ticket; else the cache was filled in order. A large one begins at
--- the mark that was seen. Nothing else that the seat had changed, and no batch was given. It cost what a request may cost, and less where it cut nothing.
+-- A granted request. A block of a class is the first of its cache, where that had one, by one ticket; else the cache
+-- was filled in order. A large one begins at
+-- the mark that was seen. Nothing else that the seat had changed, and no batch was given. It cost what a request may
+-- cost, and less where it cut nothing.
 pub record IsServed (bytes : ℕ) (v w : View) : Type 0 where
   pub light : IsLight v w
   pub block : Block
@@ -33,8 +36,10 @@ pub record IsServed (bytes : ℕ) (v w : View) : Type 0 where
   pub uncut : w.cuts ≡ v.cuts → Passes (light_request bytes (w.moves - v.moves)) v w
   pub large : largest_small < bytes → HasSeenRoom bytes v w
 
--- A refused request. Of a class, whose cache is empty, it found both lists empty and the mark past, in this order, and won no exchange from the first of these
--- looks on. One that is too large for a class found the mark past, and won none at all. The seat has what it had, and cut and gave nothing. It cost what a request
+-- A refused request. Of a class, whose cache is empty, it found both lists empty and the mark past, in this order, and
+-- won no exchange from the first of these
+-- looks on. One that is too large for a class found the mark past, and won none at all. The seat has what it had, and
+-- cut and gave nothing. It cost what a request
 -- may cost that cuts nothing.
 pub record IsTurnedAway (bytes : ℕ) (looks : Looks) (v w : View) : Type 0 where
   pub light : IsLight v w
@@ -45,7 +50,8 @@ pub record IsTurnedAway (bytes : ℕ) (looks : Looks) (v w : View) : Type 0 wher
   pub for_class : (class : ℕ) → IsLeastClassFor bytes class → IsFull class looks v w × (of_class v.caches class ≡ [])
   pub for_span : largest_small < bytes → HasNoRoom (span_of bytes) looks v w
 
--- A freed block. One of a class went before those of its cache. Where that then had as many as a superblock it was flushed, in one batch for each run. Of a large
+-- A freed block. One of a class went before those of its cache. Where that then had as many as a superblock it was
+-- flushed, in one batch for each run. Of a large
 -- one no superblock is claimed. Nothing was cut. It cost what the freeing of a block may cost, and less where it only went into the cache.
 pub record IsPutBack (b : Block) (v w : View) : Type 0 where
   pub light : IsLight v w

@@ -55,7 +55,8 @@ pub record HasCached (block class : ℕ) (v w : View) : Type 0 where
   pub going : w.stopped ≡ None
   pub parts_are : parts w ≡ with_freed class block (block ∷ of_class v.caches class) (parts v)
 
--- the cache is flushed once it has as many blocks as a superblock, in one batch for each run, each of which lists its superblock where that falls to the seat
+-- the cache is flushed once it has as many blocks as a superblock, in one batch for each run, each of which lists its
+-- superblock where that falls to the seat
 pub record HasFreed (block class : ℕ) (v w : View) : Type 0 where
   pub going : w.stopped ≡ None
   pub cache : List ℕ

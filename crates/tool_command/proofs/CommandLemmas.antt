@@ -53,7 +53,8 @@ module _ (E : Type 0) (G : List ℕ → Result ℕ E → Type 0) (only : (u : Li
           e ∙ ap (λ (k : ℕ). Some k) ((only has.text (Ok m) read).1 ∙ has.counted.value)
 
 -- words that a command matches, which is told as this one, and which name it, are taken as its words
-pub taken_as : {E : Type 0} (wanted : App) (words : List (List ℕ)) (m : ArgMatches) (command : Result Command E) → IsOkAnd command (λ c. IsMatchedBy (app_of c) words m)
+pub taken_as : {E : Type 0} (wanted : App) (words : List (List ℕ)) (m : ArgMatches) (command : Result Command E)
+    → IsOkAnd command (λ c. IsMatchedBy (app_of c) words m)
     → IfOk command (λ c. app_of c ≡ wanted) → slice_get words 0 ≡ Some wanted.top.name → IsTaken wanted words × IsMatchedBy wanted words m
 taken_as wanted words m (Ok command) matched is first =
     let same : IsMatchedBy wanted words m = subst (λ (a : App). IsMatchedBy a words m) is matched in
@@ -61,13 +62,15 @@ taken_as wanted words m (Ok command) matched is first =
 taken_as wanted words m (Err e) matched is first = absurd matched
 
 -- and those in which it finds a fault are at fault as its words
-pub faulty_as : {E : Type 0} (wanted : App) (words : List (List ℕ)) (command : Result Command E) → IsOkAnd command (λ c. fault_of (app_of c) words ≡ [] → ⊥)
+pub faulty_as : {E : Type 0} (wanted : App) (words : List (List ℕ)) (command : Result Command E)
+    → IsOkAnd command (λ c. fault_of (app_of c) words ≡ [] → ⊥)
     → IfOk command (λ c. app_of c ≡ wanted) → fault_of wanted words ≡ [] → ⊥
 faulty_as wanted words (Ok command) faulty is none = faulty (ap (λ (a : App). fault_of a words) is ∙ none)
 faulty_as wanted words (Err e) faulty is none = absurd faulty
 
 -- what holds of the command that is wanted holds of the one that is told as it
-pub told_has : {E : Type 0} (wanted : App) (P : App → Type 0) (command : Result Command E) → IfOk command (λ c. app_of c ≡ wanted) → P wanted → IfOk command (λ c. P (app_of c))
+pub told_has : {E : Type 0} (wanted : App) (P : App → Type 0) (command : Result Command E) → IfOk command (λ c. app_of c ≡ wanted) → P wanted
+    → IfOk command (λ c. P (app_of c))
 told_has wanted P (Ok command) is has = subst P (sym is) has
 told_has wanted P (Err e) is has = tt
 
@@ -79,7 +82,8 @@ module _ (app : App) (words : List (List ℕ)) (m : ArgMatches) (matched : IsMat
   pub number_is : (id : List ℕ) (n k : ℕ) → HasNumber (rows_of (found_of m)) id n → HasNumber (matches_of app words) id k → n ≡ k
   number_is id n k read has = one_number (matches_of app words) id n k (rw (← matched.rows_are) read) has
 
-  pub number_or_is : (id : List ℕ) (other n k : ℕ) → HasNumberOr (rows_of (found_of m)) id other n → HasNumberOr (matches_of app words) id other k → n ≡ k
+  pub number_or_is : (id : List ℕ) (other n k : ℕ) → HasNumberOr (rows_of (found_of m)) id other n
+      → HasNumberOr (matches_of app words) id other k → n ≡ k
   number_or_is id other n k read has = one_number_or (matches_of app words) id other n k (rw (← matched.rows_are) read) has
 
   pub flag_is : (id : List ℕ) (a b : Bool) → HasFlag (rows_of (found_of m)) id a → HasFlag (matches_of app words) id b → a ≡ b
@@ -140,16 +144,26 @@ usage_count words first none other asks = other_name words _ _ first (first_word
 
 -- a word that names no command asks for none
 pub usage_other : (words : List (List ℕ)) (word : List ℕ) → slice_get words 0 ≡ Some word
-    → (word ≡ codes "format" → ⊥) → (word ≡ codes "show" → ⊥) → (word ≡ codes "drain" → ⊥) → (word ≡ codes "gen" → ⊥) → (word ≡ codes "run" → ⊥) → (word ≡ codes "rebuild" → ⊥) → (word ≡ codes "replay" → ⊥) → (word ≡ codes "conservative" → ⊥) → (word ≡ codes "count" → ⊥) → IsUsage words
-usage_other words word first format show drain gen run rebuild replay conservative count (format_image image n) asks = other_name words _ _ first asks.taken.named format
-usage_other words word first format show drain gen run rebuild replay conservative count (show_image image with_map in_parallel) asks = other_name words _ _ first asks.taken.named show
-usage_other words word first format show drain gen run rebuild replay conservative count (drain_image image n) asks = other_name words _ _ first asks.taken.named drain
-usage_other words word first format show drain gen run rebuild replay conservative count (gen_trace requests seed) asks = other_name words _ _ first asks.taken.named gen
-usage_other words word first format show drain gen run rebuild replay conservative count (run_image image options) asks = other_name words _ _ first asks.taken.named run
-usage_other words word first format show drain gen run rebuild replay conservative count (rebuild_image image budget seed) asks = other_name words _ _ first asks.taken.named rebuild
-usage_other words word first format show drain gen run rebuild replay conservative count (replay_image image seed) asks = other_name words _ _ first asks.taken.named replay
-usage_other words word first format show drain gen run rebuild replay conservative count (conservative_image image with_map) asks = other_name words _ _ first asks.taken.named conservative
-usage_other words word first format show drain gen run rebuild replay conservative count (count_image image with_map) asks = other_name words _ _ first asks.taken.named count
+    → (word ≡ codes "format" → ⊥) → (word ≡ codes "show" → ⊥) → (word ≡ codes "drain" → ⊥) → (word ≡ codes "gen" → ⊥) → (word ≡ codes "run" → ⊥)
+    → (word ≡ codes "rebuild" → ⊥) → (word ≡ codes "replay" → ⊥) → (word ≡ codes "conservative" → ⊥) → (word ≡ codes "count" → ⊥) → IsUsage words
+usage_other words word first format show drain gen run rebuild replay conservative count (format_image image n) asks =
+    other_name words _ _ first asks.taken.named format
+usage_other words word first format show drain gen run rebuild replay conservative count (show_image image with_map in_parallel) asks =
+    other_name words _ _ first asks.taken.named show
+usage_other words word first format show drain gen run rebuild replay conservative count (drain_image image n) asks =
+    other_name words _ _ first asks.taken.named drain
+usage_other words word first format show drain gen run rebuild replay conservative count (gen_trace requests seed) asks =
+    other_name words _ _ first asks.taken.named gen
+usage_other words word first format show drain gen run rebuild replay conservative count (run_image image options) asks =
+    other_name words _ _ first asks.taken.named run
+usage_other words word first format show drain gen run rebuild replay conservative count (rebuild_image image budget seed) asks =
+    other_name words _ _ first asks.taken.named rebuild
+usage_other words word first format show drain gen run rebuild replay conservative count (replay_image image seed) asks =
+    other_name words _ _ first asks.taken.named replay
+usage_other words word first format show drain gen run rebuild replay conservative count (conservative_image image with_map) asks =
+    other_name words _ _ first asks.taken.named conservative
+usage_other words word first format show drain gen run rebuild replay conservative count (count_image image with_map) asks =
+    other_name words _ _ first asks.taken.named count
 
 no_name : (words : List (List ℕ)) (name : List ℕ) → words ≡ [] → slice_get words 0 ≡ Some name → ⊥
 no_name words name none first =

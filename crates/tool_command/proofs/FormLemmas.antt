@@ -1,4 +1,5 @@
--- Words in a form ask for its command: clap finds no fault in them, and its matches are the texts and numbers that they write. Here the forms with no option's number but a seed.
+-- Words in a form ask for its command: clap finds no fault in them, and its matches are the texts and numbers that they
+-- write. Here the forms with no option's number but a seed.
 use Rattle.std.proofs.Common.{◌≡◌, ◌∙◌, ◌≤◌, ◌<◌, ◌+◌, ◌-◌, ◌^◌, ℕ, Bool, true, false, List, [], ◌∷◌, ◌++◌, codes, Option, Some, None, refl, sym, ap, subst, min, true≢false, slice_index, inl, inr, arith}
 use Rattle.std.specs.Prelude.{decimal, unwrap_or, option_map, if◌then◌else◌, slice_get}
 use Rattle.clap.specs.Lexer.{usize_max}
@@ -27,13 +28,16 @@ number_at position id least most = with_index position (filled (number_rule id l
 image_fits : (s : Shape) (image : Text) → Fits s image_rule (image ∷ [])
 image_fits s image rows new = rw new refl
 
-number_fits : (s : Shape) (position : ℕ) (id : Text) (least most n : ℕ) → n < 2 ^ 64 → least ≤ n → n ≤ most → Fits s (number_at position id least most) (decimal n ∷ [])
+number_fits : (s : Shape) (position : ℕ) (id : Text) (least most n : ℕ) → n < 2 ^ 64 → least ≤ n → n ≤ most
+    → Fits s (number_at position id least most) (decimal n ∷ [])
 number_fits s position id least most n fits low high rows new = rw (new, number_passes least most n fits low high) refl
 
-option_fits : (s : Shape) (id : Text) (least most n : ℕ) → n < 2 ^ 64 → least ≤ n → n ≤ most → Fits s (filled (option_rule id least most)) (decimal n ∷ [])
+option_fits : (s : Shape) (id : Text) (least most n : ℕ) → n < 2 ^ 64 → least ≤ n → n ≤ most
+    → Fits s (filled (option_rule id least most)) (decimal n ∷ [])
 option_fits s id least most n fits low high rows new = rw (new, number_passes least most n fits low high) refl
 
-pub needed_option_fits : (s : Shape) (id : Text) (least most n : ℕ) → n < 2 ^ 64 → least ≤ n → n ≤ most → Fits s (filled (needed_option_rule id least most)) (decimal n ∷ [])
+pub needed_option_fits : (s : Shape) (id : Text) (least most n : ℕ) → n < 2 ^ 64 → least ≤ n → n ≤ most
+    → Fits s (filled (needed_option_rule id least most)) (decimal n ∷ [])
 needed_option_fits s id least most n fits low high rows new = rw (new, number_passes least most n fits low high) refl
 
 flag_fits : (s : Shape) (id : Text) → Fits s (filled (flag_rule id)) []
@@ -50,8 +54,10 @@ number_given a option_word name (Some n) = by_name a option_word name (decimal n
 abbrev pub flag_given : Rule → Text → Text → Bool → List Given
 flag_given a option_word name given = if given then alone_by_name a option_word name ∷ [] else []
 
-pub number_taken : (s : Shape) (position : ℕ) (id option_word : Text) (most : ℕ) (number : Option ℕ) (rest : List Given) → IsOption s (filled (option_rule id 0 most)) option_word id
-    → ((n : ℕ) → number ≡ Some n → (n < 2 ^ 64) × (n ≤ most)) → AreTaken s position rest → AreTaken s position (number_given (filled (option_rule id 0 most)) option_word id number ++ rest)
+pub number_taken : (s : Shape) (position : ℕ) (id option_word : Text) (most : ℕ) (number : Option ℕ) (rest : List Given)
+    → IsOption s (filled (option_rule id 0 most)) option_word id
+    → ((n : ℕ) → number ≡ Some n → (n < 2 ^ 64) × (n ≤ most)) → AreTaken s position rest
+    → AreTaken s position (number_given (filled (option_rule id 0 most)) option_word id number ++ rest)
 number_taken s position id option_word most None rest is bounds taken = taken
 number_taken s position id option_word most (Some n) rest is bounds taken =
     let bound = bounds n refl in
@@ -98,7 +104,8 @@ pub record IsPlainApp (app : App) : Type 0 where
   pub leaf : (built app).subs ≡ []
   pub binary : app.top.no_binary_name ≡ false
 
-module _ (app : App) (given : List Given) (words rest : List Text) (plain : IsPlainApp app) (are : words ≡ app.top.name ∷ rest) (whole : IsWhole app given rest) (taken : AreTaken (built app).top 1 given) where
+module _ (app : App) (given : List Given) (words rest : List Text) (plain : IsPlainApp app) (are : words ≡ app.top.name ∷ rest)
+    (whole : IsWhole app given rest) (taken : AreTaken (built app).top 1 given) where
   words_given : words ≡ app.top.name ∷ words_of given
   words_given = are ∙ ap (λ w. app.top.name ∷ w) (sym whole.words_are)
 
@@ -117,13 +124,16 @@ abbrev pub image_given : Text → Given
 image_given image = in_place image_rule image
 
 -- an image's word is taken first
-pub image_taken : (s : Shape) (image : Text) (rest : List Given) → IsPositional s 1 image_rule → IsImageWord image → AreTaken s 2 rest → AreTaken s 1 (image_given image ∷ rest)
+pub image_taken : (s : Shape) (image : Text) (rest : List Given) → IsPositional s 1 image_rule → IsImageWord image → AreTaken s 2 rest
+    → AreTaken s 1 (image_given image ∷ rest)
 image_taken s image rest is named taken = (is, text_is_plain image named.some named.no_option, image_fits s image, taken)
 
 -- and a number
-number_taken_at : (s : Shape) (position : ℕ) (id : Text) (least most n : ℕ) (rest : List Given) → IsPositional s position (number_at position id least most) → n < 2 ^ 64 → least ≤ n → n ≤ most
+number_taken_at : (s : Shape) (position : ℕ) (id : Text) (least most n : ℕ) (rest : List Given)
+    → IsPositional s position (number_at position id least most) → n < 2 ^ 64 → least ≤ n → n ≤ most
     → AreTaken s (min (position + 1) usize_max) rest → AreTaken s position (in_place (number_at position id least most) (decimal n) ∷ rest)
-number_taken_at s position id least most n rest is fits low high taken = (is, number_is_plain n fits, number_fits s position id least most n fits low high, taken)
+number_taken_at s position id least most n rest is fits low high taken =
+    (is, number_is_plain n fits, number_fits s position id least most n fits low high, taken)
 
 abbrev format_given : Text → ℕ → List Given
 format_given image capacity = image_given image ∷ in_place (number_at 2 capacity_id 1 LARGEST_CAPACITY) (decimal capacity) ∷ []
@@ -137,8 +147,10 @@ format_asks words image capacity form =
     let fits : capacity < 2 ^ 64 = omega (arith, form.most, largest_capacity_fits) in
     let plain : IsPlainApp format_app = record { leaf = refl; binary = refl } in
     let whole : IsWhole format_app given (image ∷ decimal capacity ∷ []) = record { words_are = refl; new = refl; defaults = refl; checks = refl } in
-    let number = number_taken_at s 2 capacity_id 1 LARGEST_CAPACITY capacity [] (record { here = refl; found = refl; single = refl; once = refl; closed = refl }) fits form.least most tt in
-    let taken = image_taken s image (in_place (number_at 2 capacity_id 1 LARGEST_CAPACITY) (decimal capacity) ∷ []) (record { here = refl; found = refl; single = refl; once = refl; closed = refl }) form.named number in
+    let number = number_taken_at s 2 capacity_id 1 LARGEST_CAPACITY capacity []
+    (record { here = refl; found = refl; single = refl; once = refl; closed = refl }) fits form.least most tt in
+    let taken = image_taken s image (in_place (number_at 2 capacity_id 1 LARGEST_CAPACITY) (decimal capacity) ∷ [])
+    (record { here = refl; found = refl; single = refl; once = refl; closed = refl }) form.named number in
     let matches = matched format_app given words (image ∷ decimal capacity ∷ []) plain form.words_are whole taken in
     record {
       taken = is_taken format_app given words (image ∷ decimal capacity ∷ []) plain form.words_are whole taken;
@@ -159,8 +171,10 @@ drain_asks words image class form =
     let fits : class < 2 ^ 64 = omega (arith, form.is_class.last) in
     let plain : IsPlainApp drain_app = record { leaf = refl; binary = refl } in
     let whole : IsWhole drain_app given (image ∷ decimal class ∷ []) = record { words_are = refl; new = refl; defaults = refl; checks = refl } in
-    let number = number_taken_at s 2 class_id 1 LAST_CLASS class [] (record { here = refl; found = refl; single = refl; once = refl; closed = refl }) fits form.is_class.some form.is_class.last tt in
-    let taken = image_taken s image (in_place (number_at 2 class_id 1 LAST_CLASS) (decimal class) ∷ []) (record { here = refl; found = refl; single = refl; once = refl; closed = refl }) form.named number in
+    let number = number_taken_at s 2 class_id 1 LAST_CLASS class []
+    (record { here = refl; found = refl; single = refl; once = refl; closed = refl }) fits form.is_class.some form.is_class.last tt in
+    let taken = image_taken s image (in_place (number_at 2 class_id 1 LAST_CLASS) (decimal class) ∷ [])
+    (record { here = refl; found = refl; single = refl; once = refl; closed = refl }) form.named number in
     let matches = matched drain_app given words (image ∷ decimal class ∷ []) plain form.words_are whole taken in
     record {
       taken = is_taken drain_app given words (image ∷ decimal class ∷ []) plain form.words_are whole taken;
@@ -170,7 +184,8 @@ drain_asks words image class form =
     }
 
 abbrev gen_given : ℕ → ℕ → List Given
-gen_given requests seed = in_place (number_at 1 requests_id 0 MOST_REQUESTS) (decimal requests) ∷ in_place (number_at 2 trace_seed_id 0 GREATEST_SEED) (decimal seed) ∷ []
+gen_given requests seed = in_place (number_at 1 requests_id 0 MOST_REQUESTS) (decimal requests) ∷ in_place
+    (number_at 2 trace_seed_id 0 GREATEST_SEED) (decimal seed) ∷ []
 
 pub gen_asks : (words : List Text) (requests seed : ℕ) → IsGenForm words requests seed → AsksToGen words requests seed
 unfolding defaults_fault
@@ -180,9 +195,17 @@ gen_asks words requests seed form =
     let fits : requests < 2 ^ 64 = omega (arith, form.few) in
     let seed_fits : seed < 2 ^ 64 = omega (arith, form.small) in
     let plain : IsPlainApp gen_app = record { leaf = refl; binary = refl } in
-    let whole : IsWhole gen_app given (decimal requests ∷ decimal seed ∷ []) = record { words_are = refl; new = refl; defaults = refl; checks = refl } in
-    let number = number_taken_at s 2 trace_seed_id 0 GREATEST_SEED seed [] (record { here = refl; found = refl; single = refl; once = refl; closed = refl }) seed_fits (omega arith) form.small tt in
-    let taken = number_taken_at s 1 requests_id 0 MOST_REQUESTS requests (in_place (number_at 2 trace_seed_id 0 GREATEST_SEED) (decimal seed) ∷ []) (record { here = refl; found = refl; single = refl; once = refl; closed = refl }) fits (omega arith) form.few number in
+    let whole : IsWhole gen_app given (decimal requests ∷ decimal seed ∷ []) = record {
+      words_are = refl;
+      new = refl;
+      defaults = refl;
+      checks = refl;
+    } in
+    let number = number_taken_at s 2 trace_seed_id 0 GREATEST_SEED seed []
+    (record { here = refl; found = refl; single = refl; once = refl; closed = refl }) seed_fits (omega arith) form.small tt in
+    let taken = number_taken_at s 1 requests_id 0 MOST_REQUESTS requests
+    (in_place (number_at 2 trace_seed_id 0 GREATEST_SEED) (decimal seed) ∷ [])
+    (record { here = refl; found = refl; single = refl; once = refl; closed = refl }) fits (omega arith) form.few number in
     let matches = matched gen_app given words (decimal requests ∷ decimal seed ∷ []) plain form.words_are whole taken in
     record {
       taken = is_taken gen_app given words (decimal requests ∷ decimal seed ∷ []) plain form.words_are whole taken;
@@ -206,7 +229,8 @@ show_given image with_map in_parallel = image_given image ∷ (map_given with_ma
 abbrev show_rows : Text → Bool → Bool → List Row
 show_rows image with_map in_parallel = ended (built show_app).top (show_given image with_map in_parallel)
 
-show_whole : (image : Text) (with_map in_parallel : Bool) → IsWhole show_app (show_given image with_map in_parallel) (image ∷ (flag_words (codes "--map") with_map ++ flag_words (codes "--par") in_parallel))
+show_whole : (image : Text) (with_map in_parallel : Bool) → IsWhole show_app (show_given image with_map in_parallel)
+    (image ∷ (flag_words (codes "--map") with_map ++ flag_words (codes "--par") in_parallel))
 unfolding defaults_fault
 show_whole image true true = record { words_are = refl; new = refl; defaults = refl; checks = refl }
 show_whole image true false = record { words_are = refl; new = refl; defaults = refl; checks = refl }
@@ -214,13 +238,15 @@ show_whole image false true = record { words_are = refl; new = refl; defaults = 
 show_whole image false false = record { words_are = refl; new = refl; defaults = refl; checks = refl }
 
 show_found : (image : Text) (with_map in_parallel : Bool) → (first_of image_id (show_rows image with_map in_parallel) ≡ Some image)
-    × (first_of map_id (show_rows image with_map in_parallel) ≡ Some (bool_text with_map)) × (first_of par_id (show_rows image with_map in_parallel) ≡ Some (bool_text in_parallel))
+    × (first_of map_id (show_rows image with_map in_parallel) ≡ Some (bool_text with_map))
+    × (first_of par_id (show_rows image with_map in_parallel) ≡ Some (bool_text in_parallel))
 show_found image true true = (refl, refl, refl)
 show_found image true false = (refl, refl, refl)
 show_found image false true = (refl, refl, refl)
 show_found image false false = (refl, refl, refl)
 
-pub show_asks : (words : List Text) (image : Text) (with_map in_parallel : Bool) → IsShowForm words image with_map in_parallel → AsksToShow words image with_map in_parallel
+pub show_asks : (words : List Text) (image : Text) (with_map in_parallel : Bool) → IsShowForm words image with_map in_parallel
+    → AsksToShow words image with_map in_parallel
 show_asks words image with_map in_parallel form =
     let s = (built show_app).top in
     let given = show_given image with_map in_parallel in
@@ -228,8 +254,10 @@ show_asks words image with_map in_parallel form =
     let plain : IsPlainApp show_app = record { leaf = refl; binary = refl } in
     let found = show_found image with_map in_parallel in
     let par_taken = flag_taken s 2 par_id (codes "--par") in_parallel [] (record { dashes = refl; long = refl; here = refl; bare = refl }) tt in
-    let map_taken = flag_taken s 2 map_id (codes "--map") with_map (par_given in_parallel ++ []) (record { dashes = refl; long = refl; here = refl; bare = refl }) par_taken in
-    let taken = image_taken s image (map_given with_map ++ (par_given in_parallel ++ [])) (record { here = refl; found = refl; single = refl; once = refl; closed = refl }) form.named map_taken in
+    let map_taken = flag_taken s 2 map_id (codes "--map") with_map (par_given in_parallel ++ [])
+    (record { dashes = refl; long = refl; here = refl; bare = refl }) par_taken in
+    let taken = image_taken s image (map_given with_map ++ (par_given in_parallel ++ []))
+    (record { here = refl; found = refl; single = refl; once = refl; closed = refl }) form.named map_taken in
     let whole = show_whole image with_map in_parallel in
     let matches = matched show_app given words rest plain form.words_are whole taken in
     record {
@@ -245,16 +273,19 @@ conservative_given image with_map = image_given image ∷ (map_given with_map ++
 abbrev conservative_rows : Text → Bool → List Row
 conservative_rows image with_map = ended (built conservative_app).top (conservative_given image with_map)
 
-conservative_whole : (image : Text) (with_map : Bool) → IsWhole conservative_app (conservative_given image with_map) (image ∷ flag_words (codes "--map") with_map)
+conservative_whole : (image : Text) (with_map : Bool) → IsWhole conservative_app (conservative_given image with_map)
+    (image ∷ flag_words (codes "--map") with_map)
 unfolding defaults_fault
 conservative_whole image true = record { words_are = refl; new = refl; defaults = refl; checks = refl }
 conservative_whole image false = record { words_are = refl; new = refl; defaults = refl; checks = refl }
 
-conservative_found : (image : Text) (with_map : Bool) → (first_of image_id (conservative_rows image with_map) ≡ Some image) × (first_of map_id (conservative_rows image with_map) ≡ Some (bool_text with_map))
+conservative_found : (image : Text) (with_map : Bool) → (first_of image_id (conservative_rows image with_map) ≡ Some image)
+    × (first_of map_id (conservative_rows image with_map) ≡ Some (bool_text with_map))
 conservative_found image true = (refl, refl)
 conservative_found image false = (refl, refl)
 
-pub conservative_asks : (words : List Text) (image : Text) (with_map : Bool) → IsConservativeForm words image with_map → AsksToRecoverConservatively words image with_map
+pub conservative_asks : (words : List Text) (image : Text) (with_map : Bool) → IsConservativeForm words image with_map
+    → AsksToRecoverConservatively words image with_map
 conservative_asks words image with_map form =
     let s = (built conservative_app).top in
     let given = conservative_given image with_map in
@@ -262,7 +293,8 @@ conservative_asks words image with_map form =
     let plain : IsPlainApp conservative_app = record { leaf = refl; binary = refl } in
     let found = conservative_found image with_map in
     let flag = flag_taken s 2 map_id (codes "--map") with_map [] (record { dashes = refl; long = refl; here = refl; bare = refl }) tt in
-    let taken = image_taken s image (map_given with_map ++ []) (record { here = refl; found = refl; single = refl; once = refl; closed = refl }) form.named flag in
+    let taken = image_taken s image (map_given with_map ++ []) (record { here = refl; found = refl; single = refl; once = refl; closed = refl })
+    form.named flag in
     let whole = conservative_whole image with_map in
     let matches = matched conservative_app given words rest plain form.words_are whole taken in
     record {
@@ -282,7 +314,8 @@ unfolding defaults_fault
 count_whole image true = record { words_are = refl; new = refl; defaults = refl; checks = refl }
 count_whole image false = record { words_are = refl; new = refl; defaults = refl; checks = refl }
 
-count_found : (image : Text) (with_map : Bool) → (first_of image_id (count_rows image with_map) ≡ Some image) × (first_of map_id (count_rows image with_map) ≡ Some (bool_text with_map))
+count_found : (image : Text) (with_map : Bool) → (first_of image_id (count_rows image with_map) ≡ Some image)
+    × (first_of map_id (count_rows image with_map) ≡ Some (bool_text with_map))
 count_found image true = (refl, refl)
 count_found image false = (refl, refl)
 
@@ -294,7 +327,8 @@ count_asks words image with_map form =
     let plain : IsPlainApp count_app = record { leaf = refl; binary = refl } in
     let found = count_found image with_map in
     let flag = flag_taken s 2 map_id (codes "--map") with_map [] (record { dashes = refl; long = refl; here = refl; bare = refl }) tt in
-    let taken = image_taken s image (map_given with_map ++ []) (record { here = refl; found = refl; single = refl; once = refl; closed = refl }) form.named flag in
+    let taken = image_taken s image (map_given with_map ++ []) (record { here = refl; found = refl; single = refl; once = refl; closed = refl })
+    form.named flag in
     let whole = count_whole image with_map in
     let matches = matched count_app given words rest plain form.words_are whole taken in
     record {
@@ -306,7 +340,8 @@ count_asks words image with_map form =
 -- ---- 'replay IMAGE [--seed X]'
 
 -- a number that is given is the one that is meant
-pub bounded : (number : Option ℕ) (other n most : ℕ) → n ≡ unwrap_or number other → n < 2 ^ 64 → n ≤ most → (m : ℕ) → number ≡ Some m → (m < 2 ^ 64) × (m ≤ most)
+pub bounded : (number : Option ℕ) (other n most : ℕ) → n ≡ unwrap_or number other → n < 2 ^ 64 → n ≤ most → (m : ℕ) → number ≡ Some m
+    → (m < 2 ^ 64) × (m ≤ most)
 bounded number other n most is fits high m given =
     let same : n ≡ m = is ∙ ap (λ o. unwrap_or o other) given in
     (subst (λ k. k < 2 ^ 64) same fits, subst (λ k. k ≤ most) same high)
@@ -337,14 +372,22 @@ replay_asks words image seed form =
     let rest = image ∷ number_words (codes "--seed") form.seed in
     let plain : IsPlainApp replay_app = record { leaf = refl; binary = refl } in
     let found = replay_found image form.seed in
-    let number = number_taken s 2 seed_id (codes "--seed") (2 ^ 64 - 1) form.seed [] (record { dashes = refl; long = refl; here = refl; found = refl; itself = refl; valued = refl; one = refl })
+    let number = number_taken s 2 seed_id (codes "--seed") (2 ^ 64 - 1) form.seed []
+    (record { dashes = refl; long = refl; here = refl; found = refl; itself = refl; valued = refl; one = refl })
     (bounded form.seed 0 seed (2 ^ 64 - 1) form.seeded form.fits (omega (arith, form.fits))) tt in
-    let taken = image_taken s image (seed_given form.seed ++ []) (record { here = refl; found = refl; single = refl; once = refl; closed = refl }) form.named number in
+    let taken = image_taken s image (seed_given form.seed ++ []) (record {
+      here = refl;
+      found = refl;
+      single = refl;
+      once = refl;
+      closed = refl;
+    }) form.named number in
     let whole = replay_whole image form.seed in
     let matches = matched replay_app given words rest plain form.words_are whole taken in
     record {
       taken = is_taken replay_app given words rest plain form.words_are whole taken;
       named = ap (first_of image_id) matches ∙ found.0;
-      seeded = number_or_found (matches_of replay_app words) seed_id 0 seed form.seed form.fits form.seeded (ap (one_of seed_id) matches ∙ found.1) (ap (first_of seed_id) matches ∙ found.2);
+      seeded = number_or_found (matches_of replay_app words) seed_id 0 seed form.seed form.fits form.seeded (ap (one_of seed_id) matches
+          ∙ found.1) (ap (first_of seed_id) matches ∙ found.2);
       fits = form.fits;
     }

@@ -37,14 +37,17 @@ module _ (before after : Arg) (rule : Rule) (told : IsTold before rule) where
   }
 
   -- its values are read so
-  pub parsed : (parser : ValueParser) → after ≡ record before { value_parser = after.value_parser } → after.value_parser ≡ Some parser → IsTold after (record rule { parser = Some parser })
+  pub parsed : (parser : ValueParser) → after ≡ record before { value_parser = after.value_parser } → after.value_parser ≡ Some parser
+      → IsTold after (record rule { parser = Some parser })
   parsed parser same is = record {
     own = ap (λ (a : Arg). a.global) same ∙ told.own;
-    is = ap rule_of same ∙ ap (λ (p : Option ValueParser). record (rule_of before) { parser = p }) is ∙ ap (λ (r : Rule). record r { parser = Some parser }) told.is;
+    is = ap rule_of same ∙ ap (λ (p : Option ValueParser). record (rule_of before) { parser = p }) is
+        ∙ ap (λ (r : Rule). record r { parser = Some parser }) told.is;
   }
 
 -- a command that it is added to has its rule behind those that it had
-pub rule_added : (before : Command) (built : Result Command AllocError) (argument : Arg) (rule : Rule) (result : Result Command AllocError) → built ≡ Ok before → IfOk result (λ after. AddsArg before argument after)
+pub rule_added : (before : Command) (built : Result Command AllocError) (argument : Arg) (rule : Rule) (result : Result Command AllocError)
+    → built ≡ Ok before → IfOk result (λ after. AddsArg before argument after)
     → IsTold argument rule → IfOk result (λ after. IsOkAnd built (λ shorter. app_of after ≡ with_rule (app_of shorter) rule))
 rule_added before built argument rule (Ok after) is adds told =
     rw is (adds.shape told.own ∙ ap (with_rule (app_of before)) told.is)
@@ -59,7 +62,8 @@ told_with change wanted built (Err e) told made = tt
 
 -- and two changes, one after the other, are one
 pub told_twice : (first second : App → App) (built between result : Result Command AllocError)
-    → IfOk between (λ longer. IsOkAnd built (λ shorter. app_of longer ≡ first (app_of shorter))) → IfOk result (λ longer. IsOkAnd between (λ shorter. app_of longer ≡ second (app_of shorter)))
+    → IfOk between (λ longer. IsOkAnd built (λ shorter. app_of longer ≡ first (app_of shorter)))
+    → IfOk result (λ longer. IsOkAnd between (λ shorter. app_of longer ≡ second (app_of shorter)))
     → IfOk result (λ longer. IsOkAnd built (λ shorter. app_of longer ≡ second (first (app_of shorter))))
 told_twice first second (Ok shorter) (Ok between) (Ok longer) once twice = twice ∙ ap second once
 told_twice first second (Err e) (Ok between) (Ok longer) once twice = absurd once

@@ -28,7 +28,8 @@ rebuild_given image stop seed = image_given image ∷ (stop_given stop ++ (seed_
 abbrev rebuild_rows : Text → Option ℕ → Option ℕ → List Row
 rebuild_rows image stop seed = ended (built rebuild_app).top (rebuild_given image stop seed)
 
-rebuild_whole : (image : Text) (stop seed : Option ℕ) → IsWhole rebuild_app (rebuild_given image stop seed) (image ∷ (number_words (codes "--stop") stop ++ number_words (codes "--seed") seed))
+rebuild_whole : (image : Text) (stop seed : Option ℕ) → IsWhole rebuild_app (rebuild_given image stop seed)
+    (image ∷ (number_words (codes "--stop") stop ++ number_words (codes "--seed") seed))
 unfolding defaults_fault
 rebuild_whole image (Some k) (Some x) = record { words_are = refl; new = refl; defaults = refl; checks = refl }
 rebuild_whole image (Some k) None = record { words_are = refl; new = refl; defaults = refl; checks = refl }
@@ -57,19 +58,24 @@ rebuild_asks words image budget seed form =
     let plain : IsPlainApp rebuild_app = record { leaf = refl; binary = refl } in
     let budget_fits : budget < 2 ^ 64 = omega (arith, form.below) in
     let found = rebuild_found image form.stop form.seed in
-    let seed_taken = number_taken s 2 seed_id (codes "--seed") (2 ^ 64 - 1) form.seed [] (record { dashes = refl; long = refl; here = refl; found = refl; itself = refl; valued = refl; one = refl })
+    let seed_taken = number_taken s 2 seed_id (codes "--seed") (2 ^ 64 - 1) form.seed []
+    (record { dashes = refl; long = refl; here = refl; found = refl; itself = refl; valued = refl; one = refl })
     (bounded form.seed 0 seed (2 ^ 64 - 1) form.seeded form.fits (omega (arith, form.fits))) tt in
-    let stop_taken = number_taken s 2 stop_id (codes "--stop") MOST_BUDGET form.stop (seed_given form.seed ++ []) (record { dashes = refl; long = refl; here = refl; found = refl; itself = refl; valued = refl; one = refl })
+    let stop_taken = number_taken s 2 stop_id (codes "--stop") MOST_BUDGET form.stop (seed_given form.seed ++ [])
+    (record { dashes = refl; long = refl; here = refl; found = refl; itself = refl; valued = refl; one = refl })
     (bounded form.stop MOST_BUDGET budget MOST_BUDGET form.within budget_fits form.below) seed_taken in
-    let taken = image_taken s image (stop_given form.stop ++ (seed_given form.seed ++ [])) (record { here = refl; found = refl; single = refl; once = refl; closed = refl }) form.named stop_taken in
+    let taken = image_taken s image (stop_given form.stop ++ (seed_given form.seed ++ []))
+    (record { here = refl; found = refl; single = refl; once = refl; closed = refl }) form.named stop_taken in
     let whole = rebuild_whole image form.stop form.seed in
     let matches = matched rebuild_app given words rest plain form.words_are whole taken in
     record {
       taken = is_taken rebuild_app given words rest plain form.words_are whole taken;
       named = ap (first_of image_id) matches ∙ found.named;
-      within = number_or_found (matches_of rebuild_app words) stop_id MOST_BUDGET budget form.stop budget_fits form.within (ap (one_of stop_id) matches ∙ found.within) (ap (first_of stop_id) matches ∙ found.within_first);
+      within = number_or_found (matches_of rebuild_app words) stop_id MOST_BUDGET budget form.stop budget_fits form.within
+          (ap (one_of stop_id) matches ∙ found.within) (ap (first_of stop_id) matches ∙ found.within_first);
       below = form.below;
-      seeded = number_or_found (matches_of rebuild_app words) seed_id 0 seed form.seed form.fits form.seeded (ap (one_of seed_id) matches ∙ found.seeded) (ap (first_of seed_id) matches ∙ found.seeded_first);
+      seeded = number_or_found (matches_of rebuild_app words) seed_id 0 seed form.seed form.fits form.seeded (ap (one_of seed_id) matches
+          ∙ found.seeded) (ap (first_of seed_id) matches ∙ found.seeded_first);
       fits = form.fits;
     }
 
@@ -79,16 +85,19 @@ abbrev workers_given : ℕ → Given
 workers_given workers = by_name (filled (needed_option_rule workers_id 1 MOST_WORKERS)) (codes "--workers") workers_id (decimal workers)
 
 abbrev run_given : Text → ℕ → Option ℕ → Option ℕ → Bool → Bool → List Given
-run_given image workers stop seed with_sum with_map = image_given image ∷ workers_given workers ∷ (stop_given stop ++ (seed_given seed ++ (sum_given with_sum ++ (map_given with_map ++ []))))
+run_given image workers stop seed with_sum with_map = image_given image ∷ workers_given workers ∷
+    (stop_given stop ++ (seed_given seed ++ (sum_given with_sum ++ (map_given with_map ++ []))))
 
 abbrev run_words : Text → ℕ → Option ℕ → Option ℕ → Bool → Bool → List Text
 run_words image workers stop seed with_sum with_map = image ∷ codes "--workers" ∷ decimal workers
-    ∷ (number_words (codes "--stop") stop ++ number_words (codes "--seed") seed ++ flag_words (codes "--sum") with_sum ++ flag_words (codes "--map") with_map)
+    ∷ (number_words (codes "--stop") stop ++ number_words (codes "--seed") seed ++ flag_words (codes "--sum") with_sum ++ flag_words
+    (codes "--map") with_map)
 
 abbrev run_rows : Text → ℕ → Option ℕ → Option ℕ → Bool → Bool → List Row
 run_rows image workers stop seed with_sum with_map = ended (built run_app).top (run_given image workers stop seed with_sum with_map)
 
-run_whole : (image : Text) (workers : ℕ) (stop seed : Option ℕ) (with_sum with_map : Bool) → IsWhole run_app (run_given image workers stop seed with_sum with_map) (run_words image workers stop seed with_sum with_map)
+run_whole : (image : Text) (workers : ℕ) (stop seed : Option ℕ) (with_sum with_map : Bool)
+    → IsWhole run_app (run_given image workers stop seed with_sum with_map) (run_words image workers stop seed with_sum with_map)
 unfolding defaults_fault
 run_whole image workers (Some k) (Some x) true true = record { words_are = refl; new = refl; defaults = refl; checks = refl }
 run_whole image workers (Some k) (Some x) true false = record { words_are = refl; new = refl; defaults = refl; checks = refl }
@@ -114,23 +123,200 @@ record HasRun (rows : List Row) (image : Text) (workers : ℕ) (stop seed : Opti
   summed : first_of sum_id rows ≡ Some (bool_text with_sum)
   mapped : first_of map_id rows ≡ Some (bool_text with_map)
 
-run_found : (image : Text) (workers : ℕ) (stop seed : Option ℕ) (with_sum with_map : Bool) → HasRun (run_rows image workers stop seed with_sum with_map) image workers stop seed with_sum with_map
-run_found image workers (Some k) (Some x) true true = record { limits = record { named = refl; within = refl; within_first = refl; seeded = refl; seeded_first = refl }; by = refl; summed = refl; mapped = refl }
-run_found image workers (Some k) (Some x) true false = record { limits = record { named = refl; within = refl; within_first = refl; seeded = refl; seeded_first = refl }; by = refl; summed = refl; mapped = refl }
-run_found image workers (Some k) (Some x) false true = record { limits = record { named = refl; within = refl; within_first = refl; seeded = refl; seeded_first = refl }; by = refl; summed = refl; mapped = refl }
-run_found image workers (Some k) (Some x) false false = record { limits = record { named = refl; within = refl; within_first = refl; seeded = refl; seeded_first = refl }; by = refl; summed = refl; mapped = refl }
-run_found image workers (Some k) None true true = record { limits = record { named = refl; within = refl; within_first = refl; seeded = refl; seeded_first = refl }; by = refl; summed = refl; mapped = refl }
-run_found image workers (Some k) None true false = record { limits = record { named = refl; within = refl; within_first = refl; seeded = refl; seeded_first = refl }; by = refl; summed = refl; mapped = refl }
-run_found image workers (Some k) None false true = record { limits = record { named = refl; within = refl; within_first = refl; seeded = refl; seeded_first = refl }; by = refl; summed = refl; mapped = refl }
-run_found image workers (Some k) None false false = record { limits = record { named = refl; within = refl; within_first = refl; seeded = refl; seeded_first = refl }; by = refl; summed = refl; mapped = refl }
-run_found image workers None (Some x) true true = record { limits = record { named = refl; within = refl; within_first = refl; seeded = refl; seeded_first = refl }; by = refl; summed = refl; mapped = refl }
-run_found image workers None (Some x) true false = record { limits = record { named = refl; within = refl; within_first = refl; seeded = refl; seeded_first = refl }; by = refl; summed = refl; mapped = refl }
-run_found image workers None (Some x) false true = record { limits = record { named = refl; within = refl; within_first = refl; seeded = refl; seeded_first = refl }; by = refl; summed = refl; mapped = refl }
-run_found image workers None (Some x) false false = record { limits = record { named = refl; within = refl; within_first = refl; seeded = refl; seeded_first = refl }; by = refl; summed = refl; mapped = refl }
-run_found image workers None None true true = record { limits = record { named = refl; within = refl; within_first = refl; seeded = refl; seeded_first = refl }; by = refl; summed = refl; mapped = refl }
-run_found image workers None None true false = record { limits = record { named = refl; within = refl; within_first = refl; seeded = refl; seeded_first = refl }; by = refl; summed = refl; mapped = refl }
-run_found image workers None None false true = record { limits = record { named = refl; within = refl; within_first = refl; seeded = refl; seeded_first = refl }; by = refl; summed = refl; mapped = refl }
-run_found image workers None None false false = record { limits = record { named = refl; within = refl; within_first = refl; seeded = refl; seeded_first = refl }; by = refl; summed = refl; mapped = refl }
+run_found : (image : Text) (workers : ℕ) (stop seed : Option ℕ) (with_sum with_map : Bool)
+    → HasRun (run_rows image workers stop seed with_sum with_map) image workers stop seed with_sum with_map
+run_found image workers (Some k) (Some x) true true = record {
+  limits = record {
+    named = refl;
+    within = refl;
+    within_first = refl;
+    seeded = refl;
+    seeded_first = refl;
+  };
+  by = refl;
+  summed = refl;
+  mapped = refl;
+}
+run_found image workers (Some k) (Some x) true false = record {
+  limits = record {
+    named = refl;
+    within = refl;
+    within_first = refl;
+    seeded = refl;
+    seeded_first = refl;
+  };
+  by = refl;
+  summed = refl;
+  mapped = refl;
+}
+run_found image workers (Some k) (Some x) false true = record {
+  limits = record {
+    named = refl;
+    within = refl;
+    within_first = refl;
+    seeded = refl;
+    seeded_first = refl;
+  };
+  by = refl;
+  summed = refl;
+  mapped = refl;
+}
+run_found image workers (Some k) (Some x) false false = record {
+  limits = record {
+    named = refl;
+    within = refl;
+    within_first = refl;
+    seeded = refl;
+    seeded_first = refl;
+  };
+  by = refl;
+  summed = refl;
+  mapped = refl;
+}
+run_found image workers (Some k) None true true = record {
+  limits = record {
+    named = refl;
+    within = refl;
+    within_first = refl;
+    seeded = refl;
+    seeded_first = refl;
+  };
+  by = refl;
+  summed = refl;
+  mapped = refl;
+}
+run_found image workers (Some k) None true false = record {
+  limits = record {
+    named = refl;
+    within = refl;
+    within_first = refl;
+    seeded = refl;
+    seeded_first = refl;
+  };
+  by = refl;
+  summed = refl;
+  mapped = refl;
+}
+run_found image workers (Some k) None false true = record {
+  limits = record {
+    named = refl;
+    within = refl;
+    within_first = refl;
+    seeded = refl;
+    seeded_first = refl;
+  };
+  by = refl;
+  summed = refl;
+  mapped = refl;
+}
+run_found image workers (Some k) None false false = record {
+  limits = record {
+    named = refl;
+    within = refl;
+    within_first = refl;
+    seeded = refl;
+    seeded_first = refl;
+  };
+  by = refl;
+  summed = refl;
+  mapped = refl;
+}
+run_found image workers None (Some x) true true = record {
+  limits = record {
+    named = refl;
+    within = refl;
+    within_first = refl;
+    seeded = refl;
+    seeded_first = refl;
+  };
+  by = refl;
+  summed = refl;
+  mapped = refl;
+}
+run_found image workers None (Some x) true false = record {
+  limits = record {
+    named = refl;
+    within = refl;
+    within_first = refl;
+    seeded = refl;
+    seeded_first = refl;
+  };
+  by = refl;
+  summed = refl;
+  mapped = refl;
+}
+run_found image workers None (Some x) false true = record {
+  limits = record {
+    named = refl;
+    within = refl;
+    within_first = refl;
+    seeded = refl;
+    seeded_first = refl;
+  };
+  by = refl;
+  summed = refl;
+  mapped = refl;
+}
+run_found image workers None (Some x) false false = record {
+  limits = record {
+    named = refl;
+    within = refl;
+    within_first = refl;
+    seeded = refl;
+    seeded_first = refl;
+  };
+  by = refl;
+  summed = refl;
+  mapped = refl;
+}
+run_found image workers None None true true = record {
+  limits = record {
+    named = refl;
+    within = refl;
+    within_first = refl;
+    seeded = refl;
+    seeded_first = refl;
+  };
+  by = refl;
+  summed = refl;
+  mapped = refl;
+}
+run_found image workers None None true false = record {
+  limits = record {
+    named = refl;
+    within = refl;
+    within_first = refl;
+    seeded = refl;
+    seeded_first = refl;
+  };
+  by = refl;
+  summed = refl;
+  mapped = refl;
+}
+run_found image workers None None false true = record {
+  limits = record {
+    named = refl;
+    within = refl;
+    within_first = refl;
+    seeded = refl;
+    seeded_first = refl;
+  };
+  by = refl;
+  summed = refl;
+  mapped = refl;
+}
+run_found image workers None None false false = record {
+  limits = record {
+    named = refl;
+    within = refl;
+    within_first = refl;
+    seeded = refl;
+    seeded_first = refl;
+  };
+  by = refl;
+  summed = refl;
+  mapped = refl;
+}
 
 pub run_asks : (words : List Text) (image : Text) (options : Options) → IsRunForm words image options → AsksToRun words image options
 run_asks words image options form =
@@ -142,11 +328,13 @@ run_asks words image options form =
     let budget_fits : options.budget < 2 ^ 64 = omega (arith, form.below) in
     let found = run_found image options.workers form.stop form.seed options.with_sum options.with_map in
     let map_taken = flag_taken s 2 map_id (codes "--map") options.with_map [] (record { dashes = refl; long = refl; here = refl; bare = refl }) tt in
-    let sum_taken = flag_taken s 2 sum_id (codes "--sum") options.with_sum (map_given options.with_map ++ []) (record { dashes = refl; long = refl; here = refl; bare = refl }) map_taken in
+    let sum_taken = flag_taken s 2 sum_id (codes "--sum") options.with_sum (map_given options.with_map ++ [])
+    (record { dashes = refl; long = refl; here = refl; bare = refl }) map_taken in
     let seed_taken = number_taken s 2 seed_id (codes "--seed") (2 ^ 64 - 1) form.seed (sum_given options.with_sum ++ (map_given options.with_map ++ []))
     (record { dashes = refl; long = refl; here = refl; found = refl; itself = refl; valued = refl; one = refl })
     (bounded form.seed 0 options.seed (2 ^ 64 - 1) form.seeded form.fits (omega (arith, form.fits))) sum_taken in
-    let stop_taken = number_taken s 2 stop_id (codes "--stop") MOST_BUDGET form.stop (seed_given form.seed ++ (sum_given options.with_sum ++ (map_given options.with_map ++ [])))
+    let stop_taken = number_taken s 2 stop_id (codes "--stop") MOST_BUDGET form.stop
+    (seed_given form.seed ++ (sum_given options.with_sum ++ (map_given options.with_map ++ [])))
     (record { dashes = refl; long = refl; here = refl; found = refl; itself = refl; valued = refl; one = refl })
     (bounded form.stop MOST_BUDGET options.budget MOST_BUDGET form.within budget_fits form.below) seed_taken in
     let behind = stop_given form.stop ++ (seed_given form.seed ++ (sum_given options.with_sum ++ (map_given options.with_map ++ []))) in
@@ -156,7 +344,8 @@ run_asks words image options form =
       needed_option_fits s workers_id 1 MOST_WORKERS options.workers workers_fit form.some form.few,
       stop_taken,
     ) in
-    let taken = image_taken s image (workers_given options.workers ∷ behind) (record { here = refl; found = refl; single = refl; once = refl; closed = refl }) form.named workers_taken in
+    let taken = image_taken s image (workers_given options.workers ∷ behind)
+    (record { here = refl; found = refl; single = refl; once = refl; closed = refl }) form.named workers_taken in
     let whole = run_whole image options.workers form.stop form.seed options.with_sum options.with_map in
     let matches = matched run_app given words rest plain form.words_are whole taken in
     record {

@@ -50,7 +50,8 @@ none_alone a (b ∷ rest) others =
     let both = neither (bytes_eq b.id a.id) (list_any (λ b. bytes_eq b.id a.id) rest) others in
     (λ e. absurd (true≢false (sym e ∙ both.0)), none_alone a rest both.1)
 
-alone_here : (a : Rule) (place : ℕ) (c : List Rule) → slice_get c place ≡ Some a → list_any (λ b. bytes_eq b.id a.id) (take place c ++ drop (suc place) c) ≡ false → AllAlone a c
+alone_here : (a : Rule) (place : ℕ) (c : List Rule) → slice_get c place ≡ Some a
+    → list_any (λ b. bytes_eq b.id a.id) (take place c ++ drop (suc place) c) ≡ false → AllAlone a c
 alone_here a place [] here others = tt
 alone_here a zero (b ∷ rest) here others = (λ e. ap (λ o. unwrap_or o b) here, none_alone a rest others)
 alone_here a (suc place) (b ∷ rest) here others =
@@ -144,7 +145,8 @@ module _ (app : App) (words : List Text) (a : Rule) (place : ℕ) (is : IsArgume
   checks = check_fault s (finished s.rules end.held) (is_some (entered (built app) end.stopped))
 
   after_walk : (below ≡ []) × (or_else settles (or_else defaults checks) ≡ [])
-  after_walk = both_faultless below (or_else settles (or_else defaults checks)) (both_faultless walks (or_else below (or_else settles (or_else defaults checks))) faultless).1
+  after_walk = both_faultless below (or_else settles (or_else defaults checks))
+      (both_faultless walks (or_else below (or_else settles (or_else defaults checks))) faultless).1
 
   at_end : (settles ≡ []) × (or_else defaults checks ≡ [])
   at_end = both_faultless settles (or_else defaults checks) after_walk.1
@@ -185,9 +187,11 @@ IsNumbered a least most = a.parser ≡ Some (parser.Unsigned least most)
 
 number_in_bounds : (a : Rule) (least most : ℕ) (rows : List Row) → IsNumbered a least most → IsGiven a rows → InBounds (HasNumber rows a.id) least most
 number_in_bounds a least most rows is given =
-    let reads : one_of a.id rows ≡ Some given.text = subst (λ (o : Option ValueParser). one_of a.id rows ≡ Some (read_as (reading_of (parser_of_value o)) given.text)) is given.read in
+    let reads : one_of a.id rows ≡ Some given.text = subst (λ (o : Option ValueParser). one_of a.id rows ≡ Some
+    (read_as (reading_of (parser_of_value o)) given.text)) is given.read in
     let accepted = subst (λ (o : Option ValueParser). accepts a.ignore_case (parser_of_value o) given.text ≡ true) is given.accepted in
-    let passes : Accepts a.ignore_case (parser.Unsigned least most) given.text = accepts-Accepts a.ignore_case (parser.Unsigned least most) given.text accepted in
+    let passes : Accepts a.ignore_case (parser.Unsigned least most) given.text =
+    accepts-Accepts a.ignore_case (parser.Unsigned least most) given.text accepted in
     record {
       number = digits_value 10 (without_leading_plus given.text);
       has = record { text = given.text; given = reads; counted = record { digits = passes.0; value = refl } };
@@ -196,7 +200,8 @@ number_in_bounds a least most rows is given =
       fits = passes.1;
     }
 
-number_or_other : (a : Rule) (other least most : ℕ) (rows : List Row) → IsNumbered a least most → least ≤ other → other ≤ most → other < 2 ^ 64 → AllPass a rows
+number_or_other : (a : Rule) (other least most : ℕ) (rows : List Row) → IsNumbered a least most → least ≤ other → other ≤ most → other < 2 ^ 64
+    → AllPass a rows
     → InBounds (HasNumberOr rows a.id other) least most
 number_or_other a other least most rows is low high fits pass = elim (given_or_not a rows pass) [
   | inl given ↦
@@ -240,21 +245,24 @@ module _ (app : App) (words : List Text) (faultless : fault_of app words ≡ [])
       let given = required_given app words image_rule 0 (record { valued = image_valued; here = here; others = others }) faultless refl negates in
       (given.text, given.first)
 
-  number_given : (place position : ℕ) (id : Text) (least most : ℕ) → slice_get (built app).top.rules place ≡ Some (number_at position id least most) → OthersDiffer app id place
+  number_given : (place position : ℕ) (id : Text) (least most : ℕ)
+      → slice_get (built app).top.rules place ≡ Some (number_at position id least most) → OthersDiffer app id place
       → (built app).top.subcommand_negates_reqs ≡ false → InBounds (HasNumber (matches_of app words) id) least most
   number_given place position id least most here others negates =
       let a = number_at position id least most in
       number_in_bounds a least most (matches_of app words) refl
       (required_given app words a place (record { valued = number_valued position id least most; here = here; others = others }) faultless refl negates)
 
-  needed_option_given : (place : ℕ) (id : Text) (least most : ℕ) → slice_get (built app).top.rules place ≡ Some (filled (needed_option_rule id least most)) → OthersDiffer app id place
+  needed_option_given : (place : ℕ) (id : Text) (least most : ℕ) → slice_get (built app).top.rules place ≡ Some
+      (filled (needed_option_rule id least most)) → OthersDiffer app id place
       → (built app).top.subcommand_negates_reqs ≡ false → InBounds (HasNumber (matches_of app words) id) least most
   needed_option_given place id least most here others negates =
       let a = filled (needed_option_rule id least most) in
       number_in_bounds a least most (matches_of app words) refl
       (required_given app words a place (record { valued = needed_option_valued id least most; here = here; others = others }) faultless refl negates)
 
-  option_given_or : (place : ℕ) (id : Text) (other least most : ℕ) → slice_get (built app).top.rules place ≡ Some (filled (option_rule id least most)) → OthersDiffer app id place
+  option_given_or : (place : ℕ) (id : Text) (other least most : ℕ)
+      → slice_get (built app).top.rules place ≡ Some (filled (option_rule id least most)) → OthersDiffer app id place
       → least ≤ other → other ≤ most → other < 2 ^ 64 → InBounds (HasNumberOr (matches_of app words) id other) least most
   option_given_or place id other least most here others low high fits =
       let a = filled (option_rule id least most) in
@@ -267,14 +275,32 @@ module _ (words : List Text) where
   pub format_asked : IsTaken format_app words → (image : Text) × (capacity : ℕ) × AsksToFormat words image capacity
   format_asked taken =
       let image = image_given format_app words taken.faultless refl refl refl in
-      let capacity = number_given format_app words taken.faultless 1 2 capacity_id 1 LARGEST_CAPACITY refl refl refl in
-      (image.0, capacity.number, record { taken = taken; named = image.1; counted = capacity.has; least = capacity.low; most = omega (arith, largest_capacity_is, capacity.high) })
+      let capacity = number_given format_app words taken.faultless 1 2 capacity_id 1 LARGEST_CAPACITY refl refl refl in (
+        image.0,
+        capacity.number,
+        record {
+          taken = taken;
+          named = image.1;
+          counted = capacity.has;
+          least = capacity.low;
+          most = omega (arith, largest_capacity_is, capacity.high);
+        },
+      )
 
   pub show_asked : IsTaken show_app words → (image : Text) × (with_map in_parallel : Bool) × AsksToShow words image with_map in_parallel
   show_asked taken =
       let rows = matches_of show_app words in
-      let image = image_given show_app words taken.faultless refl refl refl in
-      (image.0, flag_in map_id rows, flag_in par_id rows, record { taken = taken; named = image.1; mapped = has_flag_in rows map_id; parallel = has_flag_in rows par_id })
+      let image = image_given show_app words taken.faultless refl refl refl in (
+        image.0,
+        flag_in map_id rows,
+        flag_in par_id rows,
+        record {
+          taken = taken;
+          named = image.1;
+          mapped = has_flag_in rows map_id;
+          parallel = has_flag_in rows par_id;
+        },
+      )
 
   pub drain_asked : IsTaken drain_app words → (image : Text) × (class : ℕ) × AsksToDrain words image class
   drain_asked taken =
@@ -293,7 +319,8 @@ module _ (words : List Text) where
       let rows = matches_of run_app words in
       let image = image_given run_app words taken.faultless refl refl refl in
       let workers = needed_option_given run_app words taken.faultless 1 workers_id 1 MOST_WORKERS refl refl refl in
-      let budget = option_given_or run_app words taken.faultless 2 stop_id MOST_BUDGET 0 MOST_BUDGET refl refl (omega arith) (omega arith) (omega arith) in
+      let budget = option_given_or run_app words taken.faultless 2 stop_id MOST_BUDGET 0 MOST_BUDGET refl refl (omega arith) (omega arith)
+      (omega arith) in
       let seed = option_given_or run_app words taken.faultless 3 seed_id 0 0 (2 ^ 64 - 1) refl refl (omega arith) (omega arith) (omega arith) in (
         image.0,
         record { workers = workers.number; budget = budget.number; seed = seed.number; with_sum = flag_in sum_id rows; with_map = flag_in map_id rows },
@@ -315,9 +342,21 @@ module _ (words : List Text) where
   pub rebuild_asked : IsTaken rebuild_app words → (image : Text) × (budget seed : ℕ) × AsksToRebuild words image budget seed
   rebuild_asked taken =
       let image = image_given rebuild_app words taken.faultless refl refl refl in
-      let budget = option_given_or rebuild_app words taken.faultless 1 stop_id MOST_BUDGET 0 MOST_BUDGET refl refl (omega arith) (omega arith) (omega arith) in
-      let seed = option_given_or rebuild_app words taken.faultless 2 seed_id 0 0 (2 ^ 64 - 1) refl refl (omega arith) (omega arith) (omega arith) in
-      (image.0, budget.number, seed.number, record { taken = taken; named = image.1; within = budget.has; below = budget.high; seeded = seed.has; fits = seed.fits })
+      let budget = option_given_or rebuild_app words taken.faultless 1 stop_id MOST_BUDGET 0 MOST_BUDGET refl refl (omega arith) (omega arith)
+      (omega arith) in
+      let seed = option_given_or rebuild_app words taken.faultless 2 seed_id 0 0 (2 ^ 64 - 1) refl refl (omega arith) (omega arith) (omega arith) in (
+        image.0,
+        budget.number,
+        seed.number,
+        record {
+          taken = taken;
+          named = image.1;
+          within = budget.has;
+          below = budget.high;
+          seeded = seed.has;
+          fits = seed.fits;
+        },
+      )
 
   pub replay_asked : IsTaken replay_app words → (image : Text) × (seed : ℕ) × AsksToReplay words image seed
   replay_asked taken =
@@ -371,6 +410,7 @@ usage_faulty words none faultless =
     none asked.0 asked.1
 
 -- words that were read as a command are such
-pub faultless_if_ok : {T E : Type 0} (words : List Text) (command_of : T → Command) (result : Result T E) → IfOk result (λ x. Asks words (command_of x)) → IfOk result (λ x. IsFaultless words)
+pub faultless_if_ok : {T E : Type 0} (words : List Text) (command_of : T → Command) (result : Result T E)
+    → IfOk result (λ x. Asks words (command_of x)) → IfOk result (λ x. IsFaultless words)
 faultless_if_ok words command_of (Ok x) asks = asks_faultless words (command_of x) asks
 faultless_if_ok words command_of (Err e) asks = tt

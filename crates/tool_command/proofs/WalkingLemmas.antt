@@ -89,11 +89,13 @@ record Steps (s : Shape) (from : Walk) (word : Text) (to : Walk) : Type 0 where
   passes : turn_fault s [] from word ≡ []
   steps : walked s.rules [] from word ≡ to
 
-then : (s : Shape) (from to : Walk) (word : Text) (rest : List Text) (rows : List Row) → Steps s from word to → Parses s to rest rows → Parses s from (word ∷ rest) rows
+then : (s : Shape) (from to : Walk) (word : Text) (rest : List Text) (rows : List Row) → Steps s from word to → Parses s to rest rows
+    → Parses s from (word ∷ rest) rows
 unfolding walk_fault
 then s from to word rest rows one parses = record {
   end = parses.end;
-  faultless = past (turn_fault s [] from word) (walk_fault s [] (walked s.rules [] from word) rest) one.passes ∙ ap (λ w. walk_fault s [] w rest) one.steps ∙ parses.faultless;
+  faultless = past (turn_fault s [] from word) (walk_fault s [] (walked s.rules [] from word) rest) one.passes
+      ∙ ap (λ w. walk_fault s [] w rest) one.steps ∙ parses.faultless;
   ends = ap (λ w. fold (walked s.rules []) w rest) one.steps ∙ parses.ends;
   settles = parses.settles;
   leaves = parses.leaves;
@@ -134,14 +136,23 @@ never : {X : Type 0} (b c : Bool) (x y : X) → c ≡ false → cond (b && c) x 
 never true c x y e = rw e refl
 never false c x y e = refl
 
-module _ (s : Shape) (rows : List Row) (pending : Option (Text × List Text)) (position : ℕ) (settles : settle_fault s.rules s.args_override_self (held rows pending) ≡ []) where
+module _ (s : Shape) (rows : List Row) (pending : Option (Text × List Text)) (position : ℕ)
+    (settles : settle_fault s.rules s.args_override_self (held rows pending) ≡ []) where
   placed : (a : Rule) (word : Text) → IsPositional s position a → IsPlain word
-      → Steps s (at rows pending idle position) word (at (settled_rows s.rules pending rows) (Some (a.id, word ∷ [])) idle (min (position + 1) usize_max))
+      → Steps s (at rows pending idle position) word (at (settled_rows s.rules pending rows) (Some (a.id, word ∷ [])) idle
+      (min (position + 1) usize_max))
   unfolding walked
   placed a word is plain = record {
-    passes = rw (plain.dashes, plain.long, plain.short, is.here) (never (is_pending a pending) (takes_several a) [] (settle_fault s.rules s.args_override_self (held rows pending)) is.single ∙ settles);
+    passes = rw (plain.dashes, plain.long, plain.short, is.here) (never (is_pending a pending) (takes_several a) []
+        (settle_fault s.rules s.args_override_self (held rows pending)) is.single ∙ settles);
     steps = rw (plain.dashes, plain.long, plain.short, is.here, is.once)
-        (ap₂ (λ h b. let w : Walk = record { held = pushed a.id word h; waiting = idle; position = min (position + 1) usize_max; is_trailing = b; stopped = None } in w)
+        (ap₂ (λ h b. let w : Walk = record {
+          held = pushed a.id word h;
+          waiting = idle;
+          position = min (position + 1) usize_max;
+          is_trailing = b;
+          stopped = None;
+        } in w)
         (never (is_pending a pending) (takes_several a) (held rows pending) (settled s.rules (held rows pending)) is.single) is.closed);
   }
 
@@ -154,14 +165,16 @@ module _ (s : Shape) (rows : List Row) (pending : Option (Text × List Text)) (p
   }
 
   valued : (a : Rule) (option_word name word : Text) → IsOption s a option_word name → IsPlain word
-      → Steps s (at (settled_rows s.rules pending rows) (Some (a.id, [])) (option a.id) position) word (at (settled_rows s.rules pending rows) (Some (a.id, word ∷ [])) idle position)
+      → Steps s (at (settled_rows s.rules pending rows) (Some (a.id, [])) (option a.id) position) word
+      (at (settled_rows s.rules pending rows) (Some (a.id, word ∷ [])) idle position)
   unfolding walked
   valued a option_word name word is plain = record {
     passes = rw (plain.dashes, plain.long, plain.short) refl;
     steps = rw (plain.dashes, plain.long, plain.short, is.found, is.itself, is.one) refl;
   }
 
-  alone : (a : Rule) (option_word name : Text) → IsFlag s a option_word name → use_fault s.args_override_self a [] (settled_rows s.rules pending rows) ≡ []
+  alone : (a : Rule) (option_word name : Text) → IsFlag s a option_word name
+      → use_fault s.args_override_self a [] (settled_rows s.rules pending rows) ≡ []
       → Steps s (at rows pending idle position) option_word (at (used a [] (settled_rows s.rules pending rows)) None idle position)
   unfolding walked
   alone a option_word name is fits = record {
@@ -186,8 +199,10 @@ words_of (alone_by_name a option_word name ∷ rest) = option_word ∷ words_of 
 -- each is one of the command's, from this position on, and takes what is given for it
 abbrev pub AreTaken : Shape → ℕ → List Given → Type 0
 AreTaken s position [] = Unit {0}
-AreTaken s position (in_place a word ∷ rest) = IsPositional s position a × IsPlain word × Fits s a (word ∷ []) × AreTaken s (min (position + 1) usize_max) rest
-AreTaken s position (by_name a option_word name word ∷ rest) = IsOption s a option_word name × IsPlain word × Fits s a (word ∷ []) × AreTaken s position rest
+AreTaken s position (in_place a word ∷ rest) = IsPositional s position a × IsPlain word × Fits s a (word ∷ [])
+    × AreTaken s (min (position + 1) usize_max) rest
+AreTaken s position (by_name a option_word name word ∷ rest) = IsOption s a option_word name × IsPlain word × Fits s a (word ∷ [])
+    × AreTaken s position rest
 AreTaken s position (alone_by_name a option_word name ∷ rest) = IsFlag s a option_word name × Fits s a [] × AreTaken s position rest
 
 -- none has a row yet when it is given
@@ -206,17 +221,25 @@ rows_with rows (alone_by_name a option_word name ∷ rest) = rows_with (used a [
 
 -- the value of an option that is found waits without a fault, and is then used
 module _ (s : Shape) (rows : List Row) (a : Rule) (word : Text) (found : arg_by_id s.rules a.id ≡ Some a) where
-  waits_well : use_fault s.args_override_self a (word ∷ []) rows ≡ [] → settle_fault s.rules s.args_override_self (held rows (Some (a.id, word ∷ []))) ≡ []
+  waits_well : use_fault s.args_override_self a (word ∷ []) rows ≡ []
+      → settle_fault s.rules s.args_override_self (held rows (Some (a.id, word ∷ []))) ≡ []
   waits_well fine = rw found fine
 
   is_used : settled_rows s.rules (Some (a.id, word ∷ [])) rows ≡ used a (word ∷ []) rows
   is_used = rw found refl
 
-pub parses : (s : Shape) (rows : List Row) (pending : Option (Text × List Text)) (position : ℕ) (settles : settle_fault s.rules s.args_override_self (held rows pending) ≡ [])
+pub parses : (s : Shape) (rows : List Row) (pending : Option (Text × List Text)) (position : ℕ)
+    (settles : settle_fault s.rules s.args_override_self (held rows pending) ≡ [])
     (given : List Given) → AreTaken s position given → are_new (settled_rows s.rules pending rows) given ≡ true
     → Parses s (at rows pending idle position) (words_of given) (rows_with (settled_rows s.rules pending rows) given)
 unfolding walk_fault
-parses s rows pending position settles [] taken new = record { end = at rows pending idle position; faultless = refl; ends = refl; settles = settles; leaves = refl }
+parses s rows pending position settles [] taken new = record {
+  end = at rows pending idle position;
+  faultless = refl;
+  ends = refl;
+  settles = settles;
+  leaves = refl;
+}
 parses s rows pending position settles (in_place a word ∷ rest) taken new =
     let before = settled_rows s.rules pending rows in
     let next = min (position + 1) usize_max in
@@ -224,17 +247,21 @@ parses s rows pending position settles (in_place a word ∷ rest) taken new =
     let same = is_used s before a word taken.0.found in
     let waits = waits_well s before a word taken.0.found (taken.2 before (not-true _ is_new.0)) in
     let on = parses s before (Some (a.id, word ∷ [])) next waits rest taken.3 (subst (λ left. are_new left rest ≡ true) (sym same) is_new.1) in
-    then s (at rows pending idle position) (at before (Some (a.id, word ∷ [])) idle next) word (words_of rest) (rows_with (used a (word ∷ []) before) rest)
-    (placed s rows pending position settles a word taken.0 taken.1) (subst (λ left. Parses s (at before (Some (a.id, word ∷ [])) idle next) (words_of rest) (rows_with left rest)) same on)
+    then s (at rows pending idle position) (at before (Some (a.id, word ∷ [])) idle next) word (words_of rest)
+    (rows_with (used a (word ∷ []) before) rest)
+    (placed s rows pending position settles a word taken.0 taken.1)
+    (subst (λ left. Parses s (at before (Some (a.id, word ∷ [])) idle next) (words_of rest) (rows_with left rest)) same on)
 parses s rows pending position settles (by_name a option_word name word ∷ rest) taken new =
     let before = settled_rows s.rules pending rows in
     let is_new = both (not (has_row a.id before)) (are_new (used a (word ∷ []) before) rest) new in
     let same = is_used s before a word taken.0.found in
     let waits = waits_well s before a word taken.0.found (taken.2 before (not-true _ is_new.0)) in
     let on = parses s before (Some (a.id, word ∷ [])) position waits rest taken.3 (subst (λ left. are_new left rest ≡ true) (sym same) is_new.1) in
-    then s (at rows pending idle position) (at before (Some (a.id, [])) (option a.id) position) option_word (word ∷ words_of rest) (rows_with (used a (word ∷ []) before) rest)
+    then s (at rows pending idle position) (at before (Some (a.id, [])) (option a.id) position) option_word (word ∷ words_of rest)
+    (rows_with (used a (word ∷ []) before) rest)
     (named s rows pending position settles a option_word name taken.0)
-    (then s (at before (Some (a.id, [])) (option a.id) position) (at before (Some (a.id, word ∷ [])) idle position) word (words_of rest) (rows_with (used a (word ∷ []) before) rest)
+    (then s (at before (Some (a.id, [])) (option a.id) position) (at before (Some (a.id, word ∷ [])) idle position) word (words_of rest)
+    (rows_with (used a (word ∷ []) before) rest)
     (valued s rows pending position settles a option_word name word taken.0 taken.1)
     (subst (λ left. Parses s (at before (Some (a.id, word ∷ [])) idle position) (words_of rest) (rows_with left rest)) same on))
 parses s rows pending position settles (alone_by_name a option_word name ∷ rest) taken new =
@@ -251,7 +278,8 @@ abbrev pub ended : Shape → List Given → List Row
 ended s given = fold with_default (rows_with [] given) s.rules
 
 -- clap finds no fault in a command's name and what is given behind it
-pub no_fault : (app : App) (name : Text) (given : List Given) → (built app).subs ≡ [] → app.top.no_binary_name ≡ false → AreTaken (built app).top 1 given → are_new [] given ≡ true
+pub no_fault : (app : App) (name : Text) (given : List Given) → (built app).subs ≡ [] → app.top.no_binary_name ≡ false
+    → AreTaken (built app).top 1 given → are_new [] given ≡ true
     → defaults_fault (rows_with [] given) (built app).top.rules ≡ [] → check_fault (built app).top (ended (built app).top given) false ≡ []
     → fault_of app (name ∷ words_of given) ≡ []
 no_fault app name given none binary taken new defaults checks =
@@ -268,7 +296,8 @@ no_fault app name given none binary taken new defaults checks =
     ∙ past (defaults_fault (rows_with [] given) s.rules) _ defaults ∙ checks
 
 -- and its matches are these rows
-pub matches_are : (app : App) (name : Text) (given : List Given) → (built app).subs ≡ [] → app.top.no_binary_name ≡ false → AreTaken (built app).top 1 given → are_new [] given ≡ true
+pub matches_are : (app : App) (name : Text) (given : List Given) → (built app).subs ≡ [] → app.top.no_binary_name ≡ false
+    → AreTaken (built app).top 1 given → are_new [] given ≡ true
     → matches_of app (name ∷ words_of given) ≡ ended (built app).top given
 matches_are app name given none binary taken new =
     let s = (built app).top in

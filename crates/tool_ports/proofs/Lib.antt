@@ -1,3 +1,3 @@
 pub mod ChanceLemmas
-mod LeftLemmas
+mod SourceLeftLemmas
 pub mod Written

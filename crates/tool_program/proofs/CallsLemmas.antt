@@ -14,7 +14,8 @@ module _ (old new : StoreCalls) where
   pub store_by_words : (words words' : List (List ℕ)) (status : ℕ) → words ≡ words' → CallsStore words status old new → CallsStore words' status old new
   store_by_words words words' status same calls = subst (λ (ws : List (List ℕ)). CallsStore ws status old new) same calls
 
-  pub store_by_status : (words : List (List ℕ)) (status status' : ℕ) → status' ≡ status → CallsStore words status old new → CallsStore words status' old new
+  pub store_by_status : (words : List (List ℕ)) (status status' : ℕ) → status' ≡ status → CallsStore words status old new
+      → CallsStore words status' old new
   store_by_status words status status' same calls = subst (λ (s : ℕ). CallsStore words s old new) (sym same) calls
 
 pub store_uncalled : (words : List (List ℕ)) (status : ℕ) (old : StoreCalls) → status ≡ out_of_memory → CallsStore words status old old
@@ -30,13 +31,16 @@ store_uncalled words status old is = record {
 }
 
 module _ {T : Type 0} (contents : Contents) (left : Option (List ℕ)) (old new : T) where
-  pub source_by_words : (words words' : List (List ℕ)) (status : ℕ) → words ≡ words' → ReadsSourceInTurn words status contents left old new → ReadsSourceInTurn words' status contents left old new
+  pub source_by_words : (words words' : List (List ℕ)) (status : ℕ) → words ≡ words' → ReadsSourceInTurn words status contents left old new
+      → ReadsSourceInTurn words' status contents left old new
   source_by_words words words' status same reads = subst (λ (ws : List (List ℕ)). ReadsSourceInTurn ws status contents left old new) same reads
 
-  pub source_by_status : (words : List (List ℕ)) (status status' : ℕ) → status' ≡ status → ReadsSourceInTurn words status contents left old new → ReadsSourceInTurn words status' contents left old new
+  pub source_by_status : (words : List (List ℕ)) (status status' : ℕ) → status' ≡ status → ReadsSourceInTurn words status contents left old new
+      → ReadsSourceInTurn words status' contents left old new
   source_by_status words status status' same reads = subst (λ (s : ℕ). ReadsSourceInTurn words s contents left old new) (sym same) reads
 
-pub source_unread : {T : Type 0} (words : List (List ℕ)) (status : ℕ) (contents : Contents) (left : Option (List ℕ)) (old : T) → status ≡ out_of_memory → ReadsSourceInTurn words status contents left old old
+pub source_unread : {T : Type 0} (words : List (List ℕ)) (status : ℕ) (contents : Contents) (left : Option (List ℕ)) (old : T)
+    → status ≡ out_of_memory → ReadsSourceInTurn words status contents left old old
 source_unread words status contents left old is = record {
   unread = λ none. refl;
   not_yet_read = λ before no_replay. refl;
@@ -45,15 +49,20 @@ source_unread words status contents left old is = record {
 }
 
 module _ {C One : Type 0} (seed_gives : C → ℕ → C → Type 0) (chance_gives : C → ℕ → One → C → Type 0) (word_gives : C → ℕ → C → Type 0) where
-  pub chances_by_words : (words words' : List (List ℕ)) (status : ℕ) (old new : C) → words ≡ words' → AsksChances seed_gives chance_gives word_gives words status old new
+  pub chances_by_words : (words words' : List (List ℕ)) (status : ℕ) (old new : C) → words ≡ words'
+      → AsksChances seed_gives chance_gives word_gives words status old new
       → AsksChances seed_gives chance_gives word_gives words' status old new
-  chances_by_words words words' status old new same asks = subst (λ (ws : List (List ℕ)). AsksChances seed_gives chance_gives word_gives ws status old new) same asks
+  chances_by_words words words' status old new same asks = subst (λ (ws : List (List ℕ)). AsksChances seed_gives chance_gives word_gives ws
+      status old new) same asks
 
-  pub chances_by_status : (words : List (List ℕ)) (status status' : ℕ) (old new : C) → status' ≡ status → AsksChances seed_gives chance_gives word_gives words status old new
+  pub chances_by_status : (words : List (List ℕ)) (status status' : ℕ) (old new : C) → status' ≡ status
+      → AsksChances seed_gives chance_gives word_gives words status old new
       → AsksChances seed_gives chance_gives word_gives words status' old new
-  chances_by_status words status status' old new same asks = subst (λ (s : ℕ). AsksChances seed_gives chance_gives word_gives words s old new) (sym same) asks
+  chances_by_status words status status' old new same asks = subst (λ (s : ℕ). AsksChances seed_gives chance_gives word_gives words s old new)
+      (sym same) asks
 
-  pub chances_unasked : (words : List (List ℕ)) (status : ℕ) (old : C) → status ≡ out_of_memory → AsksChances seed_gives chance_gives word_gives words status old old
+  pub chances_unasked : (words : List (List ℕ)) (status : ℕ) (old : C) → status ≡ out_of_memory
+      → AsksChances seed_gives chance_gives word_gives words status old old
   chances_unasked words status old is = record {
     seeded = λ command asks ended. absurd (no_result status is ended);
     no_chance = λ leaves no_replay. refl;

@@ -8,7 +8,8 @@ use Rattle.tool_run.proofs.ReadingLemmas.{none_taken}
 use Rattle.tool_program.specs.Ending.{Seen, IsTold, IsStatusOf}
 
 -- it was told, and nothing was put or read
-pub told_memory : (words : List (List ℕ)) (old new : Seen) (status : ℕ) → status ≡ out_of_memory → new.contents ≡ old.contents → new.left ≡ old.left → new.source_faults ≡ old.source_faults → new.store_faults ≡ old.store_faults
+pub told_memory : (words : List (List ℕ)) (old new : Seen) (status : ℕ) → status ≡ out_of_memory → new.contents ≡ old.contents
+    → new.left ≡ old.left → new.source_faults ≡ old.source_faults → new.store_faults ≡ old.store_faults
     → IsTold old new memory_line → IsStatusOf words old new status
 told_memory words old new status is same unread steady stands told = subst (λ (s : ℕ). IsStatusOf words old new s) (sym is) (record {
   known = (2, lit< tt, refl);
@@ -23,7 +24,8 @@ told_memory words old new status is same unread steady stands told = subst (λ (
   bad_line = λ e. absurd (omega (arith, e));
   line = told;
   unchanged = λ leaves. same;
-  read_at_most = subst (λ (left : Option (List ℕ)). GivesAtMost (longest_trace + 1) old.left left) (sym unread) (none_taken (longest_trace + 1) old.left);
+  read_at_most = subst (λ (left : Option (List ℕ)). GivesAtMost (longest_trace + 1) old.left left) (sym unread)
+      (none_taken (longest_trace + 1) old.left);
   no_failed_read = λ other. steady;
   no_failed_call = λ read write. stands;
   no_failed_write = λ e. absurd (omega (arith, e));
@@ -32,9 +34,11 @@ told_memory words old new status is same unread steady stands told = subst (λ (
 })
 
 -- the words are those that the arguments tell
-pub by_words : (words words' : List (List ℕ)) (old new : Seen) (status : ℕ) → words ≡ words' → IsStatusOf words old new status → IsStatusOf words' old new status
+pub by_words : (words words' : List (List ℕ)) (old new : Seen) (status : ℕ) → words ≡ words' → IsStatusOf words old new status
+    → IsStatusOf words' old new status
 by_words words words' old new status same is = subst (λ (ws : List (List ℕ)). IsStatusOf ws old new status) same is
 
 -- and the status is the same number
-pub same_status : (words : List (List ℕ)) (old new : Seen) (status status' : ℕ) → status' ≡ status → IsStatusOf words old new status → IsStatusOf words old new status'
+pub same_status : (words : List (List ℕ)) (old new : Seen) (status status' : ℕ) → status' ≡ status → IsStatusOf words old new status
+    → IsStatusOf words old new status'
 same_status words old new status status' same is = subst (λ (s : ℕ). IsStatusOf words old new s) (sym same) is

@@ -26,7 +26,8 @@ pub record CallsStore (words : List (List ℕ)) (status : ℕ) (old new : StoreC
 
 -- The source is read for a run or a replay alone, once its image is good, and to its end where the status is 0. `contents` is
 -- what the store held, and `left` what the source has left.
-pub record ReadsSourceInTurn {T : Type 0} (words : List (List ℕ)) (status : ℕ) (contents : Contents) (left : Option (List ℕ)) (old new : T) : Type 0 where
+pub record ReadsSourceInTurn {T : Type 0} (words : List (List ℕ)) (status : ℕ) (contents : Contents) (left : Option (List ℕ))
+    (old new : T) : Type 0 where
   pub unread : ((name : List ℕ) → ¬ (AsksForSource words name)) → new ≡ old
   pub not_yet_read : IsBeforeTrace status → (status ≡ outside → (name : List ℕ) → ¬ (AsksForReplay words name)) → new ≡ old
   pub image_first : (name : List ℕ) (at : ℕ) (asks : AsksToGet words name) (has : HoldsOutside contents name at)

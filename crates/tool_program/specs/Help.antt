@@ -13,7 +13,8 @@ abbrev pub has_part : List ℕ → List ℕ → Bool
 has_part [] part = starts_with nat_eq [] part
 has_part (byte ∷ bytes) part = starts_with nat_eq (byte ∷ bytes) part || has_part bytes part
 
-superblocks : has_part USAGE.now (codes "S superblocks of " ++ decimal (WORD_BYTES * SUPERBLOCK_WORDS / 1024) ++ codes " KiB (1 to " ++ decimal LARGEST_CAPACITY ++ codes ")") ≡ true
+superblocks : has_part USAGE.now (codes "S superblocks of " ++ decimal
+    (WORD_BYTES * SUPERBLOCK_WORDS / 1024) ++ codes " KiB (1 to " ++ decimal LARGEST_CAPACITY ++ codes ")") ≡ true
 unfolding digits
 superblocks = refl
 
@@ -29,17 +30,20 @@ classes : has_part USAGE.now (codes "allocate in the class (1 to " ++ decimal LA
 unfolding digits
 classes = refl
 
-requests : has_part USAGE.now (codes "N requests (0 to " ++ decimal MOST_REQUESTS ++ codes ") from SEED (0 to " ++ decimal GREATEST_SEED ++ codes ")") ≡ true
+requests : has_part USAGE.now (codes "N requests (0 to " ++ decimal MOST_REQUESTS ++ codes ") from SEED (0 to " ++ decimal GREATEST_SEED ++
+    codes ")") ≡ true
 unfolding digits
 requests = refl
 
 -- the statuses, each with what it says
-first_statuses : has_part USAGE.now (codes "status: " ++ decimal done ++ codes " done, " ++ decimal usage ++ codes " usage, " ++ decimal out_of_memory ++ codes " out of memory, "
+first_statuses : has_part USAGE.now (codes "status: " ++ decimal done ++ codes " done, " ++ decimal usage ++ codes " usage, " ++ decimal
+    out_of_memory ++ codes " out of memory, "
     ++ decimal read_fault ++ codes " read fault, " ++ decimal write_fault ++ codes " write fault, " ++ decimal no_image ++ codes " no image,") ≡ true
 unfolding digits
 first_statuses = refl
 
-other_statuses : has_part USAGE.now (decimal bad_header ++ codes " bad header, " ++ decimal outside ++ codes " pointer outside, " ++ decimal bad_shard ++ codes " bad shard, "
+other_statuses : has_part USAGE.now (decimal bad_header ++ codes " bad header, " ++ decimal outside ++ codes " pointer outside, " ++ decimal
+    bad_shard ++ codes " bad shard, "
     ++ decimal bad_trace ++ codes " bad trace or schedule") ≡ true
 unfolding digits
 other_statuses = refl

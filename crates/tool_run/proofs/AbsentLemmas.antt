@@ -22,13 +22,18 @@ not_made : (command : Command) (contents : Contents) (name : List ℕ) (left ima
     → GetsImage command → image_name command ≡ name → told_of contents name ≡ Some None → Makes command contents left image text → ⊥
 not_made (format_image n capacity) contents name left image text gets named none made = gets
 not_made (gen_trace requests seed) contents name left image text gets named none made = gets
-not_made (show_image n with_map in_parallel) contents name left image text gets named none made = not_there contents n name made.1.bytes named none made.1.is_there
+not_made (show_image n with_map in_parallel) contents name left image text gets named none made =
+    not_there contents n name made.1.bytes named none made.1.is_there
 not_made (drain_image n class) contents name left image text gets named none made = not_there contents n name made.1.bytes named none made.1.is_there
-not_made (rebuild_image n budget seed) contents name left image text gets named none made = not_there contents n name made.bytes named none made.is_there
-not_made (replay_image n seed) contents name left image text gets named none made = not_there contents n name made.1.heap.image.bytes named none made.1.heap.image.is_there
-not_made (conservative_image n with_map) contents name left image text gets named none made = not_there contents n name made.1.bytes named none made.1.is_there
+not_made (rebuild_image n budget seed) contents name left image text gets named none made =
+    not_there contents n name made.bytes named none made.is_there
+not_made (replay_image n seed) contents name left image text gets named none made =
+    not_there contents n name made.1.heap.image.bytes named none made.1.heap.image.is_there
+not_made (conservative_image n with_map) contents name left image text gets named none made =
+    not_there contents n name made.1.bytes named none made.1.is_there
 not_made (count_image n with_map) contents name left image text gets named none made = not_there contents n name made.1.bytes named none made.1.is_there
-not_made (run_image n options) contents name left image text gets named none made = not_there contents n name made.mapped.bytes named none made.mapped.is_there
+not_made (run_image n options) contents name left image text gets named none made =
+    not_there contents n name made.mapped.bytes named none made.mapped.is_there
 
 -- want of memory, a failed get, or that
 refused : (command : Command) (contents : Contents) (name : List ℕ) (get_failed : Type 0) (status : ℕ) (fault : Fault)
@@ -46,7 +51,8 @@ refused command contents name get_failed status (BadShard shard at) named none i
 refused command contents name get_failed status other named none is why = absurd why
 
 -- why a command stopped
-pub stops_absent : (words : List (List ℕ)) (command : Command) (old new : Contents) (left : Option (List ℕ)) (store_failed source_failed : Type 0) (faults between : ℕ) (taken taken' : Option (List ℕ)) (status : ℕ) (fault : Fault)
+pub stops_absent : (words : List (List ℕ)) (command : Command) (old new : Contents) (left : Option (List ℕ))
+    (store_failed source_failed : Type 0) (faults between : ℕ) (taken taken' : Option (List ℕ)) (status : ℕ) (fault : Fault)
     → Asks words command → IsStopped command old new left store_failed source_failed faults between taken taken' fault → status ≡ status_of fault
     → (name : List ℕ) → AsksToGet words name → told_of old name ≡ Some None
     → (status ≡ no_image) ⊎ (status ≡ out_of_memory) ⊎ (status ≡ read_fault)
@@ -61,8 +67,10 @@ stops_absent words command old new left store_failed source_failed faults betwee
     ]
 
 -- so it is not done
-pub not_done_absent : (words : List (List ℕ)) (command : Command) (old new : Contents) (left taken taken' : Option (List ℕ)) (status : ℕ) → Asks words command → IsCarriedOut command old new left taken taken'
+pub not_done_absent : (words : List (List ℕ)) (command : Command) (old new : Contents) (left taken taken' : Option (List ℕ)) (status : ℕ)
+    → Asks words command → IsCarriedOut command old new left taken taken'
     → (name : List ℕ) → AsksToGet words name → told_of old name ≡ Some None → (status ≡ no_image) ⊎ (status ≡ out_of_memory) ⊎ (status ≡ read_fault)
 not_done_absent words command old new left taken taken' status asked done name asks none =
     let same : asks.command ≡ command = one_command words asks.command command asks.asked asked in
-    absurd (not_made command old name left done.image done.text (subst GetsImage same asks.gets) (subst (λ (c : Command). image_name c ≡ name) same asks.is_named) none done.made)
+    absurd (not_made command old name left done.image done.text (subst GetsImage same asks.gets)
+    (subst (λ (c : Command). image_name c ≡ name) same asks.is_named) none done.made)

@@ -21,17 +21,20 @@ record HasNoSchedule (left : Option (List ℕ)) : Type 0 where
   none : (schedule : Schedule) → HasSchedule left schedule → ⊥
 
 -- an image that is good is no reason: what is left is want of memory, or a failed get
-pub by_image : (contents : Contents) (name : List ℕ) (seed : ℕ) (get_failed : Type 0) (status : ℕ) (fault : Fault) → HoldsGood contents name → status ≡ status_of fault
+pub by_image : (contents : Contents) (name : List ℕ) (seed : ℕ) (get_failed : Type 0) (status : ℕ) (fault : Fault) → HoldsGood contents name
+    → status ≡ status_of fault
     → Refuses (replay_image name seed) contents get_failed fault → (status ≡ out_of_memory) ⊎ (status ≡ read_fault)
 by_image contents name seed get_failed status Memory has is why = inl is
 by_image contents name seed get_failed status ReadFault has is why = inr is
 by_image contents name seed get_failed status fault has is why =
-    elim (refused (drain_image name 1) contents (Some []) ⊥ status has (λ never. never) fault is why) as (λ _. (status ≡ out_of_memory) ⊎ (status ≡ read_fault)) [
+    elim (refused (drain_image name 1) contents (Some []) ⊥ status has (λ never. never) fault is why) as
+    (λ _. (status ≡ out_of_memory) ⊎ (status ≡ read_fault)) [
       | inl e ↦ absurd (omega arith)
       | inr e ↦ inl e
     ]
 
-by_schedule : (contents : Contents) (left : Option (List ℕ)) (name : List ℕ) (read_failed : Type 0) (status : ℕ) (fault : Fault) → HasNoSchedule left → status ≡ status_of fault
+by_schedule : (contents : Contents) (left : Option (List ℕ)) (name : List ℕ) (read_failed : Type 0) (status : ℕ) (fault : Fault)
+    → HasNoSchedule left → status ≡ status_of fault
     → IsReplayFault contents left name read_failed fault → IsRefusal status
 by_schedule contents left name read_failed status Memory unfit is why = inr (inl is)
 by_schedule contents left name read_failed status ReadFault unfit is why = inr (inr is)
@@ -57,19 +60,22 @@ too_much_unfit left has = record {
       omega arith;
 }
 
-module _ (words : List (List ℕ)) (command : Command) (old new : Contents) (left taken taken' : Option (List ℕ)) (status : ℕ) (asked : Asks words command) where
+module _ (words : List (List ℕ)) (command : Command) (old new : Contents) (left taken taken' : Option (List ℕ)) (status : ℕ)
+    (asked : Asks words command) where
   done_unfit : IsCarriedOut command old new left taken taken' → (name : List ℕ) → AsksForReplay words name → HasNoSchedule left → IsRefusal status
   done_unfit is name asks unfit =
       let same : command ≡ replay_image name asks.seed = one_command words command (replay_image name asks.seed) asked asks.asked in
       let made = subst (λ (c : Command). Makes c old left is.image is.text) same is.made in
       absurd (unfit.none made.1.schedule made.1.has_schedule)
 
-  stops_unfit : (store_failed source_failed : Type 0) (faults between : ℕ) (fault : Fault) → IsStopped command old new left store_failed source_failed faults between taken taken' fault → status ≡ status_of fault
+  stops_unfit : (store_failed source_failed : Type 0) (faults between : ℕ) (fault : Fault)
+      → IsStopped command old new left store_failed source_failed faults between taken taken' fault → status ≡ status_of fault
       → (name : List ℕ) → AsksForReplay words name → HoldsGood old name → HasNoSchedule left → IsRefusal status
   stops_unfit store_failed source_failed faults between fault stopped is name asks has unfit =
       let same : command ≡ replay_image name asks.seed = one_command words command (replay_image name asks.seed) asked asks.asked in
       elim stopped.cause as (λ _. IsRefusal status) [
-        | inl (inl why, untouched) ↦ inr (by_image old name asks.seed store_failed status fault has is (subst (λ (c : Command). Refuses c old store_failed fault) same why))
+        | inl (inl why, untouched) ↦ inr (by_image old name asks.seed store_failed status fault has is
+            (subst (λ (c : Command). Refuses c old store_failed fault) same why))
         | inl (inr (inl trace), untouched) ↦ absurd (subst RunsATrace same trace.runs)
         | inl (inr (inr replay), untouched) ↦ by_schedule old left _ source_failed status fault unfit is replay.why
         | inr (image, text, made, why) ↦
@@ -77,18 +83,22 @@ module _ (words : List (List ℕ)) (command : Command) (old new : Contents) (lef
             absurd (unfit.none made_here.1.schedule made_here.1.has_schedule)
       ]
 
-  pub done_bad_step : IsCarriedOut command old new left taken taken' → (name : List ℕ) (line : ℕ) → AsksForReplay words name → HoldsGood old name → HoldsBadStep left line → IsRefusal status
+  pub done_bad_step : IsCarriedOut command old new left taken taken' → (name : List ℕ) (line : ℕ) → AsksForReplay words name
+      → HoldsGood old name → HoldsBadStep left line → IsRefusal status
   done_bad_step is name line asks has bad = done_unfit is name asks (bad_step_unfit left line bad)
 
-  pub done_schedule_too_long : IsCarriedOut command old new left taken taken' → (name : List ℕ) → AsksForReplay words name → HoldsGood old name → HoldsTooMuch left → IsRefusal status
+  pub done_schedule_too_long : IsCarriedOut command old new left taken taken' → (name : List ℕ) → AsksForReplay words name → HoldsGood old name
+      → HoldsTooMuch left → IsRefusal status
   done_schedule_too_long is name asks has bad = done_unfit is name asks (too_much_unfit left bad)
 
-  pub stops_bad_step : (store_failed source_failed : Type 0) (faults between : ℕ) (fault : Fault) → IsStopped command old new left store_failed source_failed faults between taken taken' fault → status ≡ status_of fault
+  pub stops_bad_step : (store_failed source_failed : Type 0) (faults between : ℕ) (fault : Fault)
+      → IsStopped command old new left store_failed source_failed faults between taken taken' fault → status ≡ status_of fault
       → (name : List ℕ) (line : ℕ) → AsksForReplay words name → HoldsGood old name → HoldsBadStep left line → IsRefusal status
   stops_bad_step store_failed source_failed faults between fault stopped is name line asks has bad =
       stops_unfit store_failed source_failed faults between fault stopped is name asks has (bad_step_unfit left line bad)
 
-  pub stops_schedule_too_long : (store_failed source_failed : Type 0) (faults between : ℕ) (fault : Fault) → IsStopped command old new left store_failed source_failed faults between taken taken' fault → status ≡ status_of fault
+  pub stops_schedule_too_long : (store_failed source_failed : Type 0) (faults between : ℕ) (fault : Fault)
+      → IsStopped command old new left store_failed source_failed faults between taken taken' fault → status ≡ status_of fault
       → (name : List ℕ) → AsksForReplay words name → HoldsGood old name → HoldsTooMuch left → IsRefusal status
   stops_schedule_too_long store_failed source_failed faults between fault stopped is name asks has bad =
       stops_unfit store_failed source_failed faults between fault stopped is name asks has (too_much_unfit left bad)

@@ -42,7 +42,8 @@ not_made (run_image n options) contents name shard at left image text reads name
 
 -- want of memory, a failed get, or that
 refused : (command : Command) (contents : Contents) (name : List ℕ) (shard at : ℕ) (get_failed : Type 0) (status : ℕ) (fault : Fault)
-    → Reads command → image_name command ≡ name → HoldsBadShard contents name shard at → status ≡ status_of fault → Refuses command contents get_failed fault
+    → Reads command → image_name command ≡ name → HoldsBadShard contents name shard at → status ≡ status_of fault
+    → Refuses command contents get_failed fault
     → (status ≡ bad_shard) ⊎ (status ≡ out_of_memory) ⊎ (status ≡ read_fault)
 refused command contents name shard at get_failed status Usage reads named has is why = absurd why
 refused command contents name shard at get_failed status Memory reads named has is why = inr (inl is)
@@ -53,7 +54,8 @@ refused command contents name shard at get_failed status Absent reads named has 
     absurd (cc)
 refused command contents name shard at get_failed status (Malformed cause) reads named has is why =
     let same : why.1.bytes ≡ has.bytes = same_bytes contents (image_name command) name why.1.bytes has.bytes named why.1.held has.held in
-    let here : fault_of why.1.bytes ≡ Some cause = subst (λ limit. fault_within limit why.1.bytes ≡ Some cause) (follows_checks command (reads_follows command reads)) why.1.fault in
+    let here : fault_of why.1.bytes ≡ Some cause = subst (λ limit. fault_within limit why.1.bytes ≡ Some cause)
+    (follows_checks command (reads_follows command reads)) why.1.fault in
     let bad : fault_of has.bytes ≡ Some cause = subst (λ (l : List ℕ). fault_of l ≡ Some cause) same here in
     let good : fault_of has.bytes ≡ None = has.good in
     absurd (cc)
@@ -66,16 +68,21 @@ refused command contents name shard at get_failed status (BadStep line) reads na
 refused command contents name shard at get_failed status TooLong reads named has is why = absurd why
 
 -- a command that reads such an image makes nothing
-none_made : (words : List (List ℕ)) (command : Command) (contents : Contents) (left image : Option (List ℕ)) (text : List ℕ) → Asks words command → Makes command contents left image text
+none_made : (words : List (List ℕ)) (command : Command) (contents : Contents) (left image : Option (List ℕ)) (text : List ℕ)
+    → Asks words command → Makes command contents left image text
     → (name : List ℕ) (shard at : ℕ) → AsksToRead words name → HoldsBadShard contents name shard at → ⊥
 none_made words command contents left image text asked made name shard at asks has =
     let same : asks.command ≡ command = one_command words asks.command command asks.asked asked in
-    not_made command contents name shard at left image text (subst Reads same asks.reads) (subst (λ (c : Command). image_name c ≡ name) same asks.is_named) has made
+    not_made command contents name shard at left image text (subst Reads same asks.reads)
+    (subst (λ (c : Command). image_name c ≡ name) same asks.is_named) has made
 
 -- so it is not done
-pub not_done_bad : (words : List (List ℕ)) (command : Command) (old new : Contents) (left taken taken' : Option (List ℕ)) (status : ℕ) → Asks words command → IsCarriedOut command old new left taken taken'
-    → (name : List ℕ) (shard at : ℕ) → AsksToRead words name → HoldsBadShard old name shard at → (status ≡ bad_shard) ⊎ (status ≡ out_of_memory) ⊎ (status ≡ read_fault)
-not_done_bad words command old new left taken taken' status asked done name shard at asks has = absurd (none_made words command old left done.image done.text asked done.made name shard at asks has)
+pub not_done_bad : (words : List (List ℕ)) (command : Command) (old new : Contents) (left taken taken' : Option (List ℕ)) (status : ℕ)
+    → Asks words command → IsCarriedOut command old new left taken taken'
+    → (name : List ℕ) (shard at : ℕ) → AsksToRead words name → HoldsBadShard old name shard at
+    → (status ≡ bad_shard) ⊎ (status ≡ out_of_memory) ⊎ (status ≡ read_fault)
+not_done_bad words command old new left taken taken' status asked done name shard at asks has =
+    absurd (none_made words command old left done.image done.text asked done.made name shard at asks has)
 
 -- a command that reads maps replays no schedule
 no_maps : (command : Command) → Reads command → ReplaysASchedule command → ⊥
@@ -90,7 +97,8 @@ no_maps (conservative_image n with_map) reads replays = reads
 no_maps (count_image n with_map) reads replays = reads
 
 -- why a command stopped
-pub stops_bad : (words : List (List ℕ)) (command : Command) (old new : Contents) (left : Option (List ℕ)) (store_failed source_failed : Type 0) (faults between : ℕ) (taken taken' : Option (List ℕ)) (status : ℕ) (fault : Fault)
+pub stops_bad : (words : List (List ℕ)) (command : Command) (old new : Contents) (left : Option (List ℕ)) (store_failed source_failed : Type 0)
+    (faults between : ℕ) (taken taken' : Option (List ℕ)) (status : ℕ) (fault : Fault)
     → Asks words command → IsStopped command old new left store_failed source_failed faults between taken taken' fault → status ≡ status_of fault
     → (name : List ℕ) (shard at : ℕ) → AsksToRead words name → HoldsBadShard old name shard at
     → (status ≡ bad_shard) ⊎ (status ≡ out_of_memory) ⊎ (status ≡ read_fault)
@@ -98,10 +106,12 @@ stops_bad words command old new left store_failed source_failed faults between t
     elim stopped.cause as (λ _. (status ≡ bad_shard) ⊎ (status ≡ out_of_memory) ⊎ (status ≡ read_fault)) [
       | inl (inl why, untouched) ↦
           let same : asks.command ≡ command = one_command words asks.command command asks.asked asked in
-          refused command old name shard at store_failed status fault (subst Reads same asks.reads) (subst (λ (c : Command). image_name c ≡ name) same asks.is_named) has is why
+          refused command old name shard at store_failed status fault (subst Reads same asks.reads)
+          (subst (λ (c : Command). image_name c ≡ name) same asks.is_named) has is why
       | inl (inr (inl trace), untouched) ↦
           let same : asks.command ≡ command = one_command words asks.command command asks.asked asked in
-          absurd (mapped_shard old (image_name command) name shard at (subst (λ (c : Command). image_name c ≡ name) same asks.is_named) trace.mapped has)
+          absurd (mapped_shard old (image_name command) name shard at (subst (λ (c : Command). image_name c ≡ name) same asks.is_named)
+          trace.mapped has)
       | inl (inr (inr replay), untouched) ↦
           let same : asks.command ≡ command = one_command words asks.command command asks.asked asked in
           absurd (no_maps command (subst Reads same asks.reads) replay.replays)

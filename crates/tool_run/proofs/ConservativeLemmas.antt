@@ -20,18 +20,21 @@ module _ (words bytes shown : List ℕ) (of : AreWordsOf words bytes) (are : sho
   image_is = ap (λ (ws : List ℕ). slice_index (current_without_kinds ws)) (are ∙ sym (words_are_in words bytes of))
 
   -- bytes with a good header are refused for want of memory alone
-  pub only_memory : {T : Type 0} (result : Result T RecoverFault) → HasGoodHeader None (length bytes) (image_of_bytes bytes) → IfErr result (TellsHeader shown) → IfErr result (λ fault. fault ≡ RecoverMemory)
+  pub only_memory : {T : Type 0} (result : Result T RecoverFault) → HasGoodHeader None (length bytes) (image_of_bytes bytes)
+      → IfErr result (TellsHeader shown) → IfErr result (λ fault. fault ≡ RecoverMemory)
   only_memory (Ok answer) good why = tt
   only_memory (Err RecoverMemory) good why = refl
   only_memory (Err (Header cause)) good why =
-      let here : HasGoodHeader None (8 * length shown) (slice_index shown) = subst (λ (ws : List ℕ). HasGoodHeader None (8 * length ws) (slice_index ws)) (sym are) (good_in_words None words bytes of good) in
+      let here : HasGoodHeader None (8 * length shown) (slice_index shown) =
+      subst (λ (ws : List ℕ). HasGoodHeader None (8 * length ws) (slice_index ws)) (sym are) (good_in_words None words bytes of good) in
       let none : header_fault None (8 * length shown) (slice_index shown) ≡ None = no_fault None (8 * length shown) (slice_index shown) here in
       let some : header_fault None (8 * length shown) (slice_index shown) ≡ Some cause = why in
       absurd (cc)
   only_memory (Err (OutsideFound at value)) good why = absurd why
 
 -- any command may be refused for want of memory
-pub refuses_memory : (command : Command) (contents : Contents) (get_failed : Type 0) (fault : Fault) (cause : RecoverFault) → fault ≡ fault_of_recovery cause → cause ≡ RecoverMemory
+pub refuses_memory : (command : Command) (contents : Contents) (get_failed : Type 0) (fault : Fault) (cause : RecoverFault)
+    → fault ≡ fault_of_recovery cause → cause ≡ RecoverMemory
     → Refuses command contents get_failed fault
 refuses_memory command contents get_failed fault cause is memory =
     subst (λ (f : Fault). Refuses command contents get_failed f) (sym (is ∙ ap fault_of_recovery memory)) tt

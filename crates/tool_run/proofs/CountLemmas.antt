@@ -17,13 +17,15 @@ use Rattle.tool_run.specs.Recovering.{IsGoodImage, IsRecoveryFault}
 use Rattle.tool_run.proofs.RecoveryLemmas.{recovery_fault}
 
 -- why bytes with a good header are not opened
-pub opening_fault : {T : Type 0} (words bytes : List ℕ) → AreWordsOf words bytes → (result : Result T RecoverFault) → HasGoodHeader (Some kind_count) (length bytes) (image_of_bytes bytes)
+pub opening_fault : {T : Type 0} (words bytes : List ℕ) → AreWordsOf words bytes → (result : Result T RecoverFault)
+    → HasGoodHeader (Some kind_count) (length bytes) (image_of_bytes bytes)
     → IfErr result (TellsFault (Some kind_count) words (current_words words first_kinds) dict_links) → IfErr result (IsRecoveryFault (image_in bytes))
 opening_fault words bytes of result good why = recovery_fault words first_kinds bytes refl of result good why
 
 -- what the tool tells of an image that was not opened: a word outside only where its anchors don't tell what it holds
 pub not_opened : (contents : Contents) (name got : List ℕ) (get_failed : Type 0) (with_map : Bool) (cause : RecoverFault) (fault : Fault)
-    → fault ≡ fault_of_recovery cause → IsGoodImage (Some kind_count) contents name got → IsRecoveryFault (image_in got) cause → (IsOrderlyIn got → cause ≡ RecoverMemory)
+    → fault ≡ fault_of_recovery cause → IsGoodImage (Some kind_count) contents name got → IsRecoveryFault (image_in got) cause
+    → (IsOrderlyIn got → cause ≡ RecoverMemory)
     → Refuses (count_image name with_map) contents get_failed fault
 not_opened contents name got get_failed with_map (Header cause) fault is whole why sure = absurd why
 not_opened contents name got get_failed with_map RecoverMemory fault is whole why sure =

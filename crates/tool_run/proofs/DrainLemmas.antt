@@ -39,12 +39,14 @@ module _ (contents : Contents) (name : List ℕ) (recovered : Recovered) (is : I
   pub drainable_at_rest : (class : ℕ) → IsDrainableAtRest recovered.heap.words recovered.heap.held class
   drainable_at_rest class =
       subst (λ n. IsDrainable n words recovered.heap.held class) (sym capacity_stays)
-      (left_drainable image words (IsKept image) recovered.heap.held (recovered_places image words (IsKept image) is.is.recovers.words_are) named held_are small class)
+      (left_drainable image words (IsKept image) recovered.heap.held
+      (recovered_places image words (IsKept image) is.is.recovers.words_are) named held_are small class)
 
   given : (class : ℕ) (b : Block) → IsDrained (layout_of image) (IsKept image) class b ↔ IsGiven recovered.heap.words recovered.heap.held class b
   given class b =
       subst (λ n. IsDrained (layout_of image) (IsKept image) class b ↔ IsToDrain n words recovered.heap.held class b) (sym capacity_stays)
-      (left_drains image words (IsKept image) recovered.heap.held (recovered_places image words (IsKept image) is.is.recovers.words_are) named held_are b class)
+      (left_drains image words (IsKept image) recovered.heap.held (recovered_places image words (IsKept image) is.is.recovers.words_are)
+      named held_are b class)
 
   offset_drained : (class offset : ℕ) → IsOffsetGiven recovered.heap.words recovered.heap.held class offset → IsOffsetDrained image class offset
   offset_drained class offset of = record { block = of.block; is_drained = (given class of.block).1 of.is_given; at = of.at }

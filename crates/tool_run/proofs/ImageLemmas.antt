@@ -34,7 +34,8 @@ use Rattle.image_run.proofs.RecoveredLemmas.{recovers_to}
 use Rattle.image_run.proofs.TextLemmas.{reports}
 
 -- as many first bytes under another name
-pub first_limited : (contents : Contents) (name got : List ℕ) (most : ℕ) → most ≡ get_limit → HoldsFirst contents name most got → HoldsFirst contents name get_limit got
+pub first_limited : (contents : Contents) (name got : List ℕ) (most : ℕ) → most ≡ get_limit → HoldsFirst contents name most got
+    → HoldsFirst contents name get_limit got
 first_limited contents name got most is first = subst (λ (n : ℕ). HoldsFirst contents name n got) is first
 
 -- the words in the first bytes are those of all
@@ -76,7 +77,8 @@ first_fault : (limit : Option ℕ) (bytes : List ℕ) → fault_within limit (ta
 first_fault limit bytes = elim (cases_lt (length bytes) get_limit) [
   | inl short ↦ ap (fault_within limit) (take_all get_limit bytes (omega arith))
   | inr long ↦
-      long_fault limit (length (take get_limit bytes)) (length bytes) (image_of_bytes (take get_limit bytes)) (image_of_bytes bytes) _ (first_words bytes)
+      long_fault limit (length (take get_limit bytes)) (length bytes) (image_of_bytes (take get_limit bytes)) (image_of_bytes bytes) _
+      (first_words bytes)
       (omega (arith, length-take-le get_limit bytes long)) long refl
 ]
 
@@ -115,12 +117,14 @@ good_short : (limit : Option ℕ) (bytes : ℕ) (image : Image) → HasGoodHeade
 good_short limit bytes image (inl old) = let long = old.length_is in let short = fits true (image 2) old.small in omega arith
 good_short limit bytes image (inr (new, kinds)) = let long = new.length_is in let short = fits false (image 2) new.small in omega arith
 
-pub whole_image : (limit : Option ℕ) (contents : Contents) (name got : List ℕ) → HoldsFirst contents name get_limit got → HasGoodHeader limit (length got) (image_of_bytes got)
+pub whole_image : (limit : Option ℕ) (contents : Contents) (name got : List ℕ) → HoldsFirst contents name get_limit got
+    → HasGoodHeader limit (length got) (image_of_bytes got)
     → IsGoodImage limit contents name got
 whole_image limit None name got first good = record { is_there = tt; good = no_fault limit (length got) (image_of_bytes got) good }
 whole_image limit (Some image_of) name got first good =
     let at = held_image (image_of name) got first in
-    let cut : length (take get_limit at.0) < get_limit = subst (λ (l : List ℕ). length l < get_limit) at.2 (good_short limit (length got) (image_of_bytes got) good) in
+    let cut : length (take get_limit at.0) < get_limit = subst (λ (l : List ℕ). length l < get_limit) at.2
+    (good_short limit (length got) (image_of_bytes got) good) in
     let whole : got ≡ at.0 = at.2 ∙ take_all get_limit at.0 (short_whole at.0 cut) in
     record { is_there = at.1 ∙ ap (λ (l : List ℕ). Some l) (sym whole); good = no_fault limit (length got) (image_of_bytes got) good }
 
@@ -140,8 +144,15 @@ is_refused contents name got shown get_failed RecoverMemory fault is whole are w
 is_refused contents name got shown get_failed (OutsideFound at value) fault is whole are why command follows named =
     let here : PointsOutside (image_in got) at = subst (λ (l : List ℕ). PointsOutside (image_in l) at) are why.0 in
     let there : value ≡ image_in got at = why.1 ∙ ap (λ (l : List ℕ). image_in l at) are in
-    let has : HasOutside contents name at value = record { bytes = got; is_there = whole.is_there; good = whole.good; points = here; value_is = there } in
-    subst (λ (f : Fault). Refuses command contents get_failed f) (sym is) (subst (λ (n : List ℕ). HasOutside contents n at value) (sym named) has, follows_refuses command _ follows)
+    let has : HasOutside contents name at value = record {
+      bytes = got;
+      is_there = whole.is_there;
+      good = whole.good;
+      points = here;
+      value_is = there;
+    } in
+    subst (λ (f : Fault). Refuses command contents get_failed f) (sym is)
+    (subst (λ (n : List ℕ). HasOutside contents n at value) (sym named) has, follows_refuses command _ follows)
 
 -- the same of a failed get
 pub is_not_got : (contents : Contents) (name : List ℕ) (get_failed : Type 0) (cause : GetFault) (fault : Fault)
@@ -155,7 +166,8 @@ is_not_got contents name get_failed GetMemory fault is lacks failed command gets
     subst (λ (f : Fault). Refuses command contents get_failed f) (sym is) tt
 
 -- an image that was recovered
-pub is_recovered : (contents : Contents) (name got shown : List ℕ) (recovered : Recovered) → IsGoodImage (Some kind_count) contents name got → shown ≡ got
+pub is_recovered : (contents : Contents) (name got shown : List ℕ) (recovered : Recovered) → IsGoodImage (Some kind_count) contents name got
+    → shown ≡ got
     → IsRecoveredHeap (image_in shown) recovered → ((at : ℕ) → PointsOutside (image_in shown) at → ⊥) → HoldsImage shown
     → length recovered.heap.words ≡ length (current_words (words_in_bytes shown) first_kinds) → IsRecoveredHeapOf contents name recovered
 is_recovered contents name got shown recovered whole are is inside formed long = record {
@@ -169,9 +181,11 @@ is_recovered contents name got shown recovered whole are is inside formed long =
 }
 
 -- and its words beside it
-pub is_recovered_from : (contents : Contents) (name got shown words : List ℕ) (recovered : Recovered) → IsGoodImage (Some kind_count) contents name got → shown ≡ got
+pub is_recovered_from : (contents : Contents) (name got shown words : List ℕ) (recovered : Recovered)
+    → IsGoodImage (Some kind_count) contents name got → shown ≡ got
     → IsRecoveredHeap (image_in shown) recovered → ((at : ℕ) → PointsOutside (image_in shown) at → ⊥) → HoldsImage shown
-    → words ≡ current_words (words_in_bytes shown) first_kinds → length recovered.heap.words ≡ length words → IsRecoveredFrom contents name words recovered
+    → words ≡ current_words (words_in_bytes shown) first_kinds → length recovered.heap.words ≡ length words
+    → IsRecoveredFrom contents name words recovered
 unfolding is_recovered
 is_recovered_from contents name got shown words recovered whole are is inside formed words_are long = record {
   image = is_recovered contents name got shown recovered whole are is inside formed (long ∙ ap (λ (ws : List ℕ). length ws) words_are);
@@ -179,7 +193,8 @@ is_recovered_from contents name got shown words recovered whole are is inside fo
 }
 
 -- the report on it
-pub shows : (contents : Contents) (name text : List ℕ) (maps : List (BTreeMap ℕ (List ℕ))) (with_map : Bool) (recovered : Recovered) → IsRecoveredHeapOf contents name recovered
+pub shows : (contents : Contents) (name text : List ℕ) (maps : List (BTreeMap ℕ (List ℕ))) (with_map : Bool) (recovered : Recovered)
+    → IsRecoveredHeapOf contents name recovered
     → IsReady recovered.heap.words recovered.heap.held → AreMaps (slice_index recovered.heap.words) shards maps
     → IsTextOf recovered maps false with_map text → Shows contents name with_map text
 shows contents name text maps with_map recovered is ready are text_is =
@@ -194,11 +209,17 @@ shows contents name text maps with_map recovered is ready are text_is =
     }
 
 -- the cause of a bad header, where a command gets the image
-pub is_malformed : (limit : Option ℕ) (contents : Contents) (name got shown : List ℕ) (get_failed : Type 0) (cause : BadHeader) (fault : Fault) → fault ≡ Malformed cause
+pub is_malformed : (limit : Option ℕ) (contents : Contents) (name got shown : List ℕ) (get_failed : Type 0) (cause : BadHeader) (fault : Fault)
+    → fault ≡ Malformed cause
     → HoldsFirst contents name get_limit got → shown ≡ got → Some cause ≡ fault_within limit shown
     → (command : Command) → GetsImage command → kinds_checked command ≡ limit → image_name command ≡ name → Refuses command contents get_failed fault
 is_malformed limit contents name got shown get_failed cause fault is first are at command gets checks named =
     let image : IsGot limit contents name got = got_image limit contents name got first in
-    let bad : IsMalformed limit contents name cause = record { bytes = image.bytes; held = image.held; fault = sym image.fault_is ∙ ap (fault_within limit) (sym are) ∙ sym at } in
+    let bad : IsMalformed limit contents name cause = record {
+      bytes = image.bytes;
+      held = image.held;
+      fault = sym image.fault_is ∙ ap (fault_within limit) (sym are) ∙ sym at;
+    } in
     let here : IsMalformed (kinds_checked command) contents name cause = subst (λ l. IsMalformed l contents name cause) (sym checks) bad in
-    subst (λ (f : Fault). Refuses command contents get_failed f) (sym is) (gets, subst (λ (n : List ℕ). IsMalformed (kinds_checked command) contents n cause) (sym named) here)
+    subst (λ (f : Fault). Refuses command contents get_failed f) (sym is)
+    (gets, subst (λ (n : List ℕ). IsMalformed (kinds_checked command) contents n cause) (sym named) here)

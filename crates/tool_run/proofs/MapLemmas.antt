@@ -19,11 +19,13 @@ use Rattle.tool_run.specs.Inside.{Refuses, fault_of_maps}
 use Rattle.tool_run.specs.Making.{Reads, HasBadShard}
 use Rattle.tool_run.specs.Recovering.{IsRecoveredHeapOf, IsMapped}
 
-module _ (contents : Contents) (name : List ℕ) (recovered : Recovered) (is : IsRecoveredHeapOf contents name recovered) (ready : IsReady recovered.heap.words recovered.heap.held) where
+module _ (contents : Contents) (name : List ℕ) (recovered : Recovered) (is : IsRecoveredHeapOf contents name recovered)
+    (ready : IsReady recovered.heap.words recovered.heap.held) where
   pub to_words : RecoversTo (image_in is.bytes) (slice_index recovered.heap.words)
   to_words = recovers_to (image_in is.bytes) recovered is.is is.inside ready
 
-  pub is_mapped : (maps : List (BTreeMap ℕ (List ℕ))) → AreMaps (slice_index recovered.heap.words) shards maps → IsMapped contents name recovered.heap.words recovered.heap.held
+  pub is_mapped : (maps : List (BTreeMap ℕ (List ℕ))) → AreMaps (slice_index recovered.heap.words) shards maps
+      → IsMapped contents name recovered.heap.words recovered.heap.held
   is_mapped maps are =
       let of_image = maps_of_image (image_in is.bytes) (slice_index recovered.heap.words) to_words maps are in
       record {
@@ -37,10 +39,12 @@ module _ (contents : Contents) (name : List ℕ) (recovered : Recovered) (is : I
         to = to_words;
         maps = maps;
         are = are;
-        dictionary = recovered_dictionary (image_in is.bytes) (slice_index recovered.heap.words) to_words recovered.heap.held is.is.recovers.held_are maps is.is.kinds are;
+        dictionary = recovered_dictionary (image_in is.bytes) (slice_index recovered.heap.words)
+            to_words recovered.heap.held is.is.recovers.held_are maps is.is.kinds are;
       }
 
-  pub refuses_maps : (command : Command) (get_failed : Type 0) (cause : MapFault) (fault : Fault) → fault ≡ fault_of_maps cause → TellsLowest (slice_index recovered.heap.words) cause
+  pub refuses_maps : (command : Command) (get_failed : Type 0) (cause : MapFault) (fault : Fault) → fault ≡ fault_of_maps cause
+      → TellsLowest (slice_index recovered.heap.words) cause
       → Reads command → image_name command ≡ name → Refuses command contents get_failed fault
   refuses_maps command get_failed MapMemory fault same tells reads named = subst (λ (f : Fault). Refuses command contents get_failed f) (sym same) tt
   refuses_maps command get_failed (NoMap shard at) fault same tells reads named =
@@ -56,4 +60,5 @@ module _ (contents : Contents) (name : List ℕ) (recovered : Recovered) (is : I
               (map.0, map_kept (image_in is.bytes) (slice_index recovered.heap.words) to_words i map.0 (omega arith) map.1);
         };
       } in
-      subst (λ (f : Fault). Refuses command contents get_failed f) (sym same) (reads, subst (λ (n : List ℕ). HasBadShard contents n shard at) (sym named) has)
+      subst (λ (f : Fault). Refuses command contents get_failed f) (sym same)
+      (reads, subst (λ (n : List ℕ). HasBadShard contents n shard at) (sym named) has)

@@ -42,7 +42,8 @@ lines_more f xs i start old new d below before written =
     ∙ ap (λ (l : List ℕ). start ++ l) (sym one)
 
 -- the text on what a heap gives, from offsets in any order and the text on these once they are sorted
-pub given_text : {E : Type 0} (words : List ℕ) (held : List Block) (class : ℕ) (offsets sorted shown : List ℕ) (result : Result Bytes E) → AreGiven words held class offsets
+pub given_text : {E : Type 0} (words : List ℕ) (held : List Block) (class : ℕ) (offsets sorted shown : List ℕ) (result : Result Bytes E)
+    → AreGiven words held class offsets
     → IsPermutation offsets sorted → IsNonDecreasing sorted → shown ≡ sorted → IfOk result (λ text. text ≡ drained_text class shown)
     → IfOk result (IsGivenText words held class)
 given_text words held class offsets sorted shown (Err e) given moved rising are text_is = tt

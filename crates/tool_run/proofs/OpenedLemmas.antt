@@ -12,8 +12,13 @@ module _ (words : List ℕ) (held : List Block) (budget : ℕ) (s : SeqState) (i
   -- what it gives is what the heap at rest must give
   pub given_opened : (class : ℕ) (offsets : List ℕ) → Drains class offsets s → AreGiven words held class offsets
   given_opened class offsets drains = record {
-    sound = λ offset has. let at = drains.sound offset has in record { block = at.0; is_given = (opened_drains words held budget s is class at.0).0 at.2; at = at.1 };
-    complete = λ offset of. subst (Contains offsets) (sym of.at) (drains.complete of.block ((opened_drains words held budget s is class of.block).1 of.is_given));
+    sound = λ offset has. let at = drains.sound offset has in record {
+      block = at.0;
+      is_given = (opened_drains words held budget s is class at.0).0 at.2;
+      at = at.1;
+    };
+    complete = λ offset of. subst (Contains offsets) (sym of.at) (drains.complete of.block
+        ((opened_drains words held budget s is class of.block).1 of.is_given));
     once = drains.once;
   }
 

@@ -31,21 +31,26 @@ abbrev IsOutsideOr : ℕ → Type 0
 IsOutsideOr status = (status ≡ outside) ⊎ (status ≡ out_of_memory) ⊎ (status ≡ read_fault)
 
 -- where the store tells of a name, recovery makes one heap of it
-one_heap : (contents : Contents) (name words words' : List ℕ) (held held' : List Block) → HoldsGood contents name → HasHeap contents name words held → HasHeap contents name words' held'
+one_heap : (contents : Contents) (name words words' : List ℕ) (held held' : List Block) → HoldsGood contents name
+    → HasHeap contents name words held → HasHeap contents name words' held'
     → (words' ≡ words) × (held' ≡ held)
 one_heap contents name words words' held held' good is too =
     let bytes : too.image.bytes ≡ is.image.bytes =
-    same_bytes contents name name too.image.bytes good.bytes refl too.image.is_there good.held ∙ sym (same_bytes contents name name is.image.bytes good.bytes refl is.image.is_there good.held) in
+    same_bytes contents name name too.image.bytes good.bytes refl too.image.is_there good.held
+    ∙ sym (same_bytes contents name name is.image.bytes good.bytes refl is.image.is_there good.held) in
     let recovers : Recovers (image_in is.image.bytes) held' too.free (slice_index words') =
     subst (λ (l : List ℕ). Recovers (image_in l) held' too.free (slice_index words')) bytes too.recovers in
-    let long : length words' ≡ length words = let a = is.long in let b = too.long in let c = ap (λ (l : List ℕ). image_words (capacity_of (image_in l))) bytes in omega arith in (
+    let long : length words' ≡ length words = let a = is.long in let b = too.long in
+    let c = ap (λ (l : List ℕ). image_words (capacity_of (image_in l))) bytes in omega arith in (
       same_number_lists words' words long
-          (λ k below. one_recovered (image_in is.image.bytes) (slice_index words) (slice_index words') held held' is.free too.free is.recovers recovers k),
+          (λ k below. one_recovered (image_in is.image.bytes) (slice_index words)
+          (slice_index words') held held' is.free too.free is.recovers recovers k),
       one_held (image_in is.image.bytes) (slice_index words) (slice_index words') held held' is.free too.free is.recovers recovers,
     )
 
 -- where the source tells what it has left, that is one schedule
-one_left : (left : Option (List ℕ)) (s s' : Schedule) → HoldsSchedule left → HasSchedule left s → HasSchedule left s' → (s'.seats ≡ s.seats) × (s'.lines.items ≡ s.lines.items)
+one_left : (left : Option (List ℕ)) (s s' : Schedule) → HoldsSchedule left → HasSchedule left s → HasSchedule left s' → (s'.seats ≡ s.seats)
+    × (s'.lines.items ≡ s.lines.items)
 one_left left s s' has is too =
     let text : has.text ≡ is.text = of_left (λ all. all ≡ is.text) left has.text has.all is.has_text.all in
     let text' : has.text ≡ too.text = of_left (λ all. all ≡ too.text) left has.text has.all too.has_text.all in
@@ -61,14 +66,16 @@ module _ (contents : Contents) (name : List ℕ) (left : Option (List ℕ)) (at 
       subst (λ (ws : List ℕ). LeavesOutside ws held schedule.seats schedule.lines.items at has.value) (sym heaps.0)
       (subst (λ (bs : List Block). LeavesOutside has.leaves.words bs schedule.seats schedule.lines.items at has.value) (sym heaps.1)
       (subst (λ n. LeavesOutside has.leaves.words has.leaves.held n schedule.lines.items at has.value) (sym schedules.0)
-      (subst (λ (ls : List (ℕ × Event)). LeavesOutside has.leaves.words has.leaves.held has.leaves.schedule.seats ls at has.value) (sym schedules.1) has.leaves.leaves)))
+      (subst (λ (ls : List (ℕ × Event)). LeavesOutside has.leaves.words has.leaves.held has.leaves.schedule.seats ls at has.value)
+      (sym schedules.1) has.leaves.leaves)))
 
   none_printed : (text : List ℕ) → ReplaysNamed contents left name text → ⊥
   none_printed text made =
       never_both made.words made.held made.schedule.seats made.schedule.lines.items text at has.value made.replays
       (leaves_too made.words made.held made.schedule made.heap made.has_schedule)
 
-  by_replay : (read_failed : Type 0) (status : ℕ) (fault : Fault) → status ≡ status_of fault → IsReplayFault contents left name read_failed fault → IsOutsideOr status
+  by_replay : (read_failed : Type 0) (status : ℕ) (fault : Fault) → status ≡ status_of fault
+      → IsReplayFault contents left name read_failed fault → IsOutsideOr status
   by_replay read_failed status Memory is why = inr (inl is)
   by_replay read_failed status ReadFault is why = inr (inr is)
   by_replay read_failed status (Outside place value) is why = inl is
@@ -76,19 +83,23 @@ module _ (contents : Contents) (name : List ℕ) (left : Option (List ℕ)) (at 
   by_replay read_failed status TooLong is why = absurd (not_too_much left has.schedule why)
   by_replay read_failed status other is why = absurd why
 
-module _ (words : List (List ℕ)) (command : Command) (old new : Contents) (left taken taken' : Option (List ℕ)) (status : ℕ) (asked : Asks words command) where
-  pub done_outside_left : IsCarriedOut command old new left taken taken' → (name : List ℕ) (at : ℕ) → AsksForReplay words name → HoldsOutsideLeft old name left at → IsOutsideOr status
+module _ (words : List (List ℕ)) (command : Command) (old new : Contents) (left taken taken' : Option (List ℕ)) (status : ℕ)
+    (asked : Asks words command) where
+  pub done_outside_left : IsCarriedOut command old new left taken taken' → (name : List ℕ) (at : ℕ) → AsksForReplay words name
+      → HoldsOutsideLeft old name left at → IsOutsideOr status
   done_outside_left is name at asks has =
       let same : command ≡ replay_image name asks.seed = one_command words command (replay_image name asks.seed) asked asks.asked in
       let made = subst (λ (c : Command). Makes c old left is.image is.text) same is.made in
       absurd (none_printed old name left at has is.text made.1)
 
-  pub stops_outside_left : (store_failed source_failed : Type 0) (faults between : ℕ) (fault : Fault) → IsStopped command old new left store_failed source_failed faults between taken taken' fault → status ≡ status_of fault
+  pub stops_outside_left : (store_failed source_failed : Type 0) (faults between : ℕ) (fault : Fault)
+      → IsStopped command old new left store_failed source_failed faults between taken taken' fault → status ≡ status_of fault
       → (name : List ℕ) (at : ℕ) → AsksForReplay words name → HoldsOutsideLeft old name left at → IsOutsideOr status
   stops_outside_left store_failed source_failed faults between fault stopped is name at asks has =
       let same : command ≡ replay_image name asks.seed = one_command words command (replay_image name asks.seed) asked asks.asked in
       elim stopped.cause as (λ _. IsOutsideOr status) [
-        | inl (inl why, untouched) ↦ inr (by_image old name asks.seed store_failed status fault has.image is (subst (λ (c : Command). Refuses c old store_failed fault) same why))
+        | inl (inl why, untouched) ↦ inr (by_image old name asks.seed store_failed status fault has.image is
+            (subst (λ (c : Command). Refuses c old store_failed fault) same why))
         | inl (inr (inl trace), untouched) ↦ absurd (subst RunsATrace same trace.runs)
         | inl (inr (inr replay), untouched) ↦
             let why = subst (λ (c : Command). IsReplayFault old left (image_name c) source_failed fault) same replay.why in

@@ -38,7 +38,8 @@ good_inside contents n name at named image has =
     image.inside at (subst (λ (l : List ℕ). PointsOutside (image_in l) at) (sym same) has.points)
 
 -- where the anchors of an image don't tell what it holds, such a word is told of in no text
-none_told : (words : List ℕ) (at : ℕ) (with_map : Bool) (text : List ℕ) → ¬ (IsOrderlyImage words) → PointsOutside (slice_index words) at → TellsOpened words with_map text → ⊥
+none_told : (words : List ℕ) (at : ℕ) (with_map : Bool) (text : List ℕ) → ¬ (IsOrderlyImage words) → PointsOutside (slice_index words) at
+    → TellsOpened words with_map text → ⊥
 none_told words at with_map text disorderly points (by_anchors orderly told) = disorderly orderly
 none_told words at with_map text disorderly points (traced not_orderly inside told) = inside at points
 
@@ -66,7 +67,8 @@ not_made (count_image n with_map) contents name at left image text has refuses n
 
 -- want of memory, a failed get, or that
 refused : (command : Command) (contents : Contents) (name : List ℕ) (at : ℕ) (get_failed : Type 0) (status : ℕ) (fault : Fault)
-    → (has : HoldsOutside contents name at) → RefusesOutside command has.bytes → image_name command ≡ name → status ≡ status_of fault → Refuses command contents get_failed fault
+    → (has : HoldsOutside contents name at) → RefusesOutside command has.bytes → image_name command ≡ name → status ≡ status_of fault
+    → Refuses command contents get_failed fault
     → (status ≡ outside) ⊎ (status ≡ out_of_memory) ⊎ (status ≡ read_fault)
 refused command contents name at get_failed status Usage has refuses named is why = absurd why
 refused command contents name at get_failed status Memory has refuses named is why = inr (inl is)
@@ -77,7 +79,8 @@ refused command contents name at get_failed status Absent has refuses named is w
     absurd (cc)
 refused command contents name at get_failed status (Malformed cause) has refuses named is why =
     let same : why.1.bytes ≡ has.bytes = same_bytes contents (image_name command) name why.1.bytes has.bytes named why.1.held has.held in
-    let here : fault_of why.1.bytes ≡ Some cause = subst (λ limit. fault_within limit why.1.bytes ≡ Some cause) (refuses_checks command has.bytes refuses) why.1.fault in
+    let here : fault_of why.1.bytes ≡ Some cause = subst (λ limit. fault_within limit why.1.bytes ≡ Some cause)
+    (refuses_checks command has.bytes refuses) why.1.fault in
     let bad : fault_of has.bytes ≡ Some cause = subst (λ (l : List ℕ). fault_of l ≡ Some cause) same here in
     let good : fault_of has.bytes ≡ None = has.good in
     absurd (cc)
@@ -90,20 +93,25 @@ refused command contents name at get_failed status (BadStep line) has refuses na
 refused command contents name at get_failed status TooLong has refuses named is why = absurd why
 
 -- a command that is refused for such a word makes nothing
-none_made : (words : List (List ℕ)) (command : Command) (contents : Contents) (left image : Option (List ℕ)) (text : List ℕ) → Asks words command → Makes command contents left image text
+none_made : (words : List (List ℕ)) (command : Command) (contents : Contents) (left image : Option (List ℕ)) (text : List ℕ)
+    → Asks words command → Makes command contents left image text
     → (name : List ℕ) (at : ℕ) (asks : AsksToGet words name) (has : HoldsOutside contents name at) → RefusesOutside asks.command has.bytes → ⊥
 none_made words command contents left image text asked made name at asks has refuses =
     let same : asks.command ≡ command = one_command words asks.command command asks.asked asked in
-    not_made command contents name at left image text has (subst (λ (c : Command). RefusesOutside c has.bytes) same refuses) (subst (λ (c : Command). image_name c ≡ name) same asks.is_named) made
+    not_made command contents name at left image text has (subst (λ (c : Command). RefusesOutside c has.bytes) same refuses)
+    (subst (λ (c : Command). image_name c ≡ name) same asks.is_named) made
 
 -- so it is not done
-pub not_done : (words : List (List ℕ)) (command : Command) (old new : Contents) (left taken taken' : Option (List ℕ)) (status : ℕ) → Asks words command → IsCarriedOut command old new left taken taken'
+pub not_done : (words : List (List ℕ)) (command : Command) (old new : Contents) (left taken taken' : Option (List ℕ)) (status : ℕ)
+    → Asks words command → IsCarriedOut command old new left taken taken'
     → (name : List ℕ) (at : ℕ) (asks : AsksToGet words name) (has : HoldsOutside old name at) → RefusesOutside asks.command has.bytes
     → (status ≡ outside) ⊎ (status ≡ out_of_memory) ⊎ (status ≡ read_fault)
-not_done words command old new left taken taken' status asked done name at asks has refuses = absurd (none_made words command old left done.image done.text asked done.made name at asks has refuses)
+not_done words command old new left taken taken' status asked done name at asks has refuses =
+    absurd (none_made words command old left done.image done.text asked done.made name at asks has refuses)
 
 -- why a command stopped
-pub stops_outside : (words : List (List ℕ)) (command : Command) (old new : Contents) (left : Option (List ℕ)) (store_failed source_failed : Type 0) (faults between : ℕ) (taken taken' : Option (List ℕ)) (status : ℕ) (fault : Fault)
+pub stops_outside : (words : List (List ℕ)) (command : Command) (old new : Contents) (left : Option (List ℕ))
+    (store_failed source_failed : Type 0) (faults between : ℕ) (taken taken' : Option (List ℕ)) (status : ℕ) (fault : Fault)
     → Asks words command → IsStopped command old new left store_failed source_failed faults between taken taken' fault → status ≡ status_of fault
     → (name : List ℕ) (at : ℕ) (asks : AsksToGet words name) (has : HoldsOutside old name at) → RefusesOutside asks.command has.bytes
     → (status ≡ outside) ⊎ (status ≡ out_of_memory) ⊎ (status ≡ read_fault)
@@ -111,7 +119,8 @@ stops_outside words command old new left store_failed source_failed faults betwe
     elim stopped.cause as (λ _. (status ≡ outside) ⊎ (status ≡ out_of_memory) ⊎ (status ≡ read_fault)) [
       | inl (inl why, untouched) ↦
           let same : asks.command ≡ command = one_command words asks.command command asks.asked asked in
-          refused command old name at store_failed status fault has (subst (λ (c : Command). RefusesOutside c has.bytes) same refuses) (subst (λ (c : Command). image_name c ≡ name) same asks.is_named) is why
+          refused command old name at store_failed status fault has (subst (λ (c : Command). RefusesOutside c has.bytes) same refuses)
+          (subst (λ (c : Command). image_name c ≡ name) same asks.is_named) is why
       | inl (inr (inl trace), untouched) ↦
           let same : asks.command ≡ command = one_command words asks.command command asks.asked asked in
           absurd (mapped_inside old (image_name command) name at (subst (λ (c : Command). image_name c ≡ name) same asks.is_named) trace.mapped has)
@@ -128,5 +137,7 @@ pub where_asked : (P : Type 0) (words : List (List ℕ)) (command : Command) (co
 where_asked P words command contents asked comes name at asks has refuses =
     let same : asks.command ≡ command = one_command words asks.command command asks.asked asked in
     let named : image_name command ≡ name = subst (λ (c : Command). image_name c ≡ name) same asks.is_named in
-    let here : told_of contents (image_name command) ≡ Some (Some has.bytes) = subst (λ (n : List ℕ). told_of contents n ≡ Some (Some has.bytes)) (sym named) has.held in
-    comes at (record { bytes = has.bytes; held = here; good = has.good; points = has.points }) (subst (λ (c : Command). RefusesOutside c has.bytes) same refuses)
+    let here : told_of contents (image_name command) ≡ Some (Some has.bytes) =
+    subst (λ (n : List ℕ). told_of contents n ≡ Some (Some has.bytes)) (sym named) has.held in
+    comes at (record { bytes = has.bytes; held = here; good = has.good; points = has.points })
+    (subst (λ (c : Command). RefusesOutside c has.bytes) same refuses)

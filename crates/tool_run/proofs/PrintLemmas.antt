@@ -17,7 +17,8 @@ part_of_first text rest old new part =
     (part.0, omega (arith, whole, short), part.2 ∙ ap (λ (l : List ℕ). taken_with old l) (sym (take-append-le part.0 text rest (omega (arith, short)))))
 
 -- the first text, and a part of the next
-pub part_of_next : (text rest : List ℕ) (old mid new : Option (List ℕ)) → mid ≡ taken_with old text → TakesPart rest mid new → TakesPart (text ++ rest) old new
+pub part_of_next : (text rest : List ℕ) (old mid new : Option (List ℕ)) → mid ≡ taken_with old text → TakesPart rest mid new
+    → TakesPart (text ++ rest) old new
 part_of_next text rest old mid new first part =
     let short : part.0 < length rest = part.1 in
     let whole = length-append text rest in (
@@ -48,14 +49,16 @@ module _ (p d q v h w lf : List ℕ) (old mid late new : Option (List ℕ)) (num
   -- where the first pair was cut off
   pub in_first_pair : TakesPart (p ++ q) old new → TakesPart (p ++ d ++ v ++ h ++ lf) old new
   in_first_pair part =
-      same_part ((p ++ d) ++ ((v ++ h) ++ lf)) _ old new whole_line (part_of_first (p ++ d) ((v ++ h) ++ lf) old new (same_part (p ++ q) (p ++ d) old new (ap (λ (l : List ℕ). p ++ l) number_is) part))
+      same_part ((p ++ d) ++ ((v ++ h) ++ lf)) _ old new whole_line (part_of_first (p ++ d) ((v ++ h) ++ lf) old new
+      (same_part (p ++ q) (p ++ d) old new (ap (λ (l : List ℕ). p ++ l) number_is) part))
 
   -- where the second pair was
   pub in_second_pair : mid ≡ taken_with old (p ++ q) → TakesPart (v ++ w) mid new → TakesPart (p ++ d ++ v ++ h ++ lf) old new
   in_second_pair first part =
       let started : mid ≡ taken_with old (p ++ d) = first ∙ ap (λ (l : List ℕ). taken_with old (p ++ l)) number_is in
       same_part ((p ++ d) ++ ((v ++ h) ++ lf)) _ old new whole_line
-      (part_of_next (p ++ d) ((v ++ h) ++ lf) old mid new started (part_of_first (v ++ h) lf mid new (same_part (v ++ w) (v ++ h) mid new (ap (λ (l : List ℕ). v ++ l) word_is) part)))
+      (part_of_next (p ++ d) ((v ++ h) ++ lf) old mid new started (part_of_first (v ++ h) lf mid new
+      (same_part (v ++ w) (v ++ h) mid new (ap (λ (l : List ℕ). v ++ l) word_is) part)))
 
   -- where the end was
   pub in_end : mid ≡ taken_with old (p ++ q) → late ≡ taken_with mid (v ++ w) → TakesPart lf late new → TakesPart (p ++ d ++ v ++ h ++ lf) old new
@@ -66,7 +69,8 @@ module _ (p d q v h w lf : List ℕ) (old mid late new : Option (List ℕ)) (num
       (part_of_next (p ++ d) ((v ++ h) ++ lf) old mid new started (part_of_next (v ++ h) lf mid late new followed part))
 
   -- where all was written
-  pub all_taken : mid ≡ taken_with old (p ++ q) → late ≡ taken_with mid (v ++ w) → new ≡ taken_with late lf → new ≡ taken_with old (p ++ d ++ v ++ h ++ lf)
+  pub all_taken : mid ≡ taken_with old (p ++ q) → late ≡ taken_with mid (v ++ w) → new ≡ taken_with late lf
+      → new ≡ taken_with old (p ++ d ++ v ++ h ++ lf)
   all_taken first second third =
       let started : mid ≡ taken_with old (p ++ d) = first ∙ ap (λ (l : List ℕ). taken_with old (p ++ l)) number_is in
       let followed : late ≡ taken_with mid (v ++ h) = second ∙ ap (λ (l : List ℕ). taken_with mid (v ++ l)) word_is in

@@ -48,7 +48,8 @@ either true x y z first second = first
 either false x y z first second = second
 
 pub looked_once : (words : List (List ℕ)) (command : Command) (before after : StoreCalls) (fault : Fault)
-    → Asks words command → after ≡ with_status command (status_of fault) before → (name : List ℕ) → AsksToLook words name → after ≡ with_get get_limit before
+    → Asks words command → after ≡ with_status command (status_of fault) before → (name : List ℕ) → AsksToLook words name
+    → after ≡ with_get get_limit before
 looked_once words command before after fault asked calls name asks =
     let same : asks.command ≡ command = one_command words asks.command command asks.asked asked in
     let once = look_once command before (subst GetsImage same asks.gets) (subst (λ (c : Command). ¬ (PutsBack c)) same asks.puts_none) in
@@ -68,4 +69,5 @@ pub got_alone : (words : List (List ℕ)) (command : Command) (before after : St
 got_alone words command before after status fault asked calls is name asks whole =
     let same : asks.command ≡ command = one_command words asks.command command asks.asked asked in
     let not_cut : nat_eq (status_of fault) write_fault ≡ false = ne_eqb (status_of fault) write_fault (λ e. whole (is ∙ e)) in
-    calls ∙ ap (λ b. if b then with_command command before else with_making command before) not_cut ∙ (put_back command before (subst PutsBack same asks.puts)).0
+    calls ∙ ap (λ b. if b then with_command command before else with_making command before) not_cut
+    ∙ (put_back command before (subst PutsBack same asks.puts)).0

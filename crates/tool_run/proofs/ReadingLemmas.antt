@@ -25,11 +25,13 @@ again : {T E : Type 0} (U : Type 0) (fault met wanted : E) → fault ≡ met →
 again U fault met wanted is same = cc
 
 -- a count that stands unless this fault was met stands unless it is handed on
-pub stands : {T E : Type 0} {P : E → Type 0} (U : Type 0) (before now : ℕ) (result : Result T E) (met wanted : E) → IsErr result × IsErrAnd result P → ((fault : E) → P fault → fault ≡ met)
+pub stands : {T E : Type 0} {P : E → Type 0} (U : Type 0) (before now : ℕ) (result : Result T E) (met wanted : E) → IsErr result
+    × IsErrAnd result P → ((fault : E) → P fault → fault ≡ met)
     → (¬ (IsErrOf {T = U} (Err met) wanted) → now ≡ before) → ¬ (IsErrOf result wanted) → now ≡ before
 stands U before now (Ok x) met wanted is handed steady other = absurd is.1
 stands U before now (Err fault) met wanted is handed steady other = steady (λ same. other (again U fault met wanted (handed fault is.1) same))
 
 -- by another status this fault is not told
-pub not_told : (U : Type 0) (status : ℕ) (fault other : Fault) → status ≡ status_of fault → status ≢ status_of other → IsErrOf {T = U} (Err fault) other → ⊥
+pub not_told : (U : Type 0) (status : ℕ) (fault other : Fault) → status ≡ status_of fault → status ≢ status_of other
+    → IsErrOf {T = U} (Err fault) other → ⊥
 not_told U status fault other is differs same = differs (is ∙ ap status_of (one_fault U fault other same))

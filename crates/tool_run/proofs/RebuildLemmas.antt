@@ -45,12 +45,14 @@ module _ (contents : Contents) (name words : List ℕ) (recovered : Recovered) (
     formed = formed;
     below = kinds;
     none_outside = subst (λ (image : Image). (at : ℕ) → PointsOutside image at → ⊥) same is.image.inside;
-    held_are = subst (λ (image : Image). AreAscending (λ (b : Block). b.first_word) (IsKept image) recovered.heap.held) same is.image.is.recovers.held_are;
+    held_are = subst (λ (image : Image). AreAscending (λ (b : Block). b.first_word) (IsKept image) recovered.heap.held)
+        same is.image.is.recovers.held_are;
     long = is.image.long ∙ sym (ap (λ (ws : List ℕ). length ws) is.words_are);
     words_are = words_are;
   }
 
-  pub rebuilds_named : (budget : ℕ) (put : Option (List ℕ)) (text : List ℕ) → IsSomeAnd put (λ image. Rebuilds (slice_index words) (length words) budget image text)
+  pub rebuilds_named : (budget : ℕ) (put : Option (List ℕ)) (text : List ℕ)
+      → IsSomeAnd put (λ image. Rebuilds (slice_index words) (length words) budget image text)
       → RebuildsNamed contents name budget put text
   rebuilds_named budget None text rebuilds = absurd rebuilds
   rebuilds_named budget (Some image) text rebuilds = record {
@@ -64,7 +66,8 @@ module _ (contents : Contents) (name words : List ℕ) (recovered : Recovered) (
         (subst (λ (i : Image). Rebuilds i (length words) budget image text) (sym same) rebuilds);
   }
 
-  pub rebuild_asks : {C One : Type 0} (seed_gives : C → ℕ → C → Type 0) (chance_gives : C → ℕ → One → C → Type 0) (draw_gives : One → ℕ → One → Type 0) (word_gives : C → ℕ → C → Type 0)
+  pub rebuild_asks : {C One : Type 0} (seed_gives : C → ℕ → C → Type 0) (chance_gives : C → ℕ → One → C → Type 0) (draw_gives : One → ℕ → One
+      → Type 0) (word_gives : C → ℕ → C → Type 0)
       (budget seed : ℕ) (old new : C) (put : Option (List ℕ)) (text : List ℕ)
       → IsSomeAnd put (λ image. RebuildAsks seed_gives chance_gives draw_gives word_gives (slice_index words) budget seed image text old new)
       → NamedRebuildAsks seed_gives chance_gives draw_gives word_gives contents name budget seed old new put text

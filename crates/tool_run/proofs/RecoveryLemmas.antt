@@ -54,7 +54,8 @@ module _ (words kinds bytes : List ℕ) (are : kinds ≡ first_kinds) (of : AreW
   pub formed_in : IsWellFormed (8 * length (current_words words kinds)) (slice_index (current_words words kinds)) → HoldsImage bytes
   formed_in formed = subst (λ (ws : List ℕ). IsWellFormed (8 * length ws) (slice_index ws)) current_in formed
 
-  good_words : HasGoodHeader (Some kind_count) (length bytes) (image_of_bytes bytes) → HasGoodHeader (Some kind_count) (8 * length words) (slice_index words)
+  good_words : HasGoodHeader (Some kind_count) (length bytes) (image_of_bytes bytes)
+      → HasGoodHeader (Some kind_count) (8 * length words) (slice_index words)
   good_words good = good_in_words (Some kind_count) words bytes of good
 
   -- why the bytes are not recovered
@@ -63,7 +64,8 @@ module _ (words kinds bytes : List ℕ) (are : kinds ≡ first_kinds) (of : AreW
   recovery_fault (Ok answer) good why = tt
   recovery_fault (Err Memory) good why = tt
   recovery_fault (Err (Header cause)) good why =
-      let none : header_fault (Some kind_count) (8 * length words) (slice_index words) ≡ None = no_fault (Some kind_count) (8 * length words) (slice_index words) (good_words good) in
+      let none : header_fault (Some kind_count) (8 * length words) (slice_index words) ≡ None =
+      no_fault (Some kind_count) (8 * length words) (slice_index words) (good_words good) in
       let some : header_fault (Some kind_count) (8 * length words) (slice_index words) ≡ Some cause = why in
       absurd (cc)
   recovery_fault (Err (Outside at value)) good why = (
@@ -75,10 +77,12 @@ module _ (words kinds bytes : List ℕ) (are : kinds ≡ first_kinds) (of : AreW
   module _ (good : HasGoodHeader (Some kind_count) (length bytes) (image_of_bytes bytes)) (few : All (λ kind. kind < kind_count) kinds)
       (now again : List ℕ) (now_is : now ≡ current_words words kinds) where
     formed_now : IsWellFormed (8 * length now) (slice_index now)
-    formed_now = subst (λ (ws : List ℕ). IsWellFormed (8 * length ws) (slice_index ws)) (sym now_is) (current_formed (Some kind_count) words kinds count (good_words good))
+    formed_now = subst (λ (ws : List ℕ). IsWellFormed (8 * length ws) (slice_index ws)) (sym now_is)
+        (current_formed (Some kind_count) words kinds count (good_words good))
 
     below_now : HasKindsBelow (Some kind_count) (slice_index now)
-    below_now = subst (λ (ws : List ℕ). HasKindsBelow (Some kind_count) (slice_index ws)) (sym now_is) (current_below (Some kind_count) words kinds count (good_words good) few)
+    below_now = subst (λ (ws : List ℕ). HasKindsBelow (Some kind_count) (slice_index ws)) (sym now_is)
+        (current_below (Some kind_count) words kinds count (good_words good) few)
 
     image_now : slice_index now ≡ image_in bytes
     image_now = ap (λ (ws : List ℕ). slice_index ws) now_is ∙ image_is
@@ -96,11 +100,13 @@ module _ (words kinds bytes : List ℕ) (are : kinds ≡ first_kinds) (of : AreW
     pub is_new : slice_index now version_word ≡ version
     is_new = formed_now.version_is
 
-    pub fault_now : (result : Result Recovered RecoverFault) → IfErr result (TellsFault (Some kind_count) now (current_words now again) dict_links) → IfErr result (IsRecoveryFault (image_in bytes))
+    pub fault_now : (result : Result Recovered RecoverFault) → IfErr result
+        (TellsFault (Some kind_count) now (current_words now again) dict_links) → IfErr result (IsRecoveryFault (image_in bytes))
     fault_now (Ok answer) why = tt
     fault_now (Err Memory) why = tt
     fault_now (Err (Header cause)) why =
-        let none : header_fault (Some kind_count) (8 * length now) (slice_index now) ≡ None = no_fault (Some kind_count) (8 * length now) (slice_index now) (inr (formed_now, below_now)) in
+        let none : header_fault (Some kind_count) (8 * length now) (slice_index now) ≡ None =
+        no_fault (Some kind_count) (8 * length now) (slice_index now) (inr (formed_now, below_now)) in
         let some : header_fault (Some kind_count) (8 * length now) (slice_index now) ≡ Some cause = why in
         absurd (cc)
     fault_now (Err (Outside at value)) why =

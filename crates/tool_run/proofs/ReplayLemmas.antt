@@ -21,11 +21,13 @@ pub can_be_replayed : (left : Option (List ℕ)) (schedule : Schedule) → HasSc
 can_be_replayed left schedule has = record {
   some = has.is.seats_are.some;
   few = has.is.seats_are.at_most_8;
-  below = λ line there. All-contains (λ (step : ℕ × Event). step.0 < schedule.seats) schedule.lines.items line (steps_of_seats schedule.seats has.is.further schedule.lines.items has.is.steps_are) there;
+  below = λ line there. All-contains (λ (step : ℕ × Event). step.0 < schedule.seats) schedule.lines.items line
+      (steps_of_seats schedule.seats has.is.further schedule.lines.items has.is.steps_are) there;
 }
 
 -- by then the source was read
-pub was_read : (contents : Contents) (left : Option (List ℕ)) (name : List ℕ) (seed : ℕ) (B : Type 0) (fault : Fault) → IsReplayFault contents left name B fault → IsBeforeReading (replay_image name seed) fault → ⊥
+pub was_read : (contents : Contents) (left : Option (List ℕ)) (name : List ℕ) (seed : ℕ) (B : Type 0) (fault : Fault)
+    → IsReplayFault contents left name B fault → IsBeforeReading (replay_image name seed) fault → ⊥
 was_read contents left name seed B Usage why before = why
 was_read contents left name seed B Memory why before = before
 was_read contents left name seed B ReadFault why before = before
@@ -48,14 +50,16 @@ module _ (contents : Contents) (name : List ℕ) (recovered : Recovered) (is : I
   }
 
   -- what was refused once the image was good
-  pub refused_later : (left : Option (List ℕ)) (seed : ℕ) (A B : Type 0) (fault cause : Fault) → fault ≡ cause → IsReplayFault contents left name B cause
+  pub refused_later : (left : Option (List ℕ)) (seed : ℕ) (A B : Type 0) (fault cause : Fault) → fault ≡ cause
+      → IsReplayFault contents left name B cause
       → RefusesEither (replay_image name seed) contents left A B fault
   refused_later left seed A B fault cause same why =
       inr (inr (record { replays = tt; image = heap_of.image; why = subst (λ (f : Fault). IsReplayFault contents left name B f) (sym same) why }))
 
   -- and what a replay leaves
   pub replay_fault : (left : Option (List ℕ)) (B : Type 0) (schedule : Schedule) → HasSchedule left schedule → (cause : ReplayFault)
-      → StopsReplay recovered.heap.words recovered.heap.held schedule.seats schedule.lines.items cause → IsReplayFault contents left name B (fault_of_replay cause)
+      → StopsReplay recovered.heap.words recovered.heap.held schedule.seats schedule.lines.items cause
+      → IsReplayFault contents left name B (fault_of_replay cause)
   replay_fault left B schedule has (OutsideLeft at value) leaves = record {
     words = recovered.heap.words;
     held = recovered.heap.held;

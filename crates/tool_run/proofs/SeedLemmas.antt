@@ -27,22 +27,27 @@ pub refused_is_not_cut_off : (command : Command) (contents : Contents) (left : O
     → fault ≡ cause → RefusesEither command contents left A B cause → status_of fault ≡ write_fault → ⊥
 refused_is_not_cut_off command contents left A B fault cause is why cut = not_cut_off command contents left A B cause why (ap status_of (sym is) ∙ cut)
 
-module _ {C One : Type 0} (seed_gives : C → ℕ → C → Type 0) (chance_gives : C → ℕ → One → C → Type 0) (word_gives : C → ℕ → C → Type 0) (words : List (List ℕ)) (command other : Command) (old new : C)
+module _ {C One : Type 0} (seed_gives : C → ℕ → C → Type 0) (chance_gives : C → ℕ → One → C → Type 0) (word_gives : C → ℕ → C → Type 0)
+    (words : List (List ℕ)) (command other : Command) (old new : C)
     (asked : Asks words command) (asks : Asks words other) where
   -- words ask for one command, and so for one seed
-  pub by_its_seed : BeginBy seed_gives chance_gives word_gives (seed_of command) old new → BeginBy seed_gives chance_gives word_gives (seed_of other) old new
-  by_its_seed begun = subst (λ (c : Command). BeginBy seed_gives chance_gives word_gives (seed_of c) old new) (one_command words command other asked asks) begun
+  pub by_its_seed : BeginBy seed_gives chance_gives word_gives (seed_of command) old new
+      → BeginBy seed_gives chance_gives word_gives (seed_of other) old new
+  by_its_seed begun = subst (λ (c : Command). BeginBy seed_gives chance_gives word_gives (seed_of c) old new)
+      (one_command words command other asked asks) begun
 
   -- and so for what is asked
   pub by_its_command : (draw_gives : One → ℕ → One → Type 0) (before after : Contents) (left taken taken' : Option (List ℕ))
       → IsDoneWith (image_name command) before after taken taken' (AsksOf seed_gives chance_gives draw_gives word_gives command before left old new)
       → IsDoneWith (image_name other) before after taken taken' (AsksOf seed_gives chance_gives draw_gives word_gives other before left old new)
   by_its_command draw_gives before after left taken taken' asks_so =
-      subst (λ (c : Command). IsDoneWith (image_name c) before after taken taken' (AsksOf seed_gives chance_gives draw_gives word_gives c before left old new))
+      subst (λ (c : Command). IsDoneWith (image_name c) before after taken taken'
+      (AsksOf seed_gives chance_gives draw_gives word_gives c before left old new))
       (one_command words command other asked asks) asks_so
 
   -- also where the result was cut off
-  pub cut_off_by_its_seed : (status : ℕ) (fault : Fault) → status ≡ status_of fault → (status_of fault ≡ write_fault → BeginBy seed_gives chance_gives word_gives (seed_of command) old new)
+  pub cut_off_by_its_seed : (status : ℕ) (fault : Fault) → status ≡ status_of fault
+      → (status_of fault ≡ write_fault → BeginBy seed_gives chance_gives word_gives (seed_of command) old new)
       → (status ≡ done) ⊎ (status ≡ write_fault) → BeginBy seed_gives chance_gives word_gives (seed_of other) old new
   cut_off_by_its_seed status fault is begun (inl delivered) = absurd (not_done fault (sym is ∙ delivered))
   cut_off_by_its_seed status fault is begun (inr cut) = by_its_seed (begun (sym is ∙ cut))
@@ -52,12 +57,14 @@ pub memory_is_later : (command : Command) (fault : Fault) → fault ≡ Memory �
 memory_is_later command fault is before = subst (IsBeforeSeeding command) is before
 
 -- and so they have where a replay itself made nothing
-pub replay_is_later : (name : List ℕ) (seed : ℕ) (cause : ReplayFault) (fault : Fault) → fault ≡ fault_of_replay cause → IsBeforeSeeding (replay_image name seed) fault → ⊥
+pub replay_is_later : (name : List ℕ) (seed : ℕ) (cause : ReplayFault) (fault : Fault) → fault ≡ fault_of_replay cause
+    → IsBeforeSeeding (replay_image name seed) fault → ⊥
 replay_is_later name seed (OutsideLeft at value) fault is before = subst (IsBeforeSeeding (replay_image name seed)) is before tt
 replay_is_later name seed ReplayMemory fault is before = subst (IsBeforeSeeding (replay_image name seed)) is before
 
 -- by such a status they had not begun
-pub before_seeding : (words : List (List ℕ)) (command : Command) (status : ℕ) (fault : Fault) → Asks words command → status ≡ status_of fault → LeavesChances status
+pub before_seeding : (words : List (List ℕ)) (command : Command) (status : ℕ) (fault : Fault) → Asks words command → status ≡ status_of fault
+    → LeavesChances status
     → (status ≡ outside → (name : List ℕ) → ¬ (AsksForReplay words name)) → IsBeforeSeeding command fault
 before_seeding words command status Usage asked is leaves no_replay = tt
 before_seeding words command status Memory asked is leaves no_replay = leaves.had_memory is
@@ -65,7 +72,8 @@ before_seeding words command status ReadFault asked is leaves no_replay = tt
 before_seeding words command status WriteFault asked is leaves no_replay = leaves.not_put is
 before_seeding words command status Absent asked is leaves no_replay = tt
 before_seeding words command status (Malformed cause) asked is leaves no_replay = tt
-before_seeding words command status (Outside at value) asked is leaves no_replay = λ replays. no_replay is (image_name command) (for_replay words command replays asked)
+before_seeding words command status (Outside at value) asked is leaves no_replay =
+    λ replays. no_replay is (image_name command) (for_replay words command replays asked)
 before_seeding words command status (BadShard shard at) asked is leaves no_replay = tt
 before_seeding words command status (BadLine line) asked is leaves no_replay = tt
 before_seeding words command status (BadStep line) asked is leaves no_replay = tt

@@ -26,7 +26,8 @@ has_status (BadStep line) status is = rw is (9, lit< tt, refl)
 has_status TooLong status is = rw is (9, lit< tt, refl)
 
 -- a line that tells, where the count and what was taken go by other names
-pub tells_since : (line : List ℕ) (first second third : ℕ) (taken mid new : Option (List ℕ)) → second ≡ first → mid ≡ taken → Tells line second third mid new → Tells line first third taken new
+pub tells_since : (line : List ℕ) (first second third : ℕ) (taken mid new : Option (List ℕ)) → second ≡ first → mid ≡ taken
+    → Tells line second third mid new → Tells line first third taken new
 tells_since line first second third taken mid new stood same told =
     subst (λ n. Tells line n third taken new) stood (subst (λ (m : Option (List ℕ)). Tells line second third m new) same told)
 
@@ -58,10 +59,12 @@ for_replay words (replay_image image seed) replays asked = record { seed = seed;
 pub for_source : (words : List (List ℕ)) (command : Command) → ReadsSource command → Asks words command → AsksForSource words (image_name command)
 for_source words command reads asked = record { command = command; asked = asked; reads = reads; is_named = refl }
 
-module _ (words : List (List ℕ)) (command : Command) (old new : Contents) (left : Option (List ℕ)) (store_failed source_failed : Type 0) (first second third : ℕ) (taken mid final : Option (List ℕ))
+module _ (words : List (List ℕ)) (command : Command) (old new : Contents) (left : Option (List ℕ)) (store_failed source_failed : Type 0)
+    (first second third : ℕ) (taken mid final : Option (List ℕ))
     (status : ℕ) (asked : Asks words command) (low : first ≤ second) (high : second ≤ third) (stood : status ≢ write_fault → second ≡ first) where
   -- the outside failed while something was read
-  pub is_read_fault : (fault : Fault) → IsStopped command old new left store_failed source_failed first second taken mid fault → status ≡ status_of fault
+  pub is_read_fault : (fault : Fault) → IsStopped command old new left store_failed source_failed first second taken mid fault
+      → status ≡ status_of fault
       → status ≡ read_fault → IsReadFault words old store_failed source_failed
   is_read_fault ReadFault stopped is four = elim stopped.cause [
     | inl (inl why, same) ↦ at_image (image_name command) (record { command = command; asked = asked; gets = why.0; is_named = refl }) why.1
@@ -72,7 +75,8 @@ module _ (words : List (List ℕ)) (command : Command) (old new : Contents) (lef
   is_read_fault other stopped is four = absurd (omega arith)
 
   -- the result was cut off
-  pub is_write_fault : (fault : Fault) (name : List ℕ) → IsStopped command old new left store_failed source_failed first second taken mid fault → status ≡ status_of fault
+  pub is_write_fault : (fault : Fault) (name : List ℕ) → IsStopped command old new left store_failed source_failed first second taken mid fault
+      → status ≡ status_of fault
       → Tells (line_of fault name) second third mid final
       → status ≡ write_fault → IsWriteFault words old new left store_failed first third taken final
   is_write_fault WriteFault name stopped is told five = elim stopped.cause [
@@ -95,7 +99,8 @@ module _ (words : List (List ℕ)) (command : Command) (old new : Contents) (lef
   is_write_fault other name stopped is told five = absurd (omega arith)
 
   -- the image has a malformed header
-  pub is_bad_header : (fault : Fault) (name : List ℕ) → IsStopped command old new left store_failed source_failed first second taken mid fault → status ≡ status_of fault
+  pub is_bad_header : (fault : Fault) (name : List ℕ) → IsStopped command old new left store_failed source_failed first second taken mid fault
+      → status ≡ status_of fault
       → Tells (line_of fault name) second third mid final
       → status ≡ bad_header → IsBadHeader words old (λ line. Tells line first third taken final)
   is_bad_header (Malformed cause) name stopped is told seven = elim stopped.cause [
@@ -113,11 +118,13 @@ module _ (words : List (List ℕ)) (command : Command) (old new : Contents) (lef
   is_bad_header other name stopped is told seven = absurd (omega arith)
 
   -- a word points outside, in the image or in what a crash leaves of a replay
-  pub is_outside : (fault : Fault) (name : List ℕ) → IsStopped command old new left store_failed source_failed first second taken mid fault → status ≡ status_of fault
+  pub is_outside : (fault : Fault) (name : List ℕ) → IsStopped command old new left store_failed source_failed first second taken mid fault
+      → status ≡ status_of fault
       → Tells (line_of fault name) second third mid final
       → status ≡ outside → IsOutsideAt words old left (λ line. Tells line first third taken final)
   is_outside (Outside at value) name stopped is told eight = elim stopped.cause [
-    | inl (inl why, same) ↦ in_image (image_name command) at value (record { command = command; asked = asked; gets = refuses_gets command why.0.bytes why.1; is_named = refl }) why.0 why.1
+    | inl (inl why, same) ↦ in_image (image_name command) at value
+        (record { command = command; asked = asked; gets = refuses_gets command why.0.bytes why.1; is_named = refl }) why.0 why.1
         (tells_since (line_of (Outside at value) name) first second third taken mid final (stood (λ five. absurd (omega arith))) same.sink told)
     | inl (inr (inl trace), same) ↦ absurd trace.why
     | inl (inr (inr replay), same) ↦ in_image_left (image_name command) at value (for_replay words command replay.replays asked) replay.why
@@ -127,7 +134,8 @@ module _ (words : List (List ℕ)) (command : Command) (old new : Contents) (lef
   is_outside other name stopped is told eight = absurd (omega arith)
 
   -- a shard of the image has no map
-  pub is_bad_shard : (fault : Fault) (name : List ℕ) → IsStopped command old new left store_failed source_failed first second taken mid fault → status ≡ status_of fault
+  pub is_bad_shard : (fault : Fault) (name : List ℕ) → IsStopped command old new left store_failed source_failed first second taken mid fault
+      → status ≡ status_of fault
       → Tells (line_of fault name) second third mid final
       → status ≡ bad_shard → IsBadShardAt words old (λ line. Tells line first third taken final)
   is_bad_shard (BadShard shard at) name stopped is told nine = elim stopped.cause [
@@ -146,7 +154,8 @@ module _ (words : List (List ℕ)) (command : Command) (old new : Contents) (lef
   is_bad_shard other name stopped is told nine = absurd (omega arith)
 
   -- there is no such image
-  pub is_absent : (fault : Fault) (name : List ℕ) → name ≡ image_name command → IsStopped command old new left store_failed source_failed first second taken mid fault → status ≡ status_of fault
+  pub is_absent : (fault : Fault) (name : List ℕ) → name ≡ image_name command
+      → IsStopped command old new left store_failed source_failed first second taken mid fault → status ≡ status_of fault
       → Tells (line_of fault name) second third mid final
       → status ≡ no_image → IsAbsent words old (λ line. Tells line first third taken final)
   is_absent Absent name named stopped is told six = elim stopped.cause [
@@ -154,7 +163,8 @@ module _ (words : List (List ℕ)) (command : Command) (old new : Contents) (lef
       name = image_name command;
       asks = record { command = command; asked = asked; gets = why.0; is_named = refl };
       lacks = why.1;
-      told = subst (λ (n : List ℕ). Tells (line_of Absent n) first third taken final) named (tells_since (line_of Absent name) first second third taken mid final (stood (λ five. absurd (omega arith))) same.sink told);
+      told = subst (λ (n : List ℕ). Tells (line_of Absent n) first third taken final) named
+          (tells_since (line_of Absent name) first second third taken mid final (stood (λ five. absurd (omega arith))) same.sink told);
     }
     | inl (inr (inl trace), same) ↦ absurd trace.why
     | inl (inr (inr replay), same) ↦ absurd replay.why
@@ -163,7 +173,8 @@ module _ (words : List (List ℕ)) (command : Command) (old new : Contents) (lef
   is_absent other name named stopped is told six = absurd (omega arith)
 
   -- the line of a status that has one line alone
-  own_told : (fault : Fault) (name : List ℕ) → IsStopped command old new left store_failed source_failed first second taken mid fault → status ≡ status_of fault
+  own_told : (fault : Fault) (name : List ℕ) → IsStopped command old new left store_failed source_failed first second taken mid fault
+      → status ≡ status_of fault
       → Tells (line_of fault name) second third mid final → IfSome (own_line (status_of fault)) (λ line. Tells line first third taken final)
   own_told Usage name stopped is told = elim stopped.cause [
     | inl (inl why, same) ↦ absurd why
@@ -173,7 +184,8 @@ module _ (words : List (List ℕ)) (command : Command) (old new : Contents) (lef
   ]
   own_told Memory name stopped is told = elim stopped.cause [
     | inl (why, same) ↦ tells_since (line_of Memory name) first second third taken mid final (stood (λ five. absurd (omega arith))) same.sink told
-    | inr (image, text, made, why) ↦ tells_since (line_of Memory name) first second third taken mid final (stood (λ five. absurd (omega arith))) why.sink told
+    | inr (image, text, made, why) ↦ tells_since (line_of Memory name) first second third taken mid final
+        (stood (λ five. absurd (omega arith))) why.sink told
   ]
   own_told ReadFault name stopped is told = elim stopped.cause [
     | inl (why, same) ↦ tells_since (line_of ReadFault name) first second third taken mid final (stood (λ five. absurd (omega arith))) same.sink told
@@ -181,13 +193,15 @@ module _ (words : List (List ℕ)) (command : Command) (old new : Contents) (lef
   ]
   own_told other name stopped is told = tt
 
-  pub is_own_line : (fault : Fault) (name : List ℕ) → IsStopped command old new left store_failed source_failed first second taken mid fault → status ≡ status_of fault
+  pub is_own_line : (fault : Fault) (name : List ℕ) → IsStopped command old new left store_failed source_failed first second taken mid fault
+      → status ≡ status_of fault
       → Tells (line_of fault name) second third mid final → IfSome (own_line status) (λ line. Tells line first third taken final)
   is_own_line fault name stopped is told =
       subst (λ n. IfSome (own_line n) (λ line. Tells line first third taken final)) (sym is) (own_told fault name stopped is told)
 
   -- the trace is refused
-  pub is_bad_trace : (fault : Fault) (name : List ℕ) → IsStopped command old new left store_failed source_failed first second taken mid fault → status ≡ status_of fault
+  pub is_bad_trace : (fault : Fault) (name : List ℕ) → IsStopped command old new left store_failed source_failed first second taken mid fault
+      → status ≡ status_of fault
       → Tells (line_of fault name) second third mid final
       → status ≡ bad_trace → IsBadTrace words old left (λ line. Tells line first third taken final)
   is_bad_trace (BadLine line) name stopped is told ten = elim stopped.cause [
@@ -215,7 +229,8 @@ module _ (words : List (List ℕ)) (command : Command) (old new : Contents) (lef
   is_bad_trace other name stopped is told ten = absurd (omega arith)
 
 -- a status of words or an image that were refused
-early : (status i : ℕ) → i < 5 → get_or (usage ∷ no_image ∷ bad_header ∷ outside ∷ bad_shard ∷ []) i status ≡ status → (status ≡ usage) ⊎ ((no_image ≤ status) × (status ≤ bad_shard))
+early : (status i : ℕ) → i < 5 → get_or (usage ∷ no_image ∷ bad_header ∷ outside ∷ bad_shard ∷ []) i status ≡ status
+    → (status ≡ usage) ⊎ ((no_image ≤ status) × (status ≤ bad_shard))
 early status zero below is = inl (sym is)
 early status (suc zero) below is = inr (let e : 6 ≡ status = is in omega arith, let e : 6 ≡ status = is in omega arith)
 early status (suc (suc zero)) below is = inr (let e : 7 ≡ status = is in omega arith, let e : 7 ≡ status = is in omega arith)
@@ -233,7 +248,8 @@ too_late status n before is low high = elim (early status before.among.0 before.
 ]
 
 -- by such a status nothing was read from the source
-pub before_reading : (words : List (List ℕ)) (command : Command) (status : ℕ) (fault : Fault) → Asks words command → status ≡ status_of fault → IsBeforeTrace status
+pub before_reading : (words : List (List ℕ)) (command : Command) (status : ℕ) (fault : Fault) → Asks words command → status ≡ status_of fault
+    → IsBeforeTrace status
     → (status ≡ outside → (name : List ℕ) → ¬ (AsksForReplay words name)) → IsBeforeReading command fault
 before_reading words command status Usage asked is before no_replay = tt
 before_reading words command status Memory asked is before no_replay = too_late status 3 before is (omega arith) (inl (omega arith))
@@ -241,7 +257,8 @@ before_reading words command status ReadFault asked is before no_replay = too_la
 before_reading words command status WriteFault asked is before no_replay = too_late status 5 before is (omega arith) (inl (omega arith))
 before_reading words command status Absent asked is before no_replay = tt
 before_reading words command status (Malformed cause) asked is before no_replay = tt
-before_reading words command status (Outside at value) asked is before no_replay = λ replays. no_replay is (image_name command) (for_replay words command replays asked)
+before_reading words command status (Outside at value) asked is before no_replay =
+    λ replays. no_replay is (image_name command) (for_replay words command replays asked)
 before_reading words command status (BadShard shard at) asked is before no_replay = tt
 before_reading words command status (BadLine line) asked is before no_replay = too_late status 10 before is (omega arith) (inr (omega arith))
 before_reading words command status (BadStep line) asked is before no_replay = too_late status 10 before is (omega arith) (inr (omega arith))

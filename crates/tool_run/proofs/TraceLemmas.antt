@@ -23,8 +23,12 @@ read_all_left : (bytes : List ℕ) (now : Option (List ℕ)) → IsAtEnd now →
 read_all_left bytes None end = tt
 read_all_left bytes (Some rest) end = subst (λ (l : List ℕ). bytes ++ l ≡ bytes) (sym end) (append-nil bytes)
 
-pub trace_read : (old now : Option (List ℕ)) (bytes : List ℕ) → old ≡ left_before bytes now → IsAtEnd now → length bytes ≤ longest_trace → HasTrace old bytes
-trace_read old now bytes is end short = record { all = subst (λ (o : Option (List ℕ)). HasLeft o bytes) (sym is) (read_all_left bytes now end); short = short }
+pub trace_read : (old now : Option (List ℕ)) (bytes : List ℕ) → old ≡ left_before bytes now → IsAtEnd now → length bytes ≤ longest_trace
+    → HasTrace old bytes
+trace_read old now bytes is end short = record {
+  all = subst (λ (o : Option (List ℕ)). HasLeft o bytes) (sym is) (read_all_left bytes now end);
+  short = short;
+}
 
 -- a source that gave more than the longest trace had more
 gave_more : (bytes : List ℕ) (now : Option (List ℕ)) → longest_trace < length bytes → HasTooMuch (left_before bytes now)
@@ -37,8 +41,10 @@ gave_too_much old now gives =
     subst HasTooMuch (sym gives.given) (gave_more gives.bytes now (omega arith))
 
 -- a run over what recovery makes of a named image is one over that image
-pub runs_trace : (contents : Contents) (left : Option (List ℕ)) (name words : List ℕ) (held : List Block) → IsMapped contents name words held → (lines : List Line) → IsTraceLeft left lines
-    → (options : Options) (put : Option (List ℕ)) (text : List ℕ) → IsSomeAnd put (λ image. RunsRequests (slice_index words) (requests_of lines) options image text)
+pub runs_trace : (contents : Contents) (left : Option (List ℕ)) (name words : List ℕ) (held : List Block) → IsMapped contents name words held
+    → (lines : List Line) → IsTraceLeft left lines
+    → (options : Options) (put : Option (List ℕ)) (text : List ℕ) → IsSomeAnd put
+    (λ image. RunsRequests (slice_index words) (requests_of lines) options image text)
     → RunsTrace contents left name options put text
 runs_trace contents left name words held heap lines trace options None text runs = absurd runs
 runs_trace contents left name words held heap lines trace options (Some image) text runs = record {
@@ -54,7 +60,8 @@ runs_trace contents left name words held heap lines trace options (Some image) t
 
 -- a run over that heap asks its chances what one over the image asks
 pub run_asks : {C One : Type 0} (seed_gives : C → ℕ → C → Type 0) (chance_gives : C → ℕ → One → C → Type 0) (word_gives : C → ℕ → C → Type 0)
-    (contents : Contents) (name words : List ℕ) (held : List Block) → IsMapped contents name words held → (options : Options) (old new : C) (put : Option (List ℕ))
+    (contents : Contents) (name words : List ℕ) (held : List Block) → IsMapped contents name words held
+    → (options : Options) (old new : C) (put : Option (List ℕ))
     → IsSomeAnd put (λ image. RunAsks seed_gives chance_gives word_gives (slice_index words) options image old new)
     → NamedRunAsks seed_gives chance_gives word_gives contents name options old new put
 run_asks seed_gives chance_gives word_gives contents name words held is options old new None asks = absurd asks

@@ -27,7 +27,8 @@ pub record NamedRunAsks {C One : Type 0} (seed_gives : C → ℕ → C → Type 
   pub asks : RunAsks seed_gives chance_gives word_gives (image_in bytes) options image old new
 
 -- of a rebuild of a named image, with so many steps, that puts these bytes and prints this text
-pub record NamedRebuildAsks {C One : Type 0} (seed_gives : C → ℕ → C → Type 0) (chance_gives : C → ℕ → One → C → Type 0) (draw_gives : One → ℕ → One → Type 0) (word_gives : C → ℕ → C → Type 0)
+pub record NamedRebuildAsks {C One : Type 0} (seed_gives : C → ℕ → C → Type 0) (chance_gives : C → ℕ → One → C → Type 0) (draw_gives : One → ℕ
+    → One → Type 0) (word_gives : C → ℕ → C → Type 0)
     (contents : Contents) (name : List ℕ) (budget seed : ℕ) (old new : C) (put : Option (List ℕ)) (text : List ℕ) : Type 0 where
   pub bytes : List ℕ
   pub is_there : Holds contents name bytes
@@ -36,7 +37,8 @@ pub record NamedRebuildAsks {C One : Type 0} (seed_gives : C → ℕ → C → T
   pub asks : RebuildAsks seed_gives chance_gives draw_gives word_gives (image_in bytes) budget seed image text old new
 
 -- of a replay over a named image of the schedule that the source has left, which prints this text
-pub record NamedReplayAsks {C : Type 0} (seed_gives word_gives : C → ℕ → C → Type 0) (contents : Contents) (left : Option (List ℕ)) (name : List ℕ) (seed : ℕ)
+pub record NamedReplayAsks {C : Type 0} (seed_gives word_gives : C → ℕ → C → Type 0) (contents : Contents) (left : Option (List ℕ))
+    (name : List ℕ) (seed : ℕ)
     (old new : C) (text : List ℕ) : Type 0 where
   pub words : List ℕ
   pub held : List Block
@@ -45,13 +47,16 @@ pub record NamedReplayAsks {C : Type 0} (seed_gives word_gives : C → ℕ → C
   pub has_schedule : HasSchedule left schedule
   pub asks : ReplayAsks seed_gives word_gives words held schedule.seats schedule.lines.items seed text old new
 
--- What the chances of a command are asked for, from the old ones to the new, where it puts these bytes, if any, and prints this text. A command that has no seed
+-- What the chances of a command are asked for, from the old ones to the new, where it puts these bytes, if any, and
+-- prints this text. A command that has no seed
 -- asks for nothing.
-abbrev pub AsksOf : {C One : Type 0} → (C → ℕ → C → Type 0) → (C → ℕ → One → C → Type 0) → (One → ℕ → One → Type 0) → (C → ℕ → C → Type 0) → Command → Contents → Option (List ℕ) → C → C
+abbrev pub AsksOf : {C One : Type 0} → (C → ℕ → C → Type 0) → (C → ℕ → One → C → Type 0) → (One → ℕ → One → Type 0) → (C → ℕ → C → Type 0)
+    → Command → Contents → Option (List ℕ) → C → C
     → Option (List ℕ) → List ℕ → Type 0
 AsksOf seed_gives chance_gives draw_gives word_gives (format_image image capacity) contents left old new put text = new ≡ old
 AsksOf seed_gives chance_gives draw_gives word_gives (show_image image with_map in_parallel) contents left old new put text = new ≡ old
-AsksOf seed_gives chance_gives draw_gives word_gives (drain_image image class) contents left old new put text = DrainAsks seed_gives chance_gives old new
+AsksOf seed_gives chance_gives draw_gives word_gives (drain_image image class) contents left old new put text =
+    DrainAsks seed_gives chance_gives old new
 AsksOf seed_gives chance_gives draw_gives word_gives (gen_trace requests seed) contents left old new put text = new ≡ old
 AsksOf seed_gives chance_gives draw_gives word_gives (run_image image options) contents left old new put text =
     NamedRunAsks seed_gives chance_gives word_gives contents image options old new put

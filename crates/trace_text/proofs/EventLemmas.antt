@@ -81,7 +81,8 @@ pub record IsCut (verb numbers first rest : List ℕ) : Type 0 where
   pub first_is : first ≡ verb
   pub rest_is : rest ≡ decimal n ++ spaced others
 
-cut_once : (verb numbers words first rest : List ℕ) → words ≡ verb ++ spaced numbers → IsWord verb → words ≡ first ++ 32 ∷ rest → IsWord first → IsCut verb numbers first rest
+cut_once : (verb numbers words first rest : List ℕ) → words ≡ verb ++ spaced numbers → IsWord verb → words ≡ first ++ 32 ∷ rest → IsWord first
+    → IsCut verb numbers first rest
 cut_once verb [] words first rest are is_verb cut is_first =
     let same : verb ≡ first ++ 32 ∷ rest = sym (append-nil verb) ∙ sym are ∙ cut in
     absurd (has_separator 32 first rest (subst (λ l. IsWord l) same is_verb))
@@ -120,7 +121,8 @@ two_numbers numbers m (n ∷ k ∷ others) rest first second are fit few rest_is
     absurd (omega arith)
 
 -- and one whose words have another space has two
-two_numbers_behind : (words verb rest first second : List ℕ) (event : Event) → words ≡ verb ++ 32 ∷ rest → IsWord verb → rest ≡ first ++ 32 ∷ second → IsWord first
+two_numbers_behind : (words verb rest first second : List ℕ) (event : Event) → words ≡ verb ++ 32 ∷ rest → IsWord verb
+    → rest ≡ first ++ 32 ∷ second → IsWord first
     → IsEventWords words event
     → (m : ℕ) × (n : ℕ) × (verb ≡ (parts_of event).0) × (m ∷ n ∷ [] ≡ (parts_of event).1) × IsNumber first m × IsNumber second n
 two_numbers_behind words verb rest first second event cut is_verb cut_again is_first is =
@@ -154,13 +156,15 @@ read_one words verb rest n None cut is_verb is_rest is_n reads = λ event is.
     let parts = one_number_behind words verb rest event cut is_verb is_rest is in
     reads event parts.1 (ap (λ k. k ∷ []) (one_number rest n parts.0 is_n parts.3) ∙ parts.2)
 
-pub no_one : (words verb rest : List ℕ) → words ≡ verb ++ 32 ∷ rest → IsWord verb → IsWord rest → WritesNothing IsNumber rest → WritesNothing IsEventWords words
+pub no_one : (words verb rest : List ℕ) → words ≡ verb ++ 32 ∷ rest → IsWord verb → IsWord rest → WritesNothing IsNumber rest
+    → WritesNothing IsEventWords words
 no_one words verb rest cut is_verb is_rest none event is =
     let parts = one_number_behind words verb rest event cut is_verb is_rest is in
     none parts.0 parts.3
 
 -- and words with another one as a verb and two numbers
-pub read_two : (words verb rest first second : List ℕ) (m n : ℕ) (r : Option Event) → words ≡ verb ++ 32 ∷ rest → IsWord verb → rest ≡ first ++ 32 ∷ second → IsWord first
+pub read_two : (words verb rest first second : List ℕ) (m n : ℕ) (r : Option Event) → words ≡ verb ++ 32 ∷ rest → IsWord verb
+    → rest ≡ first ++ 32 ∷ second → IsWord first
     → IsNumber first m → IsNumber second n → IsPartsReading verb (m ∷ n ∷ []) r → IsReadAs IsEventWords words r
 read_two words verb rest first second m n (Some event) cut is_verb cut_again is_first is_m is_n reads =
     let last : second ≡ decimal n ++ [] = is_n.1 ∙ sym (append-nil (decimal n)) in

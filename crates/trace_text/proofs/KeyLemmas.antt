@@ -6,7 +6,8 @@ use Rattle.std.proofs.lemmas.List.{get_or-map, length-map}
 use denote.Ref.{Bor}
 use Rattle.trace_text.specs.Shown.{shown}
 
-pub ascending_shown : (xs : List (ℕ × Bor (List ℕ))) → IsNonDecreasingBy (λ (e : ℕ × Bor (List ℕ)). e.0) xs → IsNonDecreasingBy (λ (e : ℕ × List ℕ). e.0) (map shown xs)
+pub ascending_shown : (xs : List (ℕ × Bor (List ℕ))) → IsNonDecreasingBy (λ (e : ℕ × Bor (List ℕ)). e.0) xs
+    → IsNonDecreasingBy (λ (e : ℕ × List ℕ). e.0) (map shown xs)
 ascending_shown [] rising i j d low below = absurd (omega arith)
 ascending_shown (x ∷ xs) rising i j d low below =
     let long : length (map shown (x ∷ xs)) ≡ length (x ∷ xs) = length-map (x ∷ xs) shown in

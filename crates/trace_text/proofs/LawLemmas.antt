@@ -23,7 +23,8 @@ begun_counted : (l : Layout) (b : Block) (d words count : ℕ) → l.used ≤ l.
 begun_counted l b d words count short size (of_class class info is) = in_class class is size
 begun_counted l b d words count short size (as_large n some info end zeros) = counted_as_large n some (omega arith) size
 
-pub block_counted : (words : List ℕ) (held : List Block) (b : Block) → IsReady words held → Contains held b → IsCounted (capacity_of (slice_index words)) b
+pub block_counted : (words : List ℕ) (held : List Block) (b : Block) → IsReady words held → Contains held b
+    → IsCounted (capacity_of (slice_index words)) b
 block_counted words held b ready among =
     let is = ready.blocks b among in
     begun_counted (layout_of (slice_index words)) b is.superblock is.words is.count ready.formed.used is.is_of.size is.is_of.begins
@@ -33,9 +34,11 @@ pub class_begins_in : (capacity class d index : ℕ) (b : Block) → IsClass cla
 class_begins_in capacity class d index b is of =
     let short = block_offset class index is of.below in
     let at = of.at in
-    both (nat_le (start_word capacity d) b.first_word) (nat_lt b.first_word (start_word capacity (d + 1))) (le-leb _ _ (omega arith)) (lt-ltb _ _ (omega arith))
+    both (nat_le (start_word capacity d) b.first_word) (nat_lt b.first_word (start_word capacity (d + 1))) (le-leb _ _ (omega arith))
+    (lt-ltb _ _ (omega arith))
 
-pub class_index : (capacity class d index : ℕ) (b : Block) → IsClass class → IsBlockOfClass capacity class d index b → index_of capacity class d b ≡ index
+pub class_index : (capacity class d index : ℕ) (b : Block) → IsClass class → IsBlockOfClass capacity class d index b
+    → index_of capacity class d b ≡ index
 class_index capacity class d index b is of =
     let two = two_words class is in
     let at = of.at in

@@ -13,7 +13,8 @@ lines_of-more c rest other = ap (λ b. cond b ([] ∷ lines_of rest) (onto_first
 pub lines_of-ended : (line rest : List ℕ) → All (λ b. b ≢ 10) line → lines_of (line ++ 10 ∷ rest) ≡ line ∷ lines_of rest
 lines_of-ended [] rest plain = refl
 lines_of-ended (c ∷ line) rest plain =
-    lines_of-more c (line ++ 10 ∷ rest) (All-head (λ b. b ≢ 10) c line plain) ∙ ap (onto_first c) (lines_of-ended line rest (All-tail (λ b. b ≢ 10) c line plain))
+    lines_of-more c (line ++ 10 ∷ rest) (All-head (λ b. b ≢ 10) c line plain)
+    ∙ ap (onto_first c) (lines_of-ended line rest (All-tail (λ b. b ≢ 10) c line plain))
 
 -- the last line may lack its line feed
 pub lines_of-last : (line : List ℕ) → 0 < length line → All (λ b. b ≢ 10) line → lines_of line ≡ line ∷ []

@@ -44,7 +44,8 @@ numbers_of-earlier n first last is fits =
 numbers_by_test : (n : ℕ) (next : Run) (runs : List Run) (goes_on : Bool) → nat_eq next.first (n + 1) ≡ goes_on → AreSeparate (next ∷ runs)
     → flat_map numbers_of (cond goes_on (from_to n next.last ∷ runs) (single n ∷ next ∷ runs)) ≡ n ∷ flat_map numbers_of (next ∷ runs)
 numbers_by_test n next runs true test sep =
-    ap (λ (l : List ℕ). l ++ flat_map numbers_of runs) (numbers_of-earlier n next.first next.last (eqb-true next.first (n + 1) test) (first_fits next runs sep))
+    ap (λ (l : List ℕ). l ++ flat_map numbers_of runs) (numbers_of-earlier n next.first next.last (eqb-true next.first (n + 1) test)
+    (first_fits next runs sep))
 numbers_by_test n next runs false test sep = ap (λ (l : List ℕ). l ++ flat_map numbers_of (next ∷ runs)) (numbers_of-single n)
 
 with_run_numbers : (n : ℕ) (runs : List Run) → AreSeparate runs → flat_map numbers_of (with_run (single n) runs) ≡ n ∷ flat_map numbers_of runs

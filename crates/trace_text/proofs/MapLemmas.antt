@@ -65,7 +65,8 @@ use_if-large image held d superblocks some info =
     both (nat_le 511 (image (info_word d))) (nat_eq (image (info_word d) % 256) 255) (le-leb 511 _ (omega arith)) (eq-eqb _ 255 rest) in
     rw (other, test) (ap large_use count)
 
-pub use_of-free : (image : Image) (held : List Block) (free : List ℕ) (d : ℕ) → list_any (λ f. nat_eq f d) free ≡ true → use_of image held free d ≡ codes "free"
+pub use_of-free : (image : Image) (held : List Block) (free : List ℕ) (d : ℕ) → list_any (λ f. nat_eq f d) free ≡ true
+    → use_of image held free d ≡ codes "free"
 use_of-free image held free d listed = rw listed refl
 
 pub use_of-class : (image : Image) (held : List Block) (free : List ℕ) (d : ℕ) → list_any (λ f. nat_eq f d) free ≡ false

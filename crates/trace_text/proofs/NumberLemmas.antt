@@ -30,7 +30,8 @@ number_begins word (suc number) is other =
     rw is.1 (first, digit.1)
 
 -- a text that begins so is read as the number that it writes
-pub number_reading : (E : Type 0) (word text : List ℕ) (r : Result ℕ E) → text ≡ word → 48 < get_or word 0 0 → ParsesUnsigned 64 10 text r → IsReadAs IsNumber word (result_ok r)
+pub number_reading : (E : Type 0) (word text : List ℕ) (r : Result ℕ E) → text ≡ word → 48 < get_or word 0 0 → ParsesUnsigned 64 10 text r
+    → IsReadAs IsNumber word (result_ok r)
 number_reading E word text (Ok number) same begins parsed =
     let numeral = parse_plain own {E = E} 64 word (Ok number) (rw same at parsed) (λ plus. absurd (omega arith)) in
     let value : decimal (digits_value 10 word) ≡ word =
@@ -46,7 +47,8 @@ number_is_text word number is = rw is.1 (IsUtf8-from_ascii (decimal number) (IsA
 pub number_has_no : (s : ℕ) (word : List ℕ) (number : ℕ) → s < 48 → IsNumber word number → All (λ b. b ≢ s) word
 number_has_no s word number low is =
     let digit = (decimal_is_IsNumeral number is.0).0.1 in
-    rw is.1 (λ k d below found. let at = digit_at (decimal number) k digit below in let same = get_or_default (decimal number) k d 0 below in absurd (omega arith))
+    rw is.1 (λ k d below found. let at = digit_at (decimal number) k digit below in let same = get_or_default (decimal number) k d 0 below in
+    absurd (omega arith))
 
 -- a word writes one number
 pub one_number : (word : List ℕ) (m n : ℕ) → IsNumber word m → IsNumber word n → m ≡ n

@@ -24,7 +24,8 @@ ready_in_order words held ready i j d low high =
     let a = get_or held i d in
     let b = get_or held j d in
     ends_before a b
-    (never_overlap (layout_of (slice_index words)) a b (ready.blocks a (Contains-get_or held i d (omega arith))) (ready.blocks b (Contains-get_or held j d high)))
+    (never_overlap (layout_of (slice_index words)) a b (ready.blocks a (Contains-get_or held i d (omega arith)))
+    (ready.blocks b (Contains-get_or held j d high)))
     (ready.ascending i j d low high)
 
 -- their first words do not fall
@@ -151,7 +152,8 @@ pub first_of-some : (capacity d : ℕ) (held : List Block) (count : ℕ) (e : Bl
 first_of-some capacity d held count e order some within before behind reaches =
     let b = get_or held (count - 1) e in
     let first = before (count - 1) e (omega arith) (omega arith) in
-    let test = both (nat_lt b.first_word (start_word capacity d)) (nat_lt (start_word capacity d) (b.first_word + b.words)) (lt-ltb _ _ first) (lt-ltb _ _ (omega arith)) in
+    let test = both (nat_lt b.first_word (start_word capacity d)) (nat_lt (start_word capacity d) (b.first_word + b.words)) (lt-ltb _ _ first)
+    (lt-ltb _ _ (omega arith)) in
     ap (λ (o : Option Block). option_map_or (superblock_of capacity) o 0)
     (last_reaches capacity d held count e order some within before behind ∙ cond-true (reaches_into capacity d b) (Some b) None test)
 
@@ -163,6 +165,7 @@ pub first_of-other : (capacity d : ℕ) (held : List Block) (count : ℕ) (e : B
 first_of-other capacity d held count e order some within before behind short =
     let b = get_or held (count - 1) e in
     let first = before (count - 1) e (omega arith) (omega arith) in
-    let test = second_fails (nat_lt b.first_word (start_word capacity d)) (nat_lt (start_word capacity d) (b.first_word + b.words)) (le-ltb _ _ (omega arith)) in
+    let test = second_fails (nat_lt b.first_word (start_word capacity d)) (nat_lt (start_word capacity d) (b.first_word + b.words))
+    (le-ltb _ _ (omega arith)) in
     ap (λ (o : Option Block). option_map_or (superblock_of capacity) o 0)
     (last_reaches capacity d held count e order some within before behind ∙ cond-false (reaches_into capacity d b) (Some b) None test)

@@ -54,15 +54,18 @@ second_blank event is =
 number_too_many : WritesNothing IsEventWords (codes "pop 5")
 unfolding is_word event_by find of_one
 number_too_many event is =
-    let parts = one_number_behind (codes "pop 5") (codes "pop") (codes "5") event refl (word_passes (codes "pop") refl) (word_passes (codes "5") refl) is in
-    let by : event_by (codes "pop") (parts.0 ∷ []) ≡ Some event = ap (λ v. event_by v (parts.0 ∷ [])) parts.1 ∙ ap (λ n. event_by (parts_of event).0 n) parts.2 ∙ found event in
+    let parts = one_number_behind (codes "pop 5") (codes "pop") (codes "5") event refl (word_passes (codes "pop") refl)
+    (word_passes (codes "5") refl) is in
+    let by : event_by (codes "pop") (parts.0 ∷ []) ≡ Some event = ap (λ v. event_by v (parts.0 ∷ [])) parts.1
+    ∙ ap (λ n. event_by (parts_of event).0 n) parts.2 ∙ found event in
     cc
 
 other_verb : WritesNothing IsEventWords (codes "jump")
 unfolding is_word event_by find of_none
 other_verb event is =
     let parts = alone (parts_of event).0 (parts_of event).1 (codes "jump") is.words_are (word_passes (codes "jump") refl) in
-    let by : event_by (codes "jump") [] ≡ Some event = ap (λ v. event_by v []) parts.0 ∙ ap (λ n. event_by (parts_of event).0 n) (sym parts.1) ∙ found event in
+    let by : event_by (codes "jump") [] ≡ Some event = ap (λ v. event_by v []) parts.0 ∙ ap (λ n. event_by (parts_of event).0 n) (sym parts.1)
+    ∙ found event in
     cc
 
 -- 2 ^ 64 is no number of 64 bits
@@ -123,7 +126,8 @@ second_key_with_zero request is =
 first_key_too_large : IsOutside (codes "move 18446744073709551616 5")
 unfolding is_word
 first_key_too_large request is =
-    let parts = move_words (codes "18446744073709551616 5") (codes "18446744073709551616") (codes "5") request refl (word_passes (codes "18446744073709551616") refl) is in
+    let parts = move_words (codes "18446744073709551616 5") (codes "18446744073709551616") (codes "5") request refl
+    (word_passes (codes "18446744073709551616") refl) is in
     too_large parts.0 parts.2
 
 second_key_too_large : IsOutside (codes "move 5 18446744073709551616")

@@ -13,7 +13,8 @@ pub step_parts : (seats : ℕ) (line first rest : List ℕ) (step : ℕ × Event
 step_parts seats line first rest step fits cut free is =
     let is_number : IsNumber (decimal step.0) step.0 = (omega (arith, is.seat_is_below), refl) in
     let whole : line ≡ decimal step.0 ++ 32 ∷ is.words = is.line_is ∙ append_assoc (decimal step.0) (32 ∷ []) is.words in
-    let parts = same_parts 32 first (decimal step.0) rest is.words free (number_has_no 32 (decimal step.0) step.0 (omega arith) is_number) (sym cut ∙ whole) in
+    let parts = same_parts 32 first (decimal step.0) rest is.words free (number_has_no 32 (decimal step.0) step.0 (omega arith) is_number)
+    (sym cut ∙ whole) in
     (is.seat_is_below, (is_number.0, parts.0), subst (λ l. IsEventWords l step.1) (sym parts.1) is.event_is)
 
 -- the number behind `seats ` is that of the seats

@@ -80,7 +80,8 @@ body_plain (Move key to) fits =
 
 body_read : (request : Request) → IsWithinBounds request → IsLine (body request) request
 body_read (Put key value) fits =
-    put_line (decimal key ++ codes " " ++ value_word value) (decimal key) (value_word value) key value (append_assoc (decimal key) (32 ∷ []) (value_word value))
+    put_line (decimal key ++ codes " " ++ value_word value) (decimal key) (value_word value) key value
+    (append_assoc (decimal key) (32 ∷ []) (value_word value))
     (fits.0, refl) (value_read value fits.1 fits.2)
 body_read (Get key) fits = record { word = decimal key; line_is = refl; key_is = (fits, refl) }
 body_read (Del key) fits = record { word = decimal key; line_is = refl; key_is = (fits, refl) }
@@ -119,6 +120,8 @@ pub made_read : (n seed : ℕ) → AreLines (lines_of (made_trace n seed)) (map 
 made_read n seed =
     let fit : All IsWithinBounds (map (made_request seed) (range_with_len 0 n)) =
     All-map IsWithinBounds (made_request seed) (range_with_len 0 n)
-    (λ k d below. let i = get_or (range_with_len 0 n) k d in made_within (nat_le (i % 4) 1) (i % 4 == 2) ((40503 * i + 977 * seed) % 65536) (omega arith)) in
-    subst (λ text. AreLines (lines_of text) (map (made_request seed) (range_with_len 0 n))) (flat_map-map request_line (made_request seed) (range_with_len 0 n))
+    (λ k d below. let i = get_or (range_with_len 0 n) k d in made_within (nat_le (i % 4) 1) (i % 4 == 2) ((40503 * i + 977 * seed) % 65536)
+    (omega arith)) in
+    subst (λ text. AreLines (lines_of text) (map (made_request seed) (range_with_len 0 n)))
+    (flat_map-map request_line (made_request seed) (range_with_len 0 n))
     (read_again (map (made_request seed) (range_with_len 0 n)) fit)

@@ -31,10 +31,12 @@ one_key_line what line k m split a b =
 -- lines of a key and a value
 put_same : (line : List ℕ) (k m : ℕ) (v w : List ℕ) → IsPutLine line k v → IsPutLine line m w → Put k v ≡ Put m w
 put_same line k m v w a b =
-    let whole : codes "put " ++ a.key_word ++ codes " " ++ a.value_word ≡ codes "put " ++ b.key_word ++ codes " " ++ b.value_word = sym a.line_is ∙ b.line_is in
+    let whole : codes "put " ++ a.key_word ++ codes " " ++ a.value_word ≡ codes "put " ++ b.key_word ++ codes " " ++ b.value_word =
+    sym a.line_is ∙ b.line_is in
     let rest : (a.key_word ++ 32 ∷ []) ++ a.value_word ≡ (b.key_word ++ 32 ∷ []) ++ b.value_word = cc in
     let cut = sym (append_assoc a.key_word (32 ∷ []) a.value_word) ∙ rest ∙ append_assoc b.key_word (32 ∷ []) b.value_word in
-    let parts = same_parts 32 a.key_word b.key_word a.value_word b.value_word (number_has_no 32 a.key_word k (omega arith) a.key_is) (number_has_no 32 b.key_word m (omega arith) b.key_is) cut in
+    let parts = same_parts 32 a.key_word b.key_word a.value_word b.value_word (number_has_no 32 a.key_word k (omega arith) a.key_is)
+    (number_has_no 32 b.key_word m (omega arith) b.key_is) cut in
     let key = one_number b.key_word k m (rw parts.0 at a.key_is) b.key_is in
     let value = one_value b.value_word v w (rw parts.1 at a.value_is) b.value_is in
     ap (λ n. Put n v) key ∙ ap (λ l. Put m l) value
@@ -42,10 +44,12 @@ put_same line k m v w a b =
 -- lines of two keys
 move_same : (line : List ℕ) (k m l n : ℕ) → IsMoveLine line k l → IsMoveLine line m n → Move k l ≡ Move m n
 move_same line k m l n a b =
-    let whole : codes "move " ++ a.key_word ++ codes " " ++ a.to_word ≡ codes "move " ++ b.key_word ++ codes " " ++ b.to_word = sym a.line_is ∙ b.line_is in
+    let whole : codes "move " ++ a.key_word ++ codes " " ++ a.to_word ≡ codes "move " ++ b.key_word ++ codes " " ++ b.to_word = sym a.line_is
+    ∙ b.line_is in
     let rest : (a.key_word ++ 32 ∷ []) ++ a.to_word ≡ (b.key_word ++ 32 ∷ []) ++ b.to_word = cc in
     let cut = sym (append_assoc a.key_word (32 ∷ []) a.to_word) ∙ rest ∙ append_assoc b.key_word (32 ∷ []) b.to_word in
-    let parts = same_parts 32 a.key_word b.key_word a.to_word b.to_word (number_has_no 32 a.key_word k (omega arith) a.key_is) (number_has_no 32 b.key_word m (omega arith) b.key_is) cut in
+    let parts = same_parts 32 a.key_word b.key_word a.to_word b.to_word (number_has_no 32 a.key_word k (omega arith) a.key_is)
+    (number_has_no 32 b.key_word m (omega arith) b.key_is) cut in
     let key = one_number b.key_word k m (rw parts.0 at a.key_is) b.key_is in
     let to = one_number b.to_word l n (rw parts.1 at a.to_is) b.to_is in
     ap (λ i. Move i l) key ∙ ap (λ i. Move m i) to

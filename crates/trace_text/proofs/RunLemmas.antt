@@ -18,7 +18,8 @@ next_by_test : (first last : ℕ) (next : Run) (runs : List Run) (goes_on : Bool
 next_by_test first last next runs true e = cond-true (nat_eq (last + 1) (last + 1)) _ _ (eq-eqb _ _ refl)
 next_by_test first last next runs false e = cond-true (nat_eq (last + 1) (last + 1)) _ _ (eq-eqb _ _ refl)
 
-with_run-next : (first last : ℕ) (runs : List Run) → with_run (run first last) (with_run (run (last + 1) (last + 1)) runs) ≡ with_run (run first (last + 1)) runs
+with_run-next : (first last : ℕ) (runs : List Run) → with_run (run first last) (with_run (run (last + 1) (last + 1)) runs) ≡ with_run
+    (run first (last + 1)) runs
 with_run-next first last [] = cond-true (nat_eq (last + 1) (last + 1)) _ _ (eq-eqb _ _ refl)
 with_run-next first last (next ∷ runs) = next_by_test first last next runs (nat_eq next.first (last + 1 + 1)) refl
 
@@ -29,7 +30,8 @@ apart_by_test : (first last n : ℕ) (next : Run) (runs : List Run) (goes_on : B
 apart_by_test first last n next runs true apart = cond-false (nat_eq n (last + 1)) _ _ apart
 apart_by_test first last n next runs false apart = cond-false (nat_eq n (last + 1)) _ _ apart
 
-with_run-apart : (first last n : ℕ) (runs : List Run) → nat_eq n (last + 1) ≡ false → with_run (run first last) (with_run (run n n) runs) ≡ run first last ∷ with_run (run n n) runs
+with_run-apart : (first last n : ℕ) (runs : List Run) → nat_eq n (last + 1) ≡ false
+    → with_run (run first last) (with_run (run n n) runs) ≡ run first last ∷ with_run (run n n) runs
 with_run-apart first last n [] apart = cond-false (nat_eq n (last + 1)) _ _ apart
 with_run-apart first last n (next ∷ runs) apart = apart_by_test first last n next runs (nat_eq next.first (n + 1)) apart
 
@@ -37,14 +39,16 @@ with_run-apart first last n (next ∷ runs) apart = apart_by_test first last n n
 rest_at : (ns : List ℕ) (i n : ℕ) → i < length ns → n ≡ get_or ns i 0 → drop i ns ≡ n ∷ drop (i + 1) ns
 rest_at ns i n within is = drop-cons ns i 0 within ∙ ap (λ (k : ℕ). k ∷ drop (suc i) ns) (sym is) ∙ ap (λ k. n ∷ drop k ns) (sym (add-one i))
 
-pub runs_text-next : (first last n i : ℕ) (ns : List ℕ) → i < length ns → n ≡ get_or ns i 0 → n ≡ last + 1 → runs_text first last (drop i ns) ≡ runs_text first n (drop (i + 1) ns)
+pub runs_text-next : (first last n i : ℕ) (ns : List ℕ) → i < length ns → n ≡ get_or ns i 0 → n ≡ last + 1
+    → runs_text first last (drop i ns) ≡ runs_text first n (drop (i + 1) ns)
 runs_text-next first last n i ns within is next =
     ap (runs_text first last) (rest_at ns i n within is)
     ∙ ap (λ k. runs_text first last (k ∷ drop (i + 1) ns)) next
     ∙ ap (flat_map run_text) (with_run-next first last (longest_runs (drop (i + 1) ns)))
     ∙ ap (λ k. runs_text first k (drop (i + 1) ns)) (sym next)
 
-pub runs_text-apart : (first last n i : ℕ) (ns : List ℕ) → i < length ns → n ≡ get_or ns i 0 → n ≢ last + 1 → runs_text first last (drop i ns) ≡ run_text (run first last) ++ runs_text n n (drop (i + 1) ns)
+pub runs_text-apart : (first last n i : ℕ) (ns : List ℕ) → i < length ns → n ≡ get_or ns i 0 → n ≢ last + 1
+    → runs_text first last (drop i ns) ≡ run_text (run first last) ++ runs_text n n (drop (i + 1) ns)
 runs_text-apart first last n i ns within is apart =
     ap (runs_text first last) (rest_at ns i n within is)
     ∙ ap (flat_map run_text) (with_run-apart first last n (longest_runs (drop (i + 1) ns)) (ne_eqb n (last + 1) apart))

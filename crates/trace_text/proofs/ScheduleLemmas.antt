@@ -34,7 +34,8 @@ same_words v w (j ∷ m) (k ∷ n) is_v is_w fit_m fit_n same =
     let j_fits : j < 2 ^ 64 = All-head (λ i. i < 2 ^ 64) j m fit_m in
     let k_fits : k < 2 ^ 64 = All-head (λ i. i < 2 ^ 64) k n fit_n in
     let rest =
-    same_words (decimal j) (decimal k) m n (number_has_no 32 (decimal j) j (omega arith) (j_fits, refl)) (number_has_no 32 (decimal k) k (omega arith) (k_fits, refl))
+    same_words (decimal j) (decimal k) m n (number_has_no 32 (decimal j) j (omega arith) (j_fits, refl))
+    (number_has_no 32 (decimal k) k (omega arith) (k_fits, refl))
     (All-tail (λ i. i < 2 ^ 64) j m fit_m) (All-tail (λ i. i < 2 ^ 64) k n fit_n) parts.1 in
     (parts.0, ap (λ i. i ∷ m) (one_number (decimal j) j k (j_fits, refl) (k_fits, rest.0)) ∙ ap (λ l. k ∷ l) rest.1)
 
@@ -94,7 +95,8 @@ one_event words a b is_a is_b =
     let verb_a = (short_parts (parts_of a).0 (parts_of a).1 (each_is_short a)).0 in
     let verb_b = (short_parts (parts_of b).0 (parts_of b).1 (each_is_short b)).0 in
     let parts =
-    same_words (parts_of a).0 (parts_of b).0 (parts_of a).1 (parts_of b).1 verb_a verb_b is_a.numbers_fit is_b.numbers_fit (sym is_a.words_are ∙ is_b.words_are) in
+    same_words (parts_of a).0 (parts_of b).0 (parts_of a).1 (parts_of b).1 verb_a verb_b is_a.numbers_fit is_b.numbers_fit (sym is_a.words_are
+    ∙ is_b.words_are) in
     let some : Some a ≡ Some b =
     sym (found a) ∙ ap (λ v. event_by v (parts_of a).1) parts.0 ∙ ap (λ n. event_by (parts_of b).0 n) parts.1 ∙ found b in
     cc
@@ -127,7 +129,8 @@ one_schedule text a b is_a is_b =
     (seats, one_list (IsStepLine b.seats) (one_step b.seats fits) is_b.further a.lines.items b.lines.items same_steps is_b.steps_are)
 
 -- lines of a schedule have none outside the grammar
-bad_line : (first : List ℕ) (further : List (List ℕ)) (s : Schedule) (number : ℕ) → IsSeatsLine first s.seats → AreWritten (IsStepLine s.seats) further s.lines.items
+bad_line : (first : List ℕ) (further : List (List ℕ)) (s : Schedule) (number : ℕ) → IsSeatsLine first s.seats
+    → AreWritten (IsStepLine s.seats) further s.lines.items
     → IsFirstBad (first ∷ further) number → ⊥
 bad_line first further s number is are (inl none) = none.0 s.seats is
 bad_line first further s number is are (inr bad) =
@@ -137,7 +140,8 @@ bad_line first further s number is are (inr bad) =
 
 -- so a text that writes a schedule has none
 pub schedule_or_bad : (text : List ℕ) (s : Schedule) (number : ℕ) → IsSchedule text s → IsFirstBad (lines_of text) number → ⊥
-schedule_or_bad text s number is bad = bad_line is.first is.further s number is.seats_are is.steps_are (subst (λ l. IsFirstBad l number) is.lines_are bad)
+schedule_or_bad text s number is bad = bad_line is.first is.further s number is.seats_are is.steps_are
+    (subst (λ l. IsFirstBad l number) is.lines_are bad)
 
 -- one line is the first outside
 pub one_bad : (lines : List (List ℕ)) (m n : ℕ) → IsFirstBad lines m → IsFirstBad lines n → m ≡ n
@@ -152,7 +156,8 @@ one_bad (first ∷ further) m n (inr bad_m) (inr bad_n) =
     moved.counted ∙ ap (λ k. k + 1) place ∙ sym bad_n.2.counted
 
 -- each step is one of a seat that is there
-pub steps_of_seats : (seats : ℕ) (lines : List (List ℕ)) (steps : List (ℕ × Event)) → AreWritten (IsStepLine seats) lines steps → All (λ step. step.0 < seats) steps
+pub steps_of_seats : (seats : ℕ) (lines : List (List ℕ)) (steps : List (ℕ × Event)) → AreWritten (IsStepLine seats) lines steps
+    → All (λ step. step.0 < seats) steps
 steps_of_seats seats [] [] are = All-nil (λ (step : ℕ × Event). step.0 < seats)
 steps_of_seats seats [] (step ∷ steps) are = absurd are
 steps_of_seats seats (line ∷ lines) [] are = All-nil (λ (step : ℕ × Event). step.0 < seats)

@@ -20,7 +20,8 @@ use Rattle.trace_text.proofs.MapLemmas.{use_of-free, use_of-class, use_of-large,
 -- a superblock that no class is written for lies in a held large block
 in_large : (words : List ℕ) (held : List Block) (free : List ℕ) (d : ℕ) (b : Block) (e index w count : ℕ) → IsReady words held → Contains held b
     → list_any (λ f. nat_eq f d) free ≡ false → TakesAll (layout_of (slice_index words)) b d → HasPartIn (capacity_of (slice_index words)) b d
-    → Begins (layout_of (slice_index words)) e w count → index < count → b.first_word ≡ start_word (capacity_of (slice_index words)) e + index * w → b.words ≡ w
+    → Begins (layout_of (slice_index words)) e w count → index < count
+    → b.first_word ≡ start_word (capacity_of (slice_index words)) e + index * w → b.words ≡ w
     → IsUse (slice_index words) held d (use_of (slice_index words) held free d)
 in_large words held free d b e index w count ready among taken takes part (of_class class info is) below at size =
     let long = takes.long in
@@ -29,7 +30,8 @@ in_large words held free d b e index w count ready among taken takes part (of_cl
 in_large words held free d b e index w count ready among taken takes part (as_large n some info end zeros) below at size =
     let image = slice_index words in
     let first : index ≡ 0 = omega arith in
-    let begins : b.first_word ≡ start_word (capacity_of image) e = at ∙ ap (λ i. start_word (capacity_of image) e + i * (8192 * n)) first ∙ omega arith in
+    let begins : b.first_word ≡ start_word (capacity_of image) e = at ∙ ap (λ i. start_word (capacity_of image) e + i * (8192 * n)) first
+    ∙ omega arith in
     let part_begins = part.begins in
     let part_ends = part.ends in
     let low : e ≤ d = omega arith in
@@ -47,7 +49,8 @@ in_large words held free d b e index w count ready among taken takes part (as_la
           (is_first b n among (begins ∙ ap (start_word (capacity_of image)) (sym same)) size)
     ]
 
-use_by_test : (words : List ℕ) (held : List Block) (free : List ℕ) (d : ℕ) (listed : Bool) → list_any (λ f. nat_eq f d) free ≡ listed → IsReady words held
+use_by_test : (words : List ℕ) (held : List Block) (free : List ℕ) (d : ℕ) (listed : Bool) → list_any (λ f. nat_eq f d) free ≡ listed
+    → IsReady words held
     → AreAscending (λ e. e) (IsFreeSuperblock (layout_of (slice_index words)) (Contains held)) free → d < used_of (slice_index words)
     → IsUse (slice_index words) held d (use_of (slice_index words) held free d)
 use_by_test words held free d true listed ready ascending low =

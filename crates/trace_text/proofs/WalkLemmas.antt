@@ -16,7 +16,8 @@ pub record TellsNext (listed : List ℕ) (next d : ℕ) (is : Bool) : Type 0 whe
   pub other : is ≡ false → next < length listed → get_or listed next 0 ≡ d → ⊥
 
 -- there stands a number
-pub tells_number : (listed : List ℕ) (next d number : ℕ) (is : Bool) → next < length listed → number ≡ get_or listed next 0 → is ≡ nat_eq number d → TellsNext listed next d is
+pub tells_number : (listed : List ℕ) (next d number : ℕ) (is : Bool) → next < length listed → number ≡ get_or listed next 0
+    → is ≡ nat_eq number d → TellsNext listed next d is
 tells_number listed next d number is within at test = record {
   there = λ holds. (within, sym at ∙ eqb-true number d (sym test ∙ holds));
   other = λ fails _ same. let holds = eq-eqb number d (at ∙ same) in cc;
@@ -29,7 +30,8 @@ tells_end listed next d is none test = record {
   other = λ _ within _. omega arith;
 }
 
-module _ (listed : List ℕ) (next d : ℕ) (is : Bool) (ascending : AllPairs (λ e f. e < f) listed) (walked : IsWalkedTo listed next d) (tells : TellsNext listed next d is) where
+module _ (listed : List ℕ) (next d : ℕ) (is : Bool) (ascending : AllPairs (λ e f. e < f) listed) (walked : IsWalkedTo listed next d)
+    (tells : TellsNext listed next d is) where
   -- the walk goes on where d stands there
   pub walked_on : is ≡ true → IsWalkedTo listed (next + 1) (d + 1)
   walked_on holds = record {

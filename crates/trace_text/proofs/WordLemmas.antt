@@ -17,7 +17,8 @@ value_fits word value (inr some) =
     (omega arith, omega arith)
 
 -- the words behind `put ` are a key, a space and a value
-put_parts : (words key_word value_word : List ℕ) → codes "put " ++ words ≡ codes "put " ++ key_word ++ codes " " ++ value_word → words ≡ key_word ++ 32 ∷ value_word
+put_parts : (words key_word value_word : List ℕ) → codes "put " ++ words ≡ codes "put " ++ key_word ++ codes " " ++ value_word
+    → words ≡ key_word ++ 32 ∷ value_word
 put_parts words key_word value_word same =
     let rest : words ≡ (key_word ++ 32 ∷ []) ++ value_word = cc in
     rest ∙ append_assoc key_word (32 ∷ []) value_word
@@ -31,7 +32,8 @@ put_has_space words free (Del key) is = absurd (heads_differ 112 100 _ _ is.line
 put_has_space words free (Move key to) is = absurd (heads_differ 112 109 _ _ is.line_is (λ same. absurd (omega arith)))
 
 -- and what is before the first space is the key, what is behind it the value
-pub put_words : (words first rest : List ℕ) (request : Request) → words ≡ first ++ 32 ∷ rest → All (λ b. b ≢ 32) first → IsLine (codes "put " ++ words) request
+pub put_words : (words first rest : List ℕ) (request : Request) → words ≡ first ++ 32 ∷ rest → All (λ b. b ≢ 32) first
+    → IsLine (codes "put " ++ words) request
     → (key : ℕ) × (value : List ℕ) × IsNumber first key × IsValue rest value
 put_words words first rest (Put key value) cut free is =
     let parts = put_parts words is.key_word is.value_word is.line_is in
@@ -53,7 +55,8 @@ put_line words first rest key value cut is_key is_value = record {
 }
 
 -- the words behind `move ` are two keys with a space between them
-move_parts : (words key_word to_word : List ℕ) → codes "move " ++ words ≡ codes "move " ++ key_word ++ codes " " ++ to_word → words ≡ key_word ++ 32 ∷ to_word
+move_parts : (words key_word to_word : List ℕ) → codes "move " ++ words ≡ codes "move " ++ key_word ++ codes " " ++ to_word
+    → words ≡ key_word ++ 32 ∷ to_word
 move_parts words key_word to_word same =
     let rest : words ≡ (key_word ++ 32 ∷ []) ++ to_word = cc in
     rest ∙ append_assoc key_word (32 ∷ []) to_word
@@ -67,7 +70,8 @@ move_has_space words free (Move key to) is =
     has_separator 32 is.key_word is.to_word (rw (move_parts words is.key_word is.to_word is.line_is) at free)
 
 -- and the keys are what is before the first space and what is behind it
-pub move_words : (words first rest : List ℕ) (request : Request) → words ≡ first ++ 32 ∷ rest → All (λ b. b ≢ 32) first → IsLine (codes "move " ++ words) request
+pub move_words : (words first rest : List ℕ) (request : Request) → words ≡ first ++ 32 ∷ rest → All (λ b. b ≢ 32) first
+    → IsLine (codes "move " ++ words) request
     → (key : ℕ) × (to : ℕ) × IsNumber first key × IsNumber rest to
 move_words words first rest (Put key value) cut free is = absurd (heads_differ 109 112 _ _ is.line_is (λ same. absurd (omega arith)))
 move_words words first rest (Get key) cut free is = absurd (heads_differ 109 103 _ _ is.line_is (λ same. absurd (omega arith)))

@@ -30,7 +30,8 @@ module _ {A : Type 0} (Writes : List ℕ → A → Type 0) where
   nothing_read text = record { before = []; lines_are = refl; written = tt }
 
   -- then one more line
-  pub line_read : (text rest after line : List ℕ) (things : List A) (thing : A) → IsReadUpTo Writes text rest things → lines_of rest ≡ line ∷ lines_of after
+  pub line_read : (text rest after line : List ℕ) (things : List A) (thing : A) → IsReadUpTo Writes text rest things
+      → lines_of rest ≡ line ∷ lines_of after
       → Writes line thing → IsReadUpTo Writes text after (things ++ thing ∷ [])
   line_read text rest after line things thing so_far cut is = record {
     before = so_far.before ++ line ∷ [];
@@ -43,7 +44,8 @@ module _ {A : Type 0} (Writes : List ℕ → A → Type 0) where
   all_read text things so_far = rw (so_far.lines_are ∙ append-nil so_far.before) so_far.written
 
   -- or up to a line that writes nothing
-  pub line_outside : (text rest after line : List ℕ) (things : List A) (number : ℕ) → IsReadUpTo Writes text rest things → lines_of rest ≡ line ∷ lines_of after
+  pub line_outside : (text rest after line : List ℕ) (things : List A) (number : ℕ) → IsReadUpTo Writes text rest things
+      → lines_of rest ≡ line ∷ lines_of after
       → WritesNothing Writes line → number ≡ length things + 1 → IsFirstOutsideOf Writes (lines_of text) number
   line_outside text rest after line things number so_far cut outside counted = record {
     before = so_far.before;
@@ -77,18 +79,22 @@ module _ {A : Type 0} (Writes : List ℕ → A → Type 0) where
   outside_between (first ∷ before) line after [] are outside = are
   outside_between (first ∷ before) line after (t ∷ things) are outside = outside_between before line after things are.1 outside
 
-  pub written_or_outside : (lines : List (List ℕ)) (things : List A) (number : ℕ) → AreWritten Writes lines things → IsFirstOutsideOf Writes lines number → ⊥
+  pub written_or_outside : (lines : List (List ℕ)) (things : List A) (number : ℕ) → AreWritten Writes lines things
+      → IsFirstOutsideOf Writes lines number → ⊥
   written_or_outside lines things number are is =
       outside_between is.before is.outside is.after things (subst (λ l. AreWritten Writes l things) is.lines_are are) is.nothing
 
   -- and only one line is the first that writes nothing
-  same_place : (b c : List (List ℕ)) (x y : List ℕ) (p q : List (List ℕ)) (r s : List A) → b ++ x ∷ p ≡ c ++ y ∷ q → AreWritten Writes b r → AreWritten Writes c s
+  same_place : (b c : List (List ℕ)) (x y : List ℕ) (p q : List (List ℕ)) (r s : List A) → b ++ x ∷ p ≡ c ++ y ∷ q → AreWritten Writes b r
+      → AreWritten Writes c s
       → WritesNothing Writes x → WritesNothing Writes y → length b ≡ length c
   same_place [] [] x y p q r s same are_b are_c out_x out_y = refl
   same_place [] (m ∷ c) x y p q r [] same are_b are_c out_x out_y = absurd are_c
-  same_place [] (m ∷ c) x y p q r (t ∷ s) same are_b are_c out_x out_y = let head : m ≡ x = cc in absurd (out_x t (subst (λ l. Writes l t) head are_c.0))
+  same_place [] (m ∷ c) x y p q r (t ∷ s) same are_b are_c out_x out_y = let head : m ≡ x = cc in
+      absurd (out_x t (subst (λ l. Writes l t) head are_c.0))
   same_place (l ∷ b) [] x y p q [] s same are_b are_c out_x out_y = absurd are_b
-  same_place (l ∷ b) [] x y p q (t ∷ r) s same are_b are_c out_x out_y = let head : l ≡ y = cc in absurd (out_y t (subst (λ l. Writes l t) head are_b.0))
+  same_place (l ∷ b) [] x y p q (t ∷ r) s same are_b are_c out_x out_y = let head : l ≡ y = cc in
+      absurd (out_y t (subst (λ l. Writes l t) head are_b.0))
   same_place (l ∷ b) (m ∷ c) x y p q [] s same are_b are_c out_x out_y = absurd are_b
   same_place (l ∷ b) (m ∷ c) x y p q (t ∷ r) [] same are_b are_c out_x out_y = absurd are_c
   same_place (l ∷ b) (m ∷ c) x y p q (t ∷ r) (u ∷ s) same are_b are_c out_x out_y =
@@ -97,5 +103,6 @@ module _ {A : Type 0} (Writes : List ℕ → A → Type 0) where
 
   pub one_outside : (lines : List (List ℕ)) (m n : ℕ) → IsFirstOutsideOf Writes lines m → IsFirstOutsideOf Writes lines n → m ≡ n
   one_outside lines m n a b =
-      let same = same_place a.before b.before a.outside b.outside a.after b.after a.things b.things (sym a.lines_are ∙ b.lines_are) a.written b.written a.nothing b.nothing in
+      let same = same_place a.before b.before a.outside b.outside a.after b.after a.things b.things (sym a.lines_are
+      ∙ b.lines_are) a.written b.written a.nothing b.nothing in
       a.counted ∙ ap (λ k. k + 1) same ∙ sym b.counted

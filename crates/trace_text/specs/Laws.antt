@@ -14,7 +14,8 @@ pub data IsCounted (capacity : ℕ) (b : Block) : Type 0 where
   in_class : (class : ℕ) → IsClass class → b.words ≡ words_of_class class → IsCounted capacity b
   as_large : (superblocks : ℕ) → 1 ≤ superblocks → superblocks ≤ capacity → b.words ≡ superblock_words * superblocks → IsCounted capacity b
 
--- these words tell how superblock d is used: it is free, or cut for a class, or lies in a held large block, as the first superblock of it or behind that
+-- these words tell how superblock d is used: it is free, or cut for a class, or lies in a held large block, as the
+-- first superblock of it or behind that
 pub data IsUse (image : Image) (held : List Block) (d : ℕ) : List ℕ → Type 0 where
   is_free : IsFreeSuperblock (layout_of image) (Contains held) d → IsUse image held d (codes "free")
   is_cut : (class : ℕ) → IsClass class → image (info_word d) ≡ class → IsUse image held d (class_use (capacity_of image) class held d)

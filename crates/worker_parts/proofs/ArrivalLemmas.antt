@@ -29,15 +29,18 @@ pub record BringsIn (came left : List Sent) (stopped : Bool) (s t : CacheState) 
   pub left_are : AreLeftOf later left
   pub all : stopped ≡ false → later ≡ []
   pub behind : CacheState
-  pub answered : (image : Image) (rs : List (Request × Reply)) → HasAnswered image rs (heap_view s) → HasAnswered image (rs ++ puts_of brought) (heap_view behind)
+  pub answered : (image : Image) (rs : List (Request × Reply)) → HasAnswered image rs (heap_view s)
+      → HasAnswered image (rs ++ puts_of brought) (heap_view behind)
   pub steps : TakesRequests heap_view GoesOn TurnsAway (puts_of brought) s behind
   pub goes_on : GoesOn behind t
   pub there : stopped ≡ false → t ≡ behind
   pub next : stopped ≡ true → (next : Sent) × (others : List Sent) × (later ≡ next ∷ others) × MayArrive next (heap_view behind) (heap_view t)
 
 -- so it is by what bringing in answers; and it keeps all that is reached, or was stopped by a ticket
-pub brings_in : {C : Type 0} (goes : CacheValue C → CacheValue C → Type 0) (goes_on : (s t : CacheValue C) → goes s t → GoesOn s.state t.state) (result : Result ⊤ Stopped) (came after : List Sent)
-    (s t : CacheValue C) → OnOk result ((image : Image) (rs : List (Request × Reply)) → HasAnswered image rs (heap_view s.state) → HasAnswered image (rs ++ puts_of came) (heap_view t.state))
+pub brings_in : {C : Type 0} (goes : CacheValue C → CacheValue C → Type 0) (goes_on : (s t : CacheValue C) → goes s t → GoesOn s.state t.state)
+    (result : Result ⊤ Stopped) (came after : List Sent)
+    (s t : CacheValue C) → OnOk result ((image : Image) (rs : List (Request × Reply)) → HasAnswered image rs (heap_view s.state)
+    → HasAnswered image (rs ++ puts_of came) (heap_view t.state))
     → OnOk result (TakesRequests view_of goes none_of (puts_of came) s t)
     → OnErr result (StopsInOne view_of goes none_of came after s t) → OnOk result (after ≡ []) → BringsIn came after (is_err result) s.state t.state
 brings_in goes goes_on (Ok a) came after s t answered steps stops empty = record {
@@ -70,11 +73,13 @@ brings_in goes goes_on (Err stopped) came after s t answered steps stops empty =
   next = λ e. (stops.next, stops.others, refl, stops.arrives);
 }
 
-pub arrival_exact : (result : Result ⊤ Stopped) (v w : View) → OnOk result (ReachesAllHeld v → ReachesAllHeld w) → is_err result ≡ false → ReachesAllHeld v → ReachesAllHeld w
+pub arrival_exact : (result : Result ⊤ Stopped) (v w : View) → OnOk result (ReachesAllHeld v → ReachesAllHeld w) → is_err result ≡ false
+    → ReachesAllHeld v → ReachesAllHeld w
 arrival_exact (Ok a) v w exact e = exact
 arrival_exact (Err stopped) v w exact e = let both : true ≡ false = e in absurd (cc)
 
-pub arrival_cause : (result : Result ⊤ Stopped) (v w : View) → IfErr result (λ e. Stops e.step v w) → is_err result ≡ true → (ticket : ℕ) × (w.stopped ≡ Some ticket)
+pub arrival_cause : (result : Result ⊤ Stopped) (v w : View) → IfErr result (λ e. Stops e.step v w) → is_err result ≡ true → (ticket : ℕ)
+    × (w.stopped ≡ Some ticket)
 arrival_cause (Ok a) v w stops e = let both : false ≡ true = e in absurd (cc)
 arrival_cause (Err stopped) v w stops e = (stopped.step, stops.stopped)
 
@@ -94,7 +99,8 @@ module _ (before after : Bool) (s t : CacheState) (settled : HasSettled before a
   ends_exact all going = by_case settled where
     by_case : HasSettled before after s t → ReachesAllHeld (heap_view t)
     by_case (had_stopped was is same) = let both : true ≡ false = sym is ∙ going in absurd (cc)
-    by_case (is_empty was is empty on quieted) = all_quiet (heap_view s) (heap_view t) (seat_law t) quieted.own (ap opened_kinds quieted.kept.1.setup) (all was)
+    by_case (is_empty was is empty on quieted) = all_quiet (heap_view s) (heap_view t) (seat_law t) quieted.own
+        (ap opened_kinds quieted.kept.1.setup) (all was)
     by_case (stops_now was is ticket at quieted) = let both : true ≡ false = sym is ∙ going in absurd (cc)
 
   pub ends_emptied : after ≡ false → HasEmptyCaches t

@@ -18,7 +18,8 @@ use Rattle.worker_parts.proofs.BeginLemmas.{first_opened, first_owns}
 use Rattle.worker_parts.proofs.StateLemmas.{full_rightly, none_of, takes_all, view_of}
 
 -- it was stopped exactly where its seat was
-pub stops_by : (stopped : Bool) (now : Option ℕ) → (stopped ≡ true → (ticket : ℕ) × (now ≡ Some ticket)) → (stopped ≡ false → now ≡ None) → (stopped ≡ true) ↔ (now ≢ None)
+pub stops_by : (stopped : Bool) (now : Option ℕ) → (stopped ≡ true → (ticket : ℕ) × (now ≡ Some ticket)) → (stopped ≡ false → now ≡ None)
+    → (stopped ≡ true) ↔ (now ≢ None)
 stops_by true now cause going = (λ e none. let at = cause refl in let clash : Some at.0 ≡ None = sym at.1 ∙ none in absurd (cc), λ some. refl)
 stops_by false now cause going = (λ e. absurd (let clash : false ≡ true = e in cc), λ some. absurd (some (going refl)))
 
@@ -36,7 +37,8 @@ module _ (shared : SharedView) (workers worker : ℕ) (wanted tables : ℕ → B
   begun_going = not_stopped s.view.stopped (subst (λ b. (b ≡ true) ↔ (s.view.stopped ≢ None)) going part.stops)
 
   pub begun_owns : (shard : ℕ) → shard < shards → worker_of workers shard ≡ worker → Contains s.view.roots shard
-  begun_owns shard small is = subst (λ (ns : List ℕ). Contains ns shard) (sym part.roots_are) (first_owns shared workers worker first is_first shard small is)
+  begun_owns shard small is = subst (λ (ns : List ℕ). Contains ns shard) (sym part.roots_are)
+      (first_owns shared workers worker first is_first shard small is)
 
   pub begun_maps : HasMaps (slice_index s.view.setup.opened)
   begun_maps = subst HasMaps begun_image (first_opened shared workers worker first is_first).maps
@@ -45,10 +47,12 @@ module _ (shared : SharedView) (workers worker : ℕ) (wanted tables : ℕ → B
   begun_answered = subst (λ (i : Image). HasAnswered i [] (heap_view s)) begun_image part.answered
 
   -- the same with the tables of all workers
-  pub begun_among : (all : ℕ → Bool) → ((shard : ℕ) → shard < shards → wanted shard ≡ true → all shard ≡ tables shard) → IsBegun (image_of shared) wanted all false first s
+  pub begun_among : (all : ℕ → Bool) → ((shard : ℕ) → shard < shards → wanted shard ≡ true → all shard ≡ tables shard)
+      → IsBegun (image_of shared) wanted all false first s
   begun_among all same = record {
     answered = part.answered;
-    told = λ none shard small is. subst (λ b. TellsTable heap_view GoesOn TurnsAway shard b first s) (sym (same shard small is)) (part.told going shard small is);
+    told = λ none shard small is. subst (λ b. TellsTable heap_view GoesOn TurnsAway shard b first s) (sym (same shard small is))
+        (part.told going shard small is);
     taken = λ none. part.taken going;
     most = part.most;
     calls = part.calls;

@@ -36,11 +36,14 @@ use Rattle.worker_parts.specs.Jobs.{IsFirst, image_of}
 use Rattle.worker_parts.proofs.StateLemmas.{goes_seat, none_of, tells_table, view_of}
 
 -- a target of a worker is one of its own shards
-pub target_owned : (workers worker : ℕ) (requests : List Request) (shard : ℕ) → is_target_of workers worker requests shard ≡ true → worker_of workers shard ≡ worker
-target_owned workers worker requests shard is = eqb-true (worker_of workers shard) worker (and_parts (nat_eq (worker_of workers shard) worker) (is_moved_to requests shard) is).0
+pub target_owned : (workers worker : ℕ) (requests : List Request) (shard : ℕ) → is_target_of workers worker requests shard ≡ true
+    → worker_of workers shard ≡ worker
+target_owned workers worker requests shard is = eqb-true (worker_of workers shard) worker
+    (and_parts (nat_eq (worker_of workers shard) worker) (is_moved_to requests shard) is).0
 
 -- a seat that was just made of one that was opened for a worker
-pub new_first : (shared : SharedView) (workers worker : ℕ) (seat : SeatView) (s : CacheState) → worker < workers → IsSeatOf shared seat → IsOpenedFor shared.opening workers worker seat.view
+pub new_first : (shared : SharedView) (workers worker : ℕ) (seat : SeatView) (s : CacheState) → worker < workers → IsSeatOf shared seat
+    → IsOpenedFor shared.opening workers worker seat.view
     → IsNew seat s → IsFirst shared workers worker s
 new_first shared workers worker seat s below of fresh new = record {
   below = below;
@@ -66,11 +69,14 @@ module _ (shared : SharedView) (workers worker : ℕ) (s : CacheState) (first : 
   first_exact = all_opened (image_of shared) (heap_view s) (seat_law s) first_opened
 
   pub first_owns : (shard : ℕ) → shard < shards → worker_of workers shard ≡ worker → Contains s.view.roots shard
-  first_owns shard small is = (first.fresh.roots_own shard (omega (arith, small))).1 (cond-true (nat_lt shard shards) (worker_of workers shard) 0 (lt-ltb shard shards small) ∙ is)
+  first_owns shard small is = (first.fresh.roots_own shard (omega (arith, small))).1
+      (cond-true (nat_lt shard shards) (worker_of workers shard) 0 (lt-ltb shard shards small) ∙ is)
 
   -- each target of its own may be asked
-  pub first_shard : (requests : List Request) (shard : ℕ) → shard < shards → is_target_of workers worker requests shard ≡ true → IsShard (heap_view s) shard
-  first_shard requests shard small is = asked_shard (image_of shared) [] (heap_view s) shard first_opened.maps small (first_owns shard small (target_owned workers worker requests shard is)) first_answered
+  pub first_shard : (requests : List Request) (shard : ℕ) → shard < shards → is_target_of workers worker requests shard ≡ true
+      → IsShard (heap_view s) shard
+  first_shard requests shard small is = asked_shard (image_of shared) [] (heap_view s) shard first_opened.maps small
+      (first_owns shard small (target_owned workers worker requests shard is)) first_answered
 
 -- where it was done, what follows from what was so before
 pub ok_then : (result : Result ⊤ Stopped) (P Q : Type 0) → P → OnOk result (P → Q) → OnOk result Q
@@ -79,17 +85,21 @@ ok_then (Err e) P Q p q = tt
 
 -- counts of shards by flags that tell the same of each
 module _ (flags : List Bool) (wanted : ℕ → Bool) (same : (shard : ℕ) → shard < shards → is_flagged flags shard ≡ wanted shard) where
-  count_both : (other : ℕ → Bool) → count_by (λ k. is_flagged flags k && other k) (words_from (λ i. i) 0 shards) ≡ count_by (λ k. wanted k && other k) (words_from (λ i. i) 0 shards)
+  count_both : (other : ℕ → Bool) → count_by (λ k. is_flagged flags k && other k) (words_from (λ i. i) 0 shards) ≡ count_by
+      (λ k. wanted k && other k) (words_from (λ i. i) 0 shards)
   count_both other =
       let at : (k : ℕ) → Contains (words_from (λ i. i) 0 shards) k → (is_flagged flags k && other k) ≡ (wanted k && other k) =
       λ k there. let below = numbers_below 0 shards k there in ap (λ b. b && other k) (same k (omega arith)) in
-      let up = count_rises (λ k. is_flagged flags k && other k) (λ k. wanted k && other k) (words_from (λ i. i) 0 shards) (λ k there is. sym (at k there) ∙ is) in
-      let down = count_rises (λ k. wanted k && other k) (λ k. is_flagged flags k && other k) (words_from (λ i. i) 0 shards) (λ k there is. at k there ∙ is) in
+      let up = count_rises (λ k. is_flagged flags k && other k) (λ k. wanted k && other k) (words_from (λ i. i) 0 shards)
+      (λ k there is. sym (at k there) ∙ is) in
+      let down = count_rises (λ k. wanted k && other k) (λ k. is_flagged flags k && other k) (words_from (λ i. i) 0 shards)
+      (λ k there is. at k there ∙ is) in
       omega arith
 
   pub count_flags : flag_count flags ≡ count_by wanted (words_from (λ i. i) 0 shards)
   count_flags =
-      let at : (k : ℕ) → Contains (words_from (λ i. i) 0 shards) k → is_flagged flags k ≡ wanted k = λ k there. let below = numbers_below 0 shards k there in same k (omega arith) in
+      let at : (k : ℕ) → Contains (words_from (λ i. i) 0 shards) k → is_flagged flags k ≡ wanted k = λ k there. let below =
+      numbers_below 0 shards k there in same k (omega arith) in
       let up = count_rises (is_flagged flags) wanted (words_from (λ i. i) 0 shards) (λ k there is. sym (at k there) ∙ is) in
       let down = count_rises wanted (is_flagged flags) (words_from (λ i. i) 0 shards) (λ k there is. at k there ∙ is) in
       omega arith
@@ -103,16 +113,21 @@ module _ (flags : List Bool) (wanted : ℕ → Bool) (same : (shard : ℕ) → s
 
   -- the tables that are made by these flags, where the making of tables ended so
   module _ {C : Type 0} (gives : C → ℕ → C → Type 0) (image : Image) (tables : List Bool) (s t : CacheValue C) (fresh : s.state.view.stopped ≡ None)
-      (answered : HasAnswered image [] (heap_view t.state)) (most : t.state.view.taken ≤ s.state.view.taken + tables_missing (is_flagged flags) (heap_view s.state))
-      (calls : IsRow (512 * flag_count flags) (flag_count flags) (flag_count flags) (heap_view s.state) (heap_view t.state)) (roots_are : t.state.view.roots ≡ s.state.view.roots)
+      (answered : HasAnswered image [] (heap_view t.state)) (most : t.state.view.taken ≤ s.state.view.taken + tables_missing (is_flagged flags)
+      (heap_view s.state))
+      (calls : IsRow (512 * flag_count flags) (flag_count flags) (flag_count flags) (heap_view s.state) (heap_view t.state))
+      (roots_are : t.state.view.roots ≡ s.state.view.roots)
       (kept : KeepsSeat gives s t) where
     begun_by : (stopped : Bool)
-        → (stopped ≡ false → (shard : ℕ) → shard < shards → is_flagged flags shard ≡ true → TellsTable view_of (KeepsSeat gives) none_of shard (is_flagged tables shard) s t)
+        → (stopped ≡ false → (shard : ℕ) → shard < shards → is_flagged flags shard ≡ true
+        → TellsTable view_of (KeepsSeat gives) none_of shard (is_flagged tables shard) s t)
         → (stopped ≡ false → t.state.view.taken ≤ s.state.view.taken + tables_made (is_flagged flags) (heap_view s.state) (heap_view t.state))
-        → ((stopped ≡ true) ↔ (t.state.view.stopped ≢ None)) → (stopped ≡ false → ReachesAllHeld (heap_view t.state)) → IsBegun image wanted (is_flagged tables) stopped s.state t.state
+        → ((stopped ≡ true) ↔ (t.state.view.stopped ≢ None)) → (stopped ≡ false → ReachesAllHeld (heap_view t.state))
+        → IsBegun image wanted (is_flagged tables) stopped s.state t.state
     begun_by stopped told taken stops exact = record {
       answered = answered;
-      told = λ going shard small is. tells_table (KeepsSeat gives) (goes_seat gives) shard (is_flagged tables shard) s t (told going shard small (same shard small ∙ is));
+      told = λ going shard small is. tells_table (KeepsSeat gives) (goes_seat gives) shard (is_flagged tables shard) s t
+          (told going shard small (same shard small ∙ is));
       taken = λ going. let few = taken going in let made = made_same (heap_view s.state) (heap_view t.state) in omega arith;
       most = let missing = missing_same (heap_view s.state) in omega (arith, most, missing);
       calls = subst (λ n. IsRow (512 * n) n n (heap_view s.state) (heap_view t.state)) count_flags calls;
@@ -124,12 +139,20 @@ module _ (flags : List Bool) (wanted : ℕ → Bool) (same : (shard : ℕ) → s
     }
 
     pub begun_ended : (result : Result ⊤ Stopped)
-        → OnOk result ((shard : ℕ) → shard < shards → is_flagged flags shard ≡ true → TellsTable view_of (KeepsSeat gives) none_of shard (is_flagged tables shard) s t)
+        → OnOk result ((shard : ℕ) → shard < shards → is_flagged flags shard ≡ true
+        → TellsTable view_of (KeepsSeat gives) none_of shard (is_flagged tables shard) s t)
         → OnOk result (t.state.view.taken ≤ s.state.view.taken + tables_made (is_flagged flags) (heap_view s.state) (heap_view t.state))
-        → OnOk result (ReachesAllHeld (heap_view t.state)) → OnOk result ((heap_view t.state ≡ heap_view s.state) ⊎ Runs (heap_view s.state) (heap_view t.state))
-        → IfErr result (λ e. Stops e.step (heap_view s.state) (heap_view t.state)) → IsBegun image wanted (is_flagged tables) (is_err result) s.state t.state
-    begun_ended (Ok a) told taken exact runs cause = begun_by false (λ _. told) (λ _. taken) ((λ e. absurd (let clash : true ≡ false = sym e in cc)), (λ some. absurd (some going))) (λ _. exact) where
-      going : t.state.view.stopped ≡ None
-      going = elim runs as (λ _. t.state.view.stopped ≡ None) [ inl is ↦ ap (λ (v : HeapView). v.stopped) is ∙ fresh | inr ran ↦ ran.running ]
+        → OnOk result (ReachesAllHeld (heap_view t.state)) → OnOk result
+        ((heap_view t.state ≡ heap_view s.state) ⊎ Runs (heap_view s.state) (heap_view t.state))
+        → IfErr result (λ e. Stops e.step (heap_view s.state) (heap_view t.state))
+        → IsBegun image wanted (is_flagged tables) (is_err result) s.state t.state
+    begun_ended (Ok a) told taken exact runs cause = begun_by false (λ _. told) (λ _. taken)
+        ((λ e. absurd (let clash : true ≡ false = sym e in cc)), (λ some. absurd (some going))) (λ _. exact) where
+          going : t.state.view.stopped ≡ None
+          going = elim runs as (λ _. t.state.view.stopped ≡ None) [ inl is ↦ ap (λ (v : HeapView). v.stopped) is ∙ fresh | inr ran ↦ ran.running ]
     begun_ended (Err e) told taken exact runs cause =
-        begun_by true (λ no. absurd (cc)) (λ no. absurd (cc)) ((λ _ none. let clash : Some e.step ≡ None = sym cause.stopped ∙ none in absurd (cc)), (λ _. refl)) (λ no. absurd (cc))
+        begun_by true (λ no. absurd (cc)) (λ no. absurd (cc)) (
+          (λ _ none. let clash : Some e.step ≡ None = sym cause.stopped ∙ none in
+              absurd (cc)),
+          (λ _. refl),
+        ) (λ no. absurd (cc))

@@ -33,19 +33,22 @@ module _ (image : Image) (mine : List Request) (replies : Replies) (came : List 
 
   abbrev Ends : Type 0
   Ends = (ended : HasEnded image mine replies came brings.brought false after (heap_view t))
-      × (stepped : HasStepped (answered mine replies) brings.brought (unanswered mine replies) ended.later false after first t) × (stepped.begun ≡ begun) × (heap_view asked ≡ heap_view stepped.asked)
+      × (stepped : HasStepped (answered mine replies) brings.brought (unanswered mine replies) ended.later false after first t)
+      × (stepped.begun ≡ begun) × (heap_view asked ≡ heap_view stepped.asked)
 
   -- behind the last value that is brought in it came so far in the next
   under_way : (x : CacheState) → heap_view brings.behind ≡ heap_view x → IsArriving brings.later (heap_view x) (heap_view arrived)
   under_way x same = by_case before refl where
     by_case : (b : Bool) → before ≡ b → IsArriving brings.later (heap_view x) (heap_view arrived)
-    by_case false ran = subst (λ (later : List Sent). IsArriving later (heap_view x) (heap_view arrived)) (sym (brings.all ran)) (ap heap_view (brings.there ran) ∙ same)
+    by_case false ran = subst (λ (later : List Sent). IsArriving later (heap_view x) (heap_view arrived)) (sym (brings.all ran))
+        (ap heap_view (brings.there ran) ∙ same)
     by_case true was =
         let next = brings.next was in
         subst (λ (later : List Sent). IsArriving later (heap_view x) (heap_view arrived)) (sym next.2)
         (subst (λ (v : View). MayArrive next.0 v (heap_view arrived)) same next.3)
 
-  stepped : (stepped : HasStepped (answered mine replies) brings.brought (unanswered mine replies) brings.later false after first t) × (stepped.begun ≡ begun)
+  stepped : (stepped : HasStepped (answered mine replies) brings.brought (unanswered mine replies) brings.later false after first t)
+      × (stepped.begun ≡ begun)
       × (heap_view asked ≡ heap_view stepped.asked)
   stepped =
       let shown = all_before steps.0 asked seen_alike steps.3 (puts_of brings.brought) brings.behind brings.steps in (
@@ -59,7 +62,8 @@ module _ (image : Image) (mine : List Request) (replies : Replies) (came : List 
           settles = record {
             worked = arrived;
             goes_on = goes_then shown.0 brings.behind arrived shown.2 brings.goes_on;
-            under_way = λ going. subst (λ (left : List Request). IsBehind left brings.later (heap_view shown.0) (heap_view arrived)) (sym none_left) (under_way shown.0 shown.3);
+            under_way = λ going. subst (λ (left : List Request). IsBehind left brings.later (heap_view shown.0) (heap_view arrived))
+                (sym none_left) (under_way shown.0 shown.3);
             before = before;
             all = λ going ran. (none_left, brings.all ran);
             settled = λ going. settled;
@@ -84,8 +88,10 @@ module _ (image : Image) (mine : List Request) (replies : Replies) (came : List 
         came_are = brings.came_are;
         before = heap_view t;
         seat = seat_law t;
-        answered = still image (worked.rs ++ puts_of brings.brought) (heap_view arrived) (heap_view t) (seat_law arrived) (seat_law t) quieted.own (ap opened_kinds quieted.kept.1.setup)
-            (subst (λ (x : CacheState). HasAnswered image (worked.rs ++ puts_of brings.brought) (heap_view x)) (sym (brings.there ran)) (brings.answered image worked.rs worked.answered));
+        answered = still image (worked.rs ++ puts_of brings.brought) (heap_view arrived) (heap_view t) (seat_law arrived)
+            (seat_law t) quieted.own (ap opened_kinds quieted.kept.1.setup)
+            (subst (λ (x : CacheState). HasAnswered image (worked.rs ++ puts_of brings.brought) (heap_view x)) (sym (brings.there ran))
+            (brings.answered image worked.rs worked.answered));
         unbegun = λ halted. let both : false ≡ true = halted in absurd (cc);
         ends = at_rest refl refl (brings.all ran) refl;
       },
@@ -119,8 +125,10 @@ module _ (image : Image) (mine : List Request) (replies : Replies) (came : List 
     by_case (stops_now was is ticket at quieted) = rests was quieted
 
 -- a worker that was stopped in a request ends there, and nothing is brought in
-pub stop_ends : (image : Image) (mine : List Request) (replies : Replies) (came : List Sent) (first begun t : CacheState) → GoesOn first begun → HasStopped image mine replies (heap_view t)
-    → (u : CacheState) × TakesRequests heap_view GoesOn TurnsAway (answered mine replies) begun u × IsUnderWay (unanswered mine replies) (heap_view u) (heap_view t) × GoesOn u t
+pub stop_ends : (image : Image) (mine : List Request) (replies : Replies) (came : List Sent) (first begun t : CacheState) → GoesOn first begun
+    → HasStopped image mine replies (heap_view t)
+    → (u : CacheState) × TakesRequests heap_view GoesOn TurnsAway (answered mine replies) begun u
+    × IsUnderWay (unanswered mine replies) (heap_view u) (heap_view t) × GoesOn u t
     → (ended : HasEnded image mine replies came [] false true (heap_view t))
     × (stepped : HasStepped (answered mine replies) [] (unanswered mine replies) ended.later false true first t) × (stepped.begun ≡ begun)
     × (unanswered mine replies ≡ [] → heap_view t ≡ heap_view stepped.asked)
@@ -170,7 +178,8 @@ answered_none [] = refl
 answered_none (q ∷ qs) = refl
 
 pub halt_ends : (image : Image) (mine : List Request) (stopped : Bool) (first t : CacheState) → GoesOn first t → HasAnswered image [] (heap_view t)
-    → (ended : HasEnded image mine [] [] [] true stopped (heap_view t)) × (stepped : HasStepped (answered mine []) [] (unanswered mine []) ended.later true stopped first t)
+    → (ended : HasEnded image mine [] [] [] true stopped (heap_view t))
+    × (stepped : HasStepped (answered mine []) [] (unanswered mine []) ended.later true stopped first t)
     × (stepped.asked ≡ t)
 halt_ends image mine stopped first t goes has = (
   record {

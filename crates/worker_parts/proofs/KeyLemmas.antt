@@ -32,7 +32,8 @@ put_keys (move key to ∷ qs) = put_keys qs
 put_keys_long : (qs : List Request) → length (put_keys qs) ≡ puts_among qs
 unfolding put_keys
 put_keys_long [] = refl
-put_keys_long (put key value ∷ qs) = let rest = put_keys_long qs in let one : length (key ∷ put_keys qs) ≡ 1 + length (put_keys qs) = omega arith in omega (arith, one, rest)
+put_keys_long (put key value ∷ qs) = let rest = put_keys_long qs in
+    let one : length (key ∷ put_keys qs) ≡ 1 + length (put_keys qs) = omega arith in omega (arith, one, rest)
 put_keys_long (get key ∷ qs) = put_keys_long qs
 put_keys_long (del key ∷ qs) = put_keys_long qs
 put_keys_long (move key to ∷ qs) = put_keys_long qs
@@ -61,7 +62,8 @@ put_keys_has (move k to ∷ qs) key value h = elim (head_or_rest (move k to) (pu
 abbrev pub arrival_keys : List ℕ → List Request → List Sent → List ℕ
 arrival_keys keys mine came = keys ++ (put_keys mine ++ map (λ s. s.key) came)
 
-pub arrival_keys_long : (keys : List ℕ) (mine : List Request) (came : List Sent) → length (arrival_keys keys mine came) ≡ length keys + puts_among mine + length came
+pub arrival_keys_long : (keys : List ℕ) (mine : List Request) (came : List Sent)
+    → length (arrival_keys keys mine came) ≡ length keys + puts_among mine + length came
 arrival_keys_long keys mine came =
     let a = length-append keys (put_keys mine ++ map (λ (s : Sent). s.key) came) in
     let b = length-append (put_keys mine) (map (λ (s : Sent). s.key) came) in
@@ -69,10 +71,15 @@ arrival_keys_long keys mine came =
     let d = put_keys_long mine in
     omega (arith, a, b, c, d)
 
-module _ (image : Image) (mine : List Request) (replies : Replies) (v : View) (came : List Sent) (keys : List ℕ) (maps : HasMaps image) (lists : ListsKeysOf image keys)
+module _ (image : Image) (mine : List Request) (replies : Replies) (v : View) (came : List Sent) (keys : List ℕ) (maps : HasMaps image)
+    (lists : ListsKeysOf image keys)
     (worked : HasWorked image mine [] replies v) (tables : HaveTables came v) where
   there : (s : Sent) → Contains came s → ListsKeys v (shard_of s.key) (arrival_keys keys mine came)
-  there s among = record { map = now; gives = worked.answered.gives (shard_of s.key) first.0 small (tables.shard s among).owned first.1; all = listed } where
+  there s among = record {
+    map = now;
+    gives = worked.answered.gives (shard_of s.key) first.0 small (tables.shard s among).owned first.1;
+    all = listed;
+  } where
     small : shard_of s.key < shards
     small = small_shard (get s.key)
 
@@ -88,7 +95,8 @@ module _ (image : Image) (mine : List Request) (replies : Replies) (v : View) (c
       | inr value ↦ elim (all_where (shard_of s.key) first.0 worked.rs key value.0 value.1) as (λ _. Contains (arrival_keys keys mine came) key) [
         | inl old ↦ Contains-append_left keys (put_keys mine ++ map (λ (x : Sent). x.key) came) key
             (lists.all (shard_of s.key) first.0 small first.1 key (λ none. let e : None ≡ Some value.0 = sym none ∙ old in absurd (cc)))
-        | inr by_put ↦ Contains-append_right keys (put_keys mine ++ map (λ (x : Sent). x.key) came) key (Contains-append_left (put_keys mine) (map (λ (x : Sent). x.key) came) key
+        | inr by_put ↦ Contains-append_right keys (put_keys mine ++ map (λ (x : Sent). x.key) came) key
+            (Contains-append_left (put_keys mine) (map (λ (x : Sent). x.key) came) key
             (put_keys_has mine key value.0 (subst (λ (xs : List Request). Contains xs (put key value.0)) (sym worked.requests_are)
             (Contains-append_left (map (λ (r : Request × Reply). r.0) worked.rs) [] (put key value.0) by_put))))
       ]

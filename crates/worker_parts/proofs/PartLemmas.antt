@@ -37,13 +37,16 @@ use Rattle.worker_parts.proofs.StateLemmas.{goes_then}
 -- a worker's first state
 module _ (shared : SharedView) (workers worker : ℕ) (first : CacheState) (is_first : IsFirst shared workers worker first) where
   pub first_opened : IsOpenedOver (image_of shared) (heap_view first)
-  first_opened = subst (λ (image : Image). IsOpenedOver image (heap_view first)) (ap (λ k. slice_index k.opened) is_first.setup) (is_first.fresh.opened first refl)
+  first_opened = subst (λ (image : Image). IsOpenedOver image (heap_view first)) (ap (λ k. slice_index k.opened) is_first.setup)
+      (is_first.fresh.opened first refl)
 
   -- it owns the roots of its shards, whose words it sees as they are in the image
   pub first_owns : (shard : ℕ) → shard < shards → worker_of workers shard ≡ worker → Contains first.view.roots shard
-  first_owns shard small is = (is_first.fresh.roots_own shard (omega (arith, small))).1 (cond-true (nat_lt shard shards) (worker_of workers shard) 0 (lt-ltb shard shards small) ∙ is)
+  first_owns shard small is = (is_first.fresh.roots_own shard (omega (arith, small))).1
+      (cond-true (nat_lt shard shards) (worker_of workers shard) 0 (lt-ltb shard shards small) ∙ is)
 
-  pub first_sees : (shard : ℕ) → shard < shards → worker_of workers shard ≡ worker → (heap_view first).volatile (root_word shard) ≡ Some (image_of shared (root_word shard))
+  pub first_sees : (shard : ℕ) → shard < shards → worker_of workers shard ≡ worker
+      → (heap_view first).volatile (root_word shard) ≡ Some (image_of shared (root_word shard))
   first_sees shard small is = (first_opened.words (root_word shard) (in_root shard (root_word shard) (first_owns shard small is) refl)).seen
 
   -- it goes on to a seat of the same heap, with the same roots
@@ -54,10 +57,12 @@ module _ (shared : SharedView) (workers worker : ℕ) (first : CacheState) (is_f
   }
 
   pub roots_on : (t : CacheState) → GoesOn first t → (root : ℕ) → root < roots → Contains t.view.roots root ↔ (root_owner workers root ≡ worker)
-  roots_on t goes root below = subst (λ (ns : List ℕ). Contains ns root ↔ (root_owner workers root ≡ worker)) (sym goes.1.roots) (is_first.fresh.roots_own root below)
+  roots_on t goes root below = subst (λ (ns : List ℕ). Contains ns root ↔ (root_owner workers root ≡ worker)) (sym goes.1.roots)
+      (is_first.fresh.roots_own root below)
 
 -- tables were made and requests worked off, and then the seat went on to another state, where it took nothing more and forgot nothing of the mark
-module _ (shared : SharedView) (requests : List Request) (workers worker : ℕ) (tables : ℕ → Bool) (replies : Replies) (before : Bool) (first begun asked t : CacheState)
+module _ (shared : SharedView) (requests : List Request) (workers worker : ℕ) (tables : ℕ → Bool) (replies : Replies) (before : Bool)
+    (first begun asked t : CacheState)
     (is_first : IsFirst shared workers worker first)
     (made : IsBegun (image_of shared) (is_target_of workers worker requests) tables false first begun)
     (part : HasAsked (image_of shared) (worker_requests workers worker requests) tables replies before begun asked)
@@ -79,7 +84,8 @@ module _ (shared : SharedView) (requests : List Request) (workers worker : ℕ) 
       let keys = has_keys (image_of shared) (first_opened shared workers worker first is_first).maps in
       (part.few keys.0 keys.1).row.goes_on.used
 
-  part_full : AreFullRightly heap_view GoesOn (worker_tables workers worker requests) (answered (worker_requests workers worker requests) replies) first t
+  part_full : AreFullRightly heap_view GoesOn (worker_tables workers worker requests)
+      (answered (worker_requests workers worker requests) replies) first t
   part_full = record {
     each = λ earlier later key value is.
         let at = part.full.each earlier later key value is in (
@@ -97,7 +103,8 @@ module _ (shared : SharedView) (requests : List Request) (workers worker : ℕ) 
         );
   }
 
-  part_taken : HasTakenFew (worker_tables workers worker requests) (answered (worker_requests workers worker requests) replies) (unanswered (worker_requests workers worker requests) replies)
+  part_taken : HasTakenFew (worker_tables workers worker requests) (answered (worker_requests workers worker requests) replies)
+      (unanswered (worker_requests workers worker requests) replies)
       (heap_view first) (heap_view t)
   part_taken = record {
     taken = let a = part.taken.taken in
@@ -112,11 +119,13 @@ module _ (shared : SharedView) (requests : List Request) (workers worker : ℕ) 
       let told = subst (λ b. TellsTable heap_view GoesOn TurnsAway shard b first begun) none (made.told refl shard small target) in
       let was = told.1 in
       record {
-        null = told.0 (image_of shared (root_word shard)) (first_sees shared workers worker first is_first shard small (target_is_own workers worker requests shard target));
+        null = told.0 (image_of shared (root_word shard)) (first_sees shared workers worker first is_first shard small
+            (target_is_own workers worker requests shard target));
         at = was.at;
         before = was.before;
         behind = goes_then was.at begun t was.behind from_begun;
-        knows = knows_then (heap_view was.at) (heap_view begun) (heap_view t) was.knows (knows_then (heap_view begun) (heap_view asked) (heap_view t) knows_asked knows);
+        knows = knows_then (heap_view was.at) (heap_view begun) (heap_view t) was.knows
+            (knows_then (heap_view begun) (heap_view asked) (heap_view t) knows_asked knows);
         room = was.room;
         taken = let a = was.until in
             let b = made.taken refl in
@@ -124,7 +133,8 @@ module _ (shared : SharedView) (requests : List Request) (workers worker : ℕ) 
             omega (arith, a, b, both);
       }
 
-  part_few : (came : ℕ) (keys : List ℕ) → ListsKeysOf image keys → t.small_calls ≤ asked.small_calls + came * (512 + 4 * (length keys + puts_among mine + came)) → t.large_calls ≤ asked.large_calls + came + 1
+  part_few : (came : ℕ) (keys : List ℕ) → ListsKeysOf image keys → t.small_calls ≤ asked.small_calls + came *
+      (512 + 4 * (length keys + puts_among mine + came)) → t.large_calls ≤ asked.large_calls + came + 1
       → SpendsFew (targets_of workers worker requests) mine came (length keys) t
   part_few came keys lists small large =
       let few = (part.few keys lists).row in
@@ -138,7 +148,8 @@ module _ (shared : SharedView) (requests : List Request) (workers worker : ℕ) 
   pub part_of : (came brought : List Sent) (after : Bool) (ended : HasEnded image mine replies came brought false after (heap_view t))
       (steps : HasStepped (answered mine replies) brought (unanswered mine replies) ended.later false after first t) → steps.begun ≡ begun
       → (unanswered mine replies ≡ [] → heap_view asked ≡ heap_view steps.asked)
-      → ((keys : List ℕ) → ListsKeysOf image keys → t.small_calls ≤ asked.small_calls + length came * (512 + 4 * (length keys + puts_among mine + length came)))
+      → ((keys : List ℕ) → ListsKeysOf image keys → t.small_calls ≤ asked.small_calls + length came *
+      (512 + 4 * (length keys + puts_among mine + length came)))
       → t.large_calls ≤ asked.large_calls + length came + 1
       → (after ≡ true) ↔ (t.view.stopped ≢ None) → (after ≡ false → HasEmptyCaches t) → (after ≡ false → ReachesAllHeld (heap_view t))
       → IsPart image workers requests worker tables replies came brought false after first t
@@ -170,7 +181,8 @@ module _ (shared : SharedView) (requests : List Request) (workers worker : ℕ) 
 
   -- and as a seat of the heap
   pub part_of_seat : (seat : SeatView) (came brought : List Sent) (after : Bool) → seat.table ≡ t.table → seat.view ≡ t.view
-      → IsPart image workers requests worker tables replies came brought false after first t → IsPartOf shared requests workers worker tables seat replies came brought false after
+      → IsPart image workers requests worker tables replies came brought false after first t
+      → IsPartOf shared requests workers worker tables seat replies came brought false after
   part_of_seat seat came brought after table view is = record {
     seat_of = seat_on shared workers worker first is_first t seat from_first table view;
     first = first;

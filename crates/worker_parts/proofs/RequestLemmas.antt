@@ -12,14 +12,22 @@ use Rattle.worker_parts.proofs.StateLemmas.{goes_none, goes_then}
 
 -- a state that is seen as another one, and that goes on to it
 module _ (u s : CacheState) (same : heap_view s ≡ heap_view u) (goes : GoesOn u s) where
-  refused_before : (request : Request) (t : CacheState) → WasRefused heap_view GoesOn TurnsAway request s t → WasRefused heap_view GoesOn TurnsAway request u t
+  refused_before : (request : Request) (t : CacheState) → WasRefused heap_view GoesOn TurnsAway request s t
+      → WasRefused heap_view GoesOn TurnsAway request u t
   refused_before request t was = let none = was.none in record {
     once = subst (λ (v : HeapView). (heap_view t).refusals ≡ v.refusals + 1) same was.once;
     asked = was.asked;
-    none = record { before = none.before; after = none.after; kept_before = goes_then u s none.before goes none.kept_before; none = none.none; kept_after = none.kept_after };
+    none = record {
+      before = none.before;
+      after = none.after;
+      kept_before = goes_then u s none.before goes none.kept_before;
+      none = none.none;
+      kept_after = none.kept_after;
+    };
   }
 
-  takes_before : (request : Request) (reply : Reply) (t : CacheState) → TakesRequest heap_view GoesOn TurnsAway request reply s t → TakesRequest heap_view GoesOn TurnsAway request reply u t
+  takes_before : (request : Request) (reply : Reply) (t : CacheState) → TakesRequest heap_view GoesOn TurnsAway request reply s t
+      → TakesRequest heap_view GoesOn TurnsAway request reply u t
   takes_before request reply t takes = record {
     answers = subst (λ (v : HeapView). Answers request reply v (heap_view t)) same takes.answers;
     may = subst (λ (v : HeapView). MayAnswer request v (heap_view t)) same takes.may;

@@ -21,7 +21,13 @@ pub record CostsOne (s t : CacheState) : Type 0 where
   pub large : t.large_calls ≤ s.large_calls + 1
 
 pub costs_none : (s t : CacheState) → t ≡ s → CostsOne s t
-costs_none s t same = subst (CostsOne s) (sym same) (record { goes_on = goes_none s; knows = omega arith; taken = omega arith; small = omega arith; large = omega arith })
+costs_none s t same = subst (CostsOne s) (sym same) (record {
+  goes_on = goes_none s;
+  knows = omega arith;
+  taken = omega arith;
+  small = omega arith;
+  large = omega arith;
+})
 
 one_more : (stopped : Option ℕ) (calls : ℕ) → counted stopped calls ≤ calls + 1
 one_more None calls = omega arith
@@ -44,7 +50,8 @@ settled_costs before after s t (is_empty was is empty going quieted) = costs_qui
 settled_costs before after s t (stops_now was is ticket at quieted) = costs_quiet s t quieted.kept quieted.quiet
 
 -- what emptying them answers
-pub settles : (before : Bool) (result : Result ⊤ Stopped) (s t : CacheState) → before ≡ false → OnOk result (HasEmptyCaches t) → OnOk result (t.view.stopped ≡ None)
+pub settles : (before : Bool) (result : Result ⊤ Stopped) (s t : CacheState) → before ≡ false → OnOk result (HasEmptyCaches t)
+    → OnOk result (t.view.stopped ≡ None)
     → IfErr result (λ e. Stops e.step (heap_view s) (heap_view t)) → WasQuieted s t → HasSettled before (is_err result) s t
 settles before (Ok a) s t was empty going stop quieted = is_empty was refl empty going quieted
 settles before (Err e) s t was empty going stop quieted = stops_now was refl e.step stop.stopped quieted

@@ -60,7 +60,8 @@ none_of s t bytes looks = IsTurnedAway bytes looks s.state.view t.state.view
 
 -- over whatever goes on as the state does
 module _ {C : Type 0} (goes : CacheValue C → CacheValue C → Type 0) (on : (s t : CacheValue C) → goes s t → GoesOn s.state t.state) where
-  turned_down : (bytes : ℕ) (looks : Looks) (s t : CacheValue C) → WasTurnedDown goes none_of bytes looks s t → WasTurnedDown GoesOn TurnsAway bytes looks s.state t.state
+  turned_down : (bytes : ℕ) (looks : Looks) (s t : CacheValue C) → WasTurnedDown goes none_of bytes looks s t
+      → WasTurnedDown GoesOn TurnsAway bytes looks s.state t.state
   turned_down bytes looks s t was = record {
     before = was.before.state;
     after = was.after.state;
@@ -69,10 +70,12 @@ module _ {C : Type 0} (goes : CacheValue C → CacheValue C → Type 0) (on : (s
     kept_after = on was.after t was.kept_after;
   }
 
-  pub refused_one : (request : Request) (s t : CacheValue C) → WasRefused view_of goes none_of request s t → WasRefused heap_view GoesOn TurnsAway request s.state t.state
+  pub refused_one : (request : Request) (s t : CacheValue C) → WasRefused view_of goes none_of request s t
+      → WasRefused heap_view GoesOn TurnsAway request s.state t.state
   refused_one request s t was = record { once = was.once; asked = was.asked; none = turned_down _ _ s t was.none }
 
-  pub takes_one : (request : Request) (reply : Reply) (s t : CacheValue C) → TakesRequest view_of goes none_of request reply s t → TakesRequest heap_view GoesOn TurnsAway request reply s.state t.state
+  pub takes_one : (request : Request) (reply : Reply) (s t : CacheValue C) → TakesRequest view_of goes none_of request reply s t
+      → TakesRequest heap_view GoesOn TurnsAway request reply s.state t.state
   takes_one request reply s t takes = record {
     answers = takes.answers;
     may = takes.may;
@@ -83,11 +86,13 @@ module _ {C : Type 0} (goes : CacheValue C → CacheValue C → Type 0) (on : (s
     granted = takes.granted;
   }
 
-  pub takes_all : (rs : List (Request × Reply)) (s t : CacheValue C) → TakesRequests view_of goes none_of rs s t → TakesRequests heap_view GoesOn TurnsAway rs s.state t.state
+  pub takes_all : (rs : List (Request × Reply)) (s t : CacheValue C) → TakesRequests view_of goes none_of rs s t
+      → TakesRequests heap_view GoesOn TurnsAway rs s.state t.state
   takes_all [] s t same = ap (λ (x : CacheValue C). x.state) same
   takes_all (r ∷ rs) s t all = (all.0.state, takes_one r.0 r.1 s all.0 all.1, takes_all rs all.0 t all.2)
 
-  pub full_rightly : (tables : ℕ) (rs : List (Request × Reply)) (s t : CacheValue C) → AreFullRightly view_of goes tables rs s t → AreFullRightly heap_view GoesOn tables rs s.state t.state
+  pub full_rightly : (tables : ℕ) (rs : List (Request × Reply)) (s t : CacheValue C) → AreFullRightly view_of goes tables rs s t
+      → AreFullRightly heap_view GoesOn tables rs s.state t.state
   full_rightly tables rs s t full = record {
     each = λ before later key value is. let at = full.each before later key value is in (at.0.state, on s at.0 at.1, on at.0 t at.2, at.3, at.4);
   }
@@ -104,6 +109,7 @@ module _ {C : Type 0} (goes : CacheValue C → CacheValue C → Type 0) (on : (s
     none = turned_down _ was.looks s t was.none;
   }
 
-  pub tells_table : (shard : ℕ) (has : Bool) (s t : CacheValue C) → TellsTable view_of goes none_of shard has s t → TellsTable heap_view GoesOn TurnsAway shard has s.state t.state
+  pub tells_table : (shard : ℕ) (has : Bool) (s t : CacheValue C) → TellsTable view_of goes none_of shard has s t
+      → TellsTable heap_view GoesOn TurnsAway shard has s.state t.state
   tells_table shard true s t told = told
   tells_table shard false s t told = (told.0, refused_table s t told.1)

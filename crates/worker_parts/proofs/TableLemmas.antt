@@ -26,7 +26,8 @@ use Rattle.worker_parts.proofs.BroughtLemmas.{target_is_own}
 use Rattle.worker_parts.proofs.PartLemmas.{first_opened, first_owns}
 
 -- a table stays over requests
-table_stays : (shard : ℕ) (rs : List (Request × Reply)) (s t : CacheState) → TakesRequests heap_view GoesOn TurnsAway rs s t → Contains s.view.roots shard
+table_stays : (shard : ℕ) (rs : List (Request × Reply)) (s t : CacheState) → TakesRequests heap_view GoesOn TurnsAway rs s t
+    → Contains s.view.roots shard
     → RootIsSet (heap_view s) shard → RootIsSet (heap_view t) shard
 table_stays shard [] s t same owned set = subst (λ (x : CacheState). RootIsSet (heap_view x) shard) (sym same) set
 table_stays shard (r ∷ rs) s t all owned set =
@@ -41,17 +42,20 @@ module _ (shared : SharedView) (requests : List Request) (workers worker : ℕ) 
   module _ (key : ℕ) (has : HasTableFor tables requests workers worker key) where
     begun_owns : Contains begun.view.roots (shard_of key)
     begun_owns = subst (λ (roots : List ℕ). Contains roots (shard_of key)) (sym made.roots_are)
-        (first_owns shared workers worker first is_first (shard_of key) (small_shard (get key)) (target_is_own workers worker requests (shard_of key) has.target))
+        (first_owns shared workers worker first is_first (shard_of key) (small_shard (get key))
+        (target_is_own workers worker requests (shard_of key) has.target))
 
     asked_owns : Contains asked.view.roots (shard_of key)
     asked_owns = subst (λ (roots : List ℕ). Contains roots (shard_of key)) (sym part.roots_are) begun_owns
 
     shard_there : IsShard (heap_view asked) (shard_of key)
-    shard_there = asked_shard (image_of shared) (part.worked refl).rs (heap_view asked) (shard_of key) (first_opened shared workers worker first is_first).maps (small_shard (get key)) asked_owns
+    shard_there = asked_shard (image_of shared) (part.worked refl).rs (heap_view asked) (shard_of key)
+        (first_opened shared workers worker first is_first).maps (small_shard (get key)) asked_owns
         (part.worked refl).answered
 
     begun_has : RootIsSet (heap_view begun) (shard_of key)
-    begun_has = subst (λ b. TellsTable heap_view GoesOn TurnsAway (shard_of key) b first begun) has.table (made.told refl (shard_of key) (small_shard (get key)) has.target)
+    begun_has = subst (λ b. TellsTable heap_view GoesOn TurnsAway (shard_of key) b first begun) has.table
+        (made.told refl (shard_of key) (small_shard (get key)) has.target)
 
     asked_has : RootIsSet (heap_view asked) (shard_of key)
     asked_has =

@@ -26,11 +26,12 @@ moved_push [] q shard = by_or (is_moved_to (q ∷ []) shard) where
 moved_push (put key value ∷ qs) q shard = moved_push qs q shard
 moved_push (get key ∷ qs) q shard = moved_push qs q shard
 moved_push (del key ∷ qs) q shard = moved_push qs q shard
-moved_push (move key to ∷ qs) q shard = ap (λ b. nat_eq (shard_of to) shard || b) (moved_push qs q shard) ∙ swaps (nat_eq (shard_of to) shard) (is_moved_to (q ∷ []) shard) (is_moved_to qs shard) where
-  swaps : (a b c : Bool) → (a || (b || c)) ≡ (b || (a || c))
-  swaps true true c = refl
-  swaps true false c = refl
-  swaps false b c = refl
+moved_push (move key to ∷ qs) q shard = ap (λ b. nat_eq (shard_of to) shard || b) (moved_push qs q shard)
+    ∙ swaps (nat_eq (shard_of to) shard) (is_moved_to (q ∷ []) shard) (is_moved_to qs shard) where
+      swaps : (a b c : Bool) → (a || (b || c)) ≡ (b || (a || c))
+      swaps true true c = refl
+      swaps true false c = refl
+      swaps false b c = refl
 
 -- a line that is no move
 pub not_moved : (line : Line) → ((key to : ℕ) → line ≡ Move key to → ⊥) → (shard : ℕ) → is_moved_to (request_of line ∷ []) shard ≡ false
@@ -39,13 +40,15 @@ not_moved (Get key) not shard = refl
 not_moved (Del key) not shard = refl
 not_moved (Move key to) not shard = absurd (not key to refl)
 
-pub targets_same : (qs : List Request) (q : Request) (flags : List Bool) → ((shard : ℕ) → is_moved_to (q ∷ []) shard ≡ false) → AreTargets qs flags → AreTargets (qs ++ (q ∷ [])) flags
+pub targets_same : (qs : List Request) (q : Request) (flags : List Bool) → ((shard : ℕ) → is_moved_to (q ∷ []) shard ≡ false)
+    → AreTargets qs flags → AreTargets (qs ++ (q ∷ [])) flags
 targets_same qs q flags none are = record {
   long = are.long;
   each = λ shard small. are.each shard small ∙ sym (moved_push qs q shard ∙ ap (λ b. b || is_moved_to qs shard) (none shard));
 }
 
-pub targets_next : (qs : List Request) (key to at : ℕ) (flags now : List Bool) → at ≡ shard_of to → at < shards → now ≡ set flags at true → length now ≡ shards → AreTargets qs flags
+pub targets_next : (qs : List Request) (key to at : ℕ) (flags now : List Bool) → at ≡ shard_of to → at < shards → now ≡ set flags at true
+    → length now ≡ shards → AreTargets qs flags
     → AreTargets (qs ++ (move key to ∷ [])) now
 targets_next qs key to at flags now at_is small_at now_is long are = record {
   long = long;
@@ -55,7 +58,8 @@ targets_next qs key to at flags now at_is small_at now_is long are = record {
         ∙ sym (moved_push qs (move key to) shard ∙ ap (λ b. (b || false) || is_moved_to qs shard) (eq-eqb (shard_of to) shard (sym at_is ∙ sym same)))
     | inr other ↦
         ap (λ fs. is_flagged fs shard) now_is ∙ flag_stays flags at shard true other ∙ are.each shard small
-        ∙ sym (moved_push qs (move key to) shard ∙ ap (λ b. (b || false) || is_moved_to qs shard) (ne_eqb (shard_of to) shard (λ e. other (sym (at_is ∙ e)))))
+        ∙ sym (moved_push qs (move key to) shard ∙ ap (λ b. (b || false) || is_moved_to qs shard)
+        (ne_eqb (shard_of to) shard (λ e. other (sym (at_is ∙ e)))))
   ];
 }
 
@@ -75,17 +79,22 @@ pub record AreOwn (workers worker : ℕ) (targets flags : List Bool) (number : �
 pub own_none : (workers worker : ℕ) (targets flags : List Bool) → length flags ≡ shards → AreOwn workers worker targets flags 0
 own_none workers worker targets flags long = record { long = long; each = λ shard below. absurd (omega arith) }
 
-pub own_next : (workers worker number : ℕ) (targets flags now : List Bool) (has : Bool) → number < shards → now ≡ set flags number has → length now ≡ shards
-    → has ≡ (nat_eq (worker_of workers number) worker && is_flagged targets number) → AreOwn workers worker targets flags number → AreOwn workers worker targets now (number + 1)
+pub own_next : (workers worker number : ℕ) (targets flags now : List Bool) (has : Bool) → number < shards → now ≡ set flags number has
+    → length now ≡ shards
+    → has ≡ (nat_eq (worker_of workers number) worker && is_flagged targets number) → AreOwn workers worker targets flags number
+    → AreOwn workers worker targets now (number + 1)
 own_next workers worker number targets flags now has small is long has_is own = record {
   long = long;
-  each = λ shard below. elim (cases_eq shard number) as (λ _. is_flagged now shard ≡ (nat_eq (worker_of workers shard) worker && is_flagged targets shard)) [
-    | inl same ↦ subst (λ n. is_flagged now n ≡ (nat_eq (worker_of workers n) worker && is_flagged targets n)) (sym same)
-        (ap (λ fs. is_flagged fs number) is ∙ flag_set flags number has (let l = own.long in omega arith) ∙ has_is)
-    | inr other ↦ ap (λ fs. is_flagged fs shard) is ∙ flag_stays flags number shard has other ∙ own.each shard (omega arith)
-  ];
+  each = λ shard below. elim (cases_eq shard number) as (λ _. is_flagged now shard ≡
+      (nat_eq (worker_of workers shard) worker && is_flagged targets shard)) [
+        | inl same ↦ subst (λ n. is_flagged now n ≡ (nat_eq (worker_of workers n) worker && is_flagged targets n)) (sym same)
+            (ap (λ fs. is_flagged fs number) is ∙ flag_set flags number has (let l = own.long in omega arith) ∙ has_is)
+        | inr other ↦ ap (λ fs. is_flagged fs shard) is ∙ flag_stays flags number shard has other ∙ own.each shard (omega arith)
+      ];
 }
 
-pub own_all : (workers worker : ℕ) (targets flags : List Bool) (requests : List Request) → ((shard : ℕ) → shard < shards → is_flagged targets shard ≡ is_moved_to requests shard)
+pub own_all : (workers worker : ℕ) (targets flags : List Bool) (requests : List Request)
+    → ((shard : ℕ) → shard < shards → is_flagged targets shard ≡ is_moved_to requests shard)
     → AreOwn workers worker targets flags shards → (shard : ℕ) → shard < shards → is_flagged flags shard ≡ is_target_of workers worker requests shard
-own_all workers worker targets flags requests are own shard small = own.each shard small ∙ ap (λ b. nat_eq (worker_of workers shard) worker && b) (are shard small)
+own_all workers worker targets flags requests are own shard small = own.each shard small
+    ∙ ap (λ b. nat_eq (worker_of workers shard) worker && b) (are shard small)

@@ -14,9 +14,11 @@ use Rattle.run_model.specs.Working.{HasStopped, HasWorked, IsUnderWay, TakesRequ
 use Rattle.worker_run.specs.Sending.{GoesByTables}
 use Rattle.worker_parts.specs.Going.{GoesOn, TurnsAway}
 
--- From the one state to the other a seat of any kind worked off its requests, over these tables, with these replies, or was stopped in one. What goes on of it
+-- From the one state to the other a seat of any kind worked off its requests, over these tables, with these replies, or
+-- was stopped in one. What goes on of it
 -- is given, and what is so where a request is turned away.
-pub record HasAskedOf {S : Type 0} (view : S → View) (goes : S → S → Type 0) (has_none : S → S → ℕ → Looks → Type 0) (image : Image) (mine : List Request)
+pub record HasAskedOf {S : Type 0} (view : S → View) (goes : S → S → Type 0) (has_none : S → S → ℕ → Looks → Type 0) (image : Image)
+    (mine : List Request)
     (tables : ℕ → Bool) (replies : Replies) (stopped : Bool) (s t : S) : Type 0 where
   pub worked : stopped ≡ false → HasWorked image mine [] replies (view t)
   pub in_one : stopped ≡ true → HasStopped image mine replies (view t)

@@ -26,14 +26,16 @@ pub record IsOpenedFor (opening : Opening) (workers worker : ℕ) (v : View) : T
   pub roots_own : (root : ℕ) → root < roots → Contains v.roots root ↔ (root_owner workers root ≡ worker)
   pub opened : (s : CacheState) → s.view ≡ v → IsOpenedOver (slice_index v.setup.opened) (heap_view s)
 
--- From the one state to the other tables were made for the wanted shards, as far as there was room, and it is told of each whether it has one, unless it was stopped in
+-- From the one state to the other tables were made for the wanted shards, as far as there was room, and it is told of
+-- each whether it has one, unless it was stopped in
 -- that. The maps are as before, wherever that ended.
 pub record IsBegun (image : Image) (wanted tables : ℕ → Bool) (stopped : Bool) (s t : CacheState) : Type 0 where
   pub answered : HasAnswered image [] (heap_view t)
   pub told : stopped ≡ false → (shard : ℕ) → shard < shards → wanted shard ≡ true → TellsTable heap_view GoesOn TurnsAway shard (tables shard) s t
   pub taken : stopped ≡ false → t.view.taken ≤ s.view.taken + tables_made wanted (heap_view s) (heap_view t)
   pub most : t.view.taken ≤ s.view.taken + tables_missing wanted (heap_view s)
-  pub calls : IsRow (512 * count_by wanted (words_from (λ i. i) 0 shards)) (count_by wanted (words_from (λ i. i) 0 shards)) (count_by wanted (words_from (λ i. i) 0 shards))
+  pub calls : IsRow (512 * count_by wanted (words_from (λ i. i) 0 shards)) (count_by wanted (words_from (λ i. i) 0 shards))
+      (count_by wanted (words_from (λ i. i) 0 shards))
       (heap_view s) (heap_view t)
   pub roots_are : t.view.roots ≡ s.view.roots
   pub role_is : role t.view ≡ role s.view

@@ -17,13 +17,17 @@ use Rattle.worker_parts.specs.Going.{GoesOn, TurnsAway, HasSettled}
 pub data EndsIn (left : List Request) (brought later : List Sent) (halted stopped : Bool) (v w : View) : Type 0 where
   at_rest : halted ≡ false → left ≡ [] → later ≡ [] → w ≡ v → EndsIn left brought later halted stopped v w
   not_begun : halted ≡ true → brought ≡ [] → w ≡ v → EndsIn left brought later halted stopped v w
-  in_request : halted ≡ false → stopped ≡ true → brought ≡ [] → (request : Request) (others : List Request) → left ≡ request ∷ others → MayAnswer request v w
+  in_request : halted ≡ false → stopped ≡ true → brought ≡ [] → (request : Request) (others : List Request) → left ≡ request ∷ others
+      → MayAnswer request v w
       → EndsIn left brought later halted stopped v w
-  in_arrival : halted ≡ false → stopped ≡ true → left ≡ [] → (next : Sent) (others : List Sent) → later ≡ next ∷ others → MayAnswer (put next.key next.value) v w
+  in_arrival : halted ≡ false → stopped ≡ true → left ≡ [] → (next : Sent) (others : List Sent) → later ≡ next ∷ others
+      → MayAnswer (put next.key next.value) v w
       → EndsIn left brought later halted stopped v w
 
--- These requests have these replies, none where it is not begun; and of what came the first values are brought in, as puts that are done. Then it ended.
-pub record HasEnded (image : Image) (requests : List Request) (replies : Replies) (came brought : List Sent) (halted stopped : Bool) (v : View) : Type 0 where
+-- These requests have these replies, none where it is not begun; and of what came the first values are brought in, as
+-- puts that are done. Then it ended.
+pub record HasEnded (image : Image) (requests : List Request) (replies : Replies) (came brought : List Sent) (halted stopped : Bool)
+    (v : View) : Type 0 where
   pub rs : List (Request × Reply)
   pub left : List Request
   pub later : List Sent
@@ -46,7 +50,8 @@ abbrev pub IsBehind : List Request → List Sent → View → View → Type 0
 IsBehind [] later v w = IsArriving later v w
 IsBehind (request ∷ others) later v w = IsUnderWay (request ∷ others) v w
 
--- Behind the last answer or value it was stopped in the next one, or nothing was left and its caches were to be emptied. One that was halted is left as it is.
+-- Behind the last answer or value it was stopped in the next one, or nothing was left and its caches were to be
+-- emptied. One that was halted is left as it is.
 pub record SettlesBehind (left : List Request) (later : List Sent) (halted after : Bool) (s t : CacheState) : Type 0 where
   pub worked : CacheState
   pub goes_on : GoesOn s worked
@@ -56,9 +61,11 @@ pub record SettlesBehind (left : List Request) (later : List Sent) (halted after
   pub settled : halted ≡ false → HasSettled before after worked t
   pub left_as_is : halted ≡ true → (worked ≡ s) × (t ≡ worked)
 
--- The seat's states from the first one to the last: once its tables are made, once its requests are answered, one by one, once the first values are brought in, each as a put
+-- The seat's states from the first one to the last: once its tables are made, once its requests are answered, one by
+-- one, once the first values are brought in, each as a put
 -- that is done, and at the end.
-pub record HasStepped (rs : List (Request × Reply)) (brought : List Sent) (left : List Request) (later : List Sent) (halted stopped : Bool) (s t : CacheState) : Type 0 where
+pub record HasStepped (rs : List (Request × Reply)) (brought : List Sent) (left : List Request) (later : List Sent) (halted stopped : Bool)
+    (s t : CacheState) : Type 0 where
   pub begun : CacheState
   pub asked : CacheState
   pub arrived : CacheState

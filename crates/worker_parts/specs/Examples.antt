@@ -1,4 +1,5 @@
--- Worked examples: where a worker ended, what was done behind its last answer, which calls are few, which values are left, and which keys have a table.
+-- Worked examples: where a worker ended, what was done behind its last answer, which calls are few, which values are
+-- left, and which keys have a table.
 use Rattle.std.specs.Prelude.{◌≡◌, ◌≢◌, ℕ, ◌+◌, ◌≤◌, Bool, true, false, nat_eq, List, [], ◌∷◌, length, map, None, Some, Contains, refl}
 use Rattle.std.proofs.Common.{arith, ap, subst, sym, inl, inr, ◌∙◌}
 use Rattle.heap_model.specs.declared.block.Block.{Block}
@@ -38,7 +39,8 @@ ends : (v : View) → EndsIn [] (third ∷ []) [] false false v v × EndsIn (get
 ends v = (at_rest refl refl refl refl, not_begun refl refl refl)
 
 -- it doesn't rest while a request or a value is left
-ends_not_early : (request : Request) (others : List Request) (brought later : List Sent) (v w : View) → EndsIn (request ∷ others) brought later false false v w → ⊥
+ends_not_early : (request : Request) (others : List Request) (brought later : List Sent) (v w : View)
+    → EndsIn (request ∷ others) brought later false false v w → ⊥
 ends_not_early request others brought later v w (at_rest going none all same) = let e : request ∷ others ≡ [] = none in absurd (cc)
 ends_not_early request others brought later v w (not_begun halted none same) = let e : false ≡ true = halted in absurd (cc)
 ends_not_early request others brought later v w (in_request going stop none first rest are may) = let e : false ≡ true = stop in absurd (cc)
@@ -51,7 +53,8 @@ ends_not_before next later brought left v w (in_request going stop none first re
 ends_not_before next later brought left v w (in_arrival going stop none first rest are may) = let e : false ≡ true = stop in absurd (cc)
 
 -- one that was halted isn't in a request: it is left as it was, also where its seat was stopped
-ends_as_it_was : (request : Request) (others : List Request) (brought later : List Sent) (v w : View) → EndsIn (request ∷ others) brought later true true v w → w ≡ v
+ends_as_it_was : (request : Request) (others : List Request) (brought later : List Sent) (v w : View)
+    → EndsIn (request ∷ others) brought later true true v w → w ≡ v
 ends_as_it_was request others brought later v w (at_rest going none all same) = same
 ends_as_it_was request others brought later v w (not_begun halted none same) = same
 ends_as_it_was request others brought later v w (in_request going stop none first rest are may) = let e : true ≡ false = going in absurd (cc)
@@ -79,11 +82,14 @@ ended_not : (image : Image) (requests : List Request) (stopped : Bool) (v : View
 ended_not image requests stopped v = (
   λ ended. let e : Some done ∷ [] ≡ [] = ended.replies_are ∙ ap (λ rs. map (λ (r : Request × Reply). Some r.1) rs) (ended.unbegun refl) in absurd (cc),
   λ ended. let e : [] ≡ third ∷ ended.later = ended.came_are in absurd (cc),
-  λ ended. ends_not_before third [] [] ended.left ended.before v (subst (λ later. EndsIn ended.left [] later false false ended.before v) (sym ended.came_are) ended.ends),
+  λ ended. ends_not_before third [] [] ended.left ended.before v (subst (λ later. EndsIn ended.left [] later false false ended.before v)
+      (sym ended.came_are) ended.ends),
 )
 
--- Behind the last answer nothing is done where nothing is left. A request that is left goes first, and neither it nor a value that came gives the seat a root.
-behind_not : (later : List Sent) → (IsBehind [] [] (drawing 7) (drawing 8) → ⊥) × (IsBehind (get 5 ∷ []) later (drawing 7) rooted → ⊥) × (IsBehind [] (third ∷ later) (drawing 7) rooted → ⊥)
+-- Behind the last answer nothing is done where nothing is left. A request that is left goes first, and neither it nor a
+-- value that came gives the seat a root.
+behind_not : (later : List Sent) → (IsBehind [] [] (drawing 7) (drawing 8) → ⊥) × (IsBehind (get 5 ∷ []) later (drawing 7) rooted → ⊥)
+    × (IsBehind [] (third ∷ later) (drawing 7) rooted → ⊥)
 behind_not later = (
   λ same. let n : 8 ≡ 7 = ap (λ (v : View). v.next) same in omega arith,
   λ under_way. let n : 1 ≡ 0 = ap length under_way.0.others.roots in omega arith,
@@ -102,8 +108,10 @@ settles_halted left later after s goes = record {
   left_as_is = λ halted. (refl, refl);
 }
 
-settles_unchanged : (left : List Request) (later : List Sent) (after : Bool) (s t : CacheState) → t.large_calls ≢ s.large_calls → SettlesBehind left later true after s t → ⊥
-settles_unchanged left later after s t more settles = let as_is = settles.left_as_is refl in more (ap (λ (x : CacheState). x.large_calls) (as_is.1 ∙ as_is.0))
+settles_unchanged : (left : List Request) (later : List Sent) (after : Bool) (s t : CacheState) → t.large_calls ≢ s.large_calls
+    → SettlesBehind left later true after s t → ⊥
+settles_unchanged left later after s t more settles = let as_is = settles.left_as_is refl in
+    more (ap (λ (x : CacheState). x.large_calls) (as_is.1 ∙ as_is.0))
 
 -- another isn't done while a request is left, unless it was stopped
 settles_all : (left : List Request) (later : List Sent) (s t : CacheState) → SettlesBehind left later false false s t → left ≡ []
@@ -132,7 +140,8 @@ frees_behind b after s t held freed settles = freed (subst (λ bs. Contains bs b
 lacks_not : (shard tables : ℕ) (s t : CacheState) → LacksTable (λ word. 9) tables shard s t → ⊥
 lacks_not shard tables s t lacks = omega (arith, lacks.null)
 
-lacks_not_with_room : (image : Image) (shard : ℕ) (s t : CacheState) → s.view.taken ≡ 0 → (heap_view t).used_look.seen ≡ 0 → 1 ≤ (heap_view t).capacity → LacksTable image 0 shard s t → ⊥
+lacks_not_with_room : (image : Image) (shard : ℕ) (s t : CacheState) → s.view.taken ≡ 0 → (heap_view t).used_look.seen ≡ 0
+    → 1 ≤ (heap_view t).capacity → LacksTable image 0 shard s t → ⊥
 lacks_not_with_room image shard s t none unseen some lacks =
     let past = lacks.room.past in
     let now = lacks.room.now in
@@ -186,38 +195,47 @@ one_added : AreLeftOf [] (third ∷ []) → ⊥
 one_added (inl same) = let e : third ∷ [] ≡ [] = same in absurd (cc)
 one_added (inr one) = let e : [] ≡ one.0 ∷ third ∷ [] = one.1 in absurd (cc)
 
--- of two workers the second has the shard of key 9, to which a move is; not the first, not a shard that no move is to, and not where it is told to have no table
+-- of two workers the second has the shard of key 9, to which a move is; not the first, not a shard that no move is to,
+-- and not where it is told to have no table
 has_table : HasTableFor (λ shard. nat_eq shard 1) (move 5 9 ∷ []) 2 1 9
 has_table = record { table = refl; target = refl }
 
-has_no_table : (tables : ℕ → Bool) → (HasTableFor tables (move 5 9 ∷ []) 2 0 9 → ⊥) × (HasTableFor tables (move 5 9 ∷ []) 2 1 11 → ⊥) × (HasTableFor (λ shard. false) (move 5 9 ∷ []) 2 1 9 → ⊥)
+has_no_table : (tables : ℕ → Bool) → (HasTableFor tables (move 5 9 ∷ []) 2 0 9 → ⊥) × (HasTableFor tables (move 5 9 ∷ []) 2 1 11 → ⊥)
+    × (HasTableFor (λ shard. false) (move 5 9 ∷ []) 2 1 9 → ⊥)
 has_no_table tables = (
   λ has. let e : false ≡ true = has.target in absurd (cc),
   λ has. let e : false ≡ true = has.target in absurd (cc),
   λ has. let e : false ≡ true = has.table in absurd (cc),
 )
 
--- A worker whose seat was stopped was stopped, and one whose seat had stopped before the first request was halted. Before the first request each target that is told to
+-- A worker whose seat was stopped was stopped, and one whose seat had stopped before the first request was halted.
+-- Before the first request each target that is told to
 -- have a table has one.
-part_stops : (image : Image) (workers worker : ℕ) (requests : List Request) (tables : ℕ → Bool) (replies : Replies) (came brought : List Sent) (halted : Bool) (s t : CacheState) (ticket : ℕ)
+part_stops : (image : Image) (workers worker : ℕ) (requests : List Request) (tables : ℕ → Bool) (replies : Replies) (came brought : List Sent)
+    (halted : Bool) (s t : CacheState) (ticket : ℕ)
     → t.view.stopped ≡ Some ticket → IsPart image workers requests worker tables replies came brought halted false s t → ⊥
 part_stops image workers worker requests tables replies came brought halted s t ticket at part =
     let e : false ≡ true = part.stops.1 (λ none. let clash : Some ticket ≡ None = sym at ∙ none in absurd (cc)) in absurd (cc)
 
-part_halted : (image : Image) (workers worker : ℕ) (requests : List Request) (tables : ℕ → Bool) (replies : Replies) (came brought : List Sent) (stopped : Bool) (s t : CacheState) (ticket : ℕ)
+part_halted : (image : Image) (workers worker : ℕ) (requests : List Request) (tables : ℕ → Bool) (replies : Replies) (came brought : List Sent)
+    (stopped : Bool) (s t : CacheState) (ticket : ℕ)
     → (part : IsPart image workers requests worker tables replies came brought false stopped s t) → part.steps.begun.view.stopped ≡ Some ticket → ⊥
 part_halted image workers worker requests tables replies came brought stopped s t ticket part at =
     let clash : Some ticket ≡ None = sym at ∙ part.going refl in absurd (cc)
 
 part_has_table : (image : Image) (replies : Replies) (came brought : List Sent) (stopped : Bool) (s t : CacheState)
-    → (part : IsPart image 2 (move 5 9 ∷ []) 1 (λ shard. true) replies came brought false stopped s t) → (heap_view part.steps.begun).volatile (root_word 1) ≡ Some 0 → ⊥
+    → (part : IsPart image 2 (move 5 9 ∷ []) 1 (λ shard. true) replies came brought false stopped s t)
+    → (heap_view part.steps.begun).volatile (root_word 1) ≡ Some 0 → ⊥
 part_has_table image replies came brought stopped s t part null =
     let set = part.told refl 1 (omega arith) refl in
     let e : Some 0 ≡ Some set.value = sym null ∙ set.seen in
     let z : 0 ≡ set.value = cc in
     set.some (sym z)
 
--- a worker doesn't bring in one value by three large calls, though a put may make so many: the value is not copied to another block, with the first one freed
-part_copies : (image : Image) (tables : ℕ → Bool) (brought : List Sent) (halted stopped : Bool) (s t : CacheState) (keys : List ℕ) → ListsKeysOf image keys
+-- a worker doesn't bring in one value by three large calls, though a put may make so many: the value is not copied to
+-- another block, with the first one freed
+part_copies : (image : Image) (tables : ℕ → Bool) (brought : List Sent) (halted stopped : Bool) (s t : CacheState) (keys : List ℕ)
+    → ListsKeysOf image keys
     → (part : IsPart image 1 [] 0 tables [] (third ∷ []) brought halted stopped s t) → t.large_calls ≡ part.steps.asked.large_calls + 3 → ⊥
-part_copies image tables brought halted stopped s t keys lists part three = let large = (part.arrivals_few refl keys lists).large in omega (arith, three, large)
+part_copies image tables brought halted stopped s t keys lists part three = let large = (part.arrivals_few refl keys lists).large in
+    omega (arith, three, large)

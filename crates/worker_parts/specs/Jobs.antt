@@ -43,11 +43,13 @@ pub record IsFirst (shared : SharedView) (workers worker : ℕ) (s : CacheState)
 abbrev pub image_of : SharedView → ℕ → ℕ
 image_of shared = slice_index (setup_for shared.opening).opened
 
--- The worker's tables are made; where it was stopped in that, nothing is told of them. There is room for each of its requests, and it has no reply yet.
+-- The worker's tables are made; where it was stopped in that, nothing is told of them. There is room for each of its
+-- requests, and it has no reply yet.
 pub record IsBegunOf {C : Type 0} (shared : SharedView) (requests : List Request) (begun : Begun C) : Type 0 where
   pub first : CacheState
   pub is_first : IsFirst shared begun.worker.workers begun.worker.number first
-  pub part : IsBegun (image_of shared) (is_target_of begun.worker.workers begun.worker.number requests) (is_flagged begun.tables) begun.stopped first begun.seat.state
+  pub part : IsBegun (image_of shared) (is_target_of begun.worker.workers begun.worker.number requests)
+      (is_flagged begun.tables) begun.stopped first begun.seat.state
   pub rooms : HaveRoom (image_of shared) requests (worker_requests begun.worker.workers begun.worker.number requests) begun.rooms.items
   pub empty : begun.replies.items ≡ []
   pub reserved : length (worker_requests begun.worker.workers begun.worker.number requests) ≤ vec_capacity begun.replies
@@ -58,7 +60,8 @@ pub record IsAskedOf {C : Type 0} (shared : SharedView) (requests : List Request
   pub begun : CacheState
   pub is_first : IsFirst shared asked.worker.workers asked.worker.number first
   pub made : IsBegun (image_of shared) (is_target_of asked.worker.workers asked.worker.number requests) tables false first begun
-  pub part : HasAsked (image_of shared) (worker_requests asked.worker.workers asked.worker.number requests) tables (replies_of asked.replies.items) asked.stopped
+  pub part : HasAsked (image_of shared) (worker_requests asked.worker.workers asked.worker.number requests) tables
+      (replies_of asked.replies.items) asked.stopped
       begun asked.seat.state
 
 -- the key's shard is one of the worker's that values are moved to, and is told to have a table
@@ -70,7 +73,8 @@ pub record HasTableFor (tables : ℕ → Bool) (requests : List Request) (worker
 abbrev pub AreLeftOf : List Sent → List Sent → Type 0
 AreLeftOf later left = (left ≡ later) ⊎ ((next : Sent) × (later ≡ next ∷ left))
 
--- the seat of a worker did its part of the run: it has these replies, this came for it and the first values of it are brought in, and it was stopped or not
+-- the seat of a worker did its part of the run: it has these replies, this came for it and the first values of it are
+-- brought in, and it was stopped or not
 pub record IsPartOf (shared : SharedView) (requests : List Request) (workers worker : ℕ) (tables : ℕ → Bool) (seat : SeatView) (replies : Replies)
     (came brought : List Sent) (halted stopped : Bool) : Type 0 where
   pub seat_of : IsSeatOf shared seat
@@ -81,5 +85,7 @@ pub record IsPartOf (shared : SharedView) (requests : List Request) (workers wor
   pub part : IsPart (image_of shared) workers requests worker tables replies came brought halted stopped first last
 
 -- so did this one
-pub record IsWorkedOf (shared : SharedView) (requests : List Request) (tables : ℕ → Bool) (came brought : List Sent) (halted : Bool) (worked : Worked) : Type 0 where
-  pub part : IsPartOf shared requests worked.worker.workers worked.worker.number tables worked.seat (replies_of worked.replies.items) came brought halted worked.stopped
+pub record IsWorkedOf (shared : SharedView) (requests : List Request) (tables : ℕ → Bool) (came brought : List Sent) (halted : Bool)
+    (worked : Worked) : Type 0 where
+  pub part : IsPartOf shared requests worked.worker.workers worked.worker.number tables worked.seat
+      (replies_of worked.replies.items) came brought halted worked.stopped

@@ -19,17 +19,20 @@ use Rattle.worker_run.specs.Sending.{GoesByTables}
 use Rattle.worker_parts.specs.Ending.{HasEnded, HasStepped}
 use Rattle.worker_parts.specs.Going.{GoesOn, IsUnused, TurnsAway}
 
--- so many calls of a seat since it was opened: those of tables, of its own requests and of what came, over an image of so many keys, and one that empties its caches
+-- so many calls of a seat since it was opened: those of tables, of its own requests and of what came, over an image of
+-- so many keys, and one that empties its caches
 pub record SpendsFew (tables : ℕ) (mine : List Request) (came keys : ℕ) (t : CacheState) : Type 0 where
   pub small : t.small_calls ≤ 512 * tables + length mine * (33280 + 4 * (keys + length mine)) + came * (512 + 4 * (keys + puts_among mine + came))
   pub large : t.large_calls ≤ tables + sum_by large_calls_of mine + came + 1
 
--- from the state behind the last answer on, so many calls of a seat: those that bring in what came, over an image of so many keys, and one that empties its caches
+-- from the state behind the last answer on, so many calls of a seat: those that bring in what came, over an image of so
+-- many keys, and one that empties its caches
 pub record ArrivalsAreFew (mine : List Request) (came keys : ℕ) (s t : CacheState) : Type 0 where
   pub small : t.small_calls ≤ s.small_calls + came * (512 + 4 * (keys + puts_among mine + came))
   pub large : t.large_calls ≤ s.large_calls + came + 1
 
--- The shard has no table in the image. At a moment from the one state to the other none was left for it, and nothing was forgotten of the mark since; until then
+-- The shard has no table in the image. At a moment from the one state to the other none was left for it, and nothing
+-- was forgotten of the mark since; until then
 -- the seat had taken so many superblocks at most.
 pub record LacksTable (image : Image) (tables shard : ℕ) (s t : CacheState) : Type 0 where
   pub null : image (root_word shard) ≡ 0
@@ -40,18 +43,23 @@ pub record LacksTable (image : Image) (tables shard : ℕ) (s t : CacheState) : 
   pub room : HadNoTableRoom (heap_view at)
   pub taken : at.view.taken ≤ s.view.taken + tables
 
--- One worker's part of a run, over which it is told of each shard whether it has a table. These replies it gave, this came for it by moves, and of that it brought in
--- the first values. It is halted where a worker was stopped before the first request; else it is told of each shard of its own that values are moved to whether it has
+-- One worker's part of a run, over which it is told of each shard whether it has a table. These replies it gave, this
+-- came for it by moves, and of that it brought in
+-- the first values. It is halted where a worker was stopped before the first request; else it is told of each shard of
+-- its own that values are moved to whether it has
 -- a table before the first request. A flag that is false says that it had none at first and that one was refused.
-pub record IsPart (image : Image) (workers : ℕ) (requests : List Request) (worker : ℕ) (tables : ℕ → Bool) (replies : Replies) (came brought : List Sent)
+pub record IsPart (image : Image) (workers : ℕ) (requests : List Request) (worker : ℕ) (tables : ℕ → Bool) (replies : Replies)
+    (came brought : List Sent)
     (halted stopped : Bool) (s t : CacheState) : Type 0 where
   pub roots_own : (root : ℕ) → root < roots → Contains t.view.roots root ↔ (root_owner workers root ≡ worker)
   pub unused : IsUnused s
   pub goes_on : GoesOn s t
   pub ended : HasEnded image (worker_requests workers worker requests) replies came brought halted stopped (heap_view t)
-  pub steps : HasStepped (answered (worker_requests workers worker requests) replies) brought (unanswered (worker_requests workers worker requests) replies) ended.later
+  pub steps : HasStepped (answered (worker_requests workers worker requests) replies) brought
+      (unanswered (worker_requests workers worker requests) replies) ended.later
       halted stopped s t
-  pub few : (keys : List ℕ) → ListsKeysOf image keys → SpendsFew (targets_of workers worker requests) (worker_requests workers worker requests) (length came) (length keys) t
+  pub few : (keys : List ℕ) → ListsKeysOf image keys → SpendsFew (targets_of workers worker requests) (worker_requests workers worker requests)
+      (length came) (length keys) t
   pub arrivals_few : unanswered (worker_requests workers worker requests) replies ≡ [] → (keys : List ℕ) → ListsKeysOf image keys
       → ArrivalsAreFew (worker_requests workers worker requests) (length came) (length keys) steps.asked t
   pub full : AreFullRightly heap_view GoesOn (worker_tables workers worker requests) (answered (worker_requests workers worker requests) replies) s t

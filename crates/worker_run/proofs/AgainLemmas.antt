@@ -17,7 +17,8 @@ use Rattle.run_model.proofs.OneMapLemmas.{whole_map}
 use Rattle.worker_run.proofs.KeyLemmas.{map_keys}
 
 -- a shard that is left as one map or another is a map
-one_left : (left : Image) (shard : ℕ) (m : Map) (stopped : Bool) (rest : List Request) → IsMapLeft left shard m stopped rest → (now : Map) × MapOf left shard now
+one_left : (left : Image) (shard : ℕ) (m : Map) (stopped : Bool) (rest : List Request) → IsMapLeft left shard m stopped rest → (now : Map)
+    × MapOf left shard now
 one_left left shard m stopped rest (inl same) = (m, same)
 one_left left shard m stopped rest (inr next) = (after_one m next.1.request done, next.1.map_is)
 
@@ -26,7 +27,8 @@ kinds_left : {image left : Image} {words : ℕ} → HasMaps image → LeavesHead
 kinds_left {image} {left} have header root below =
     let kept = header.kinds root below in let few = have.kinds root below in omega arith
 
-pub can_be_run : (image left : Image) (workers : ℕ) (requests : List Request) (replies : Replies) (stopped : Bool) (words : ℕ) → HasMaps image → LeavesMaps image workers requests replies stopped left
+pub can_be_run : (image left : Image) (workers : ℕ) (requests : List Request) (replies : Replies) (stopped : Bool) (words : ℕ) → HasMaps image
+    → LeavesMaps image workers requests replies stopped left
     → LeavesHeader image words left → LeavesOthers image left → CanBeRun words left
 can_be_run image left workers requests replies stopped words have maps header others = record {
   well_formed = header.well_formed;
@@ -38,7 +40,8 @@ can_be_run image left workers requests replies stopped words have maps header ot
         let first = have.each shard small in
         let whole = whole_map image have in
         let rs = answered requests replies in
-        one_left left shard (after first.0 (of_shard shard (rs ++ arrived_for workers shard whole.0 rs maps.arrived))) stopped (worker_unanswered workers (worker_of workers shard) requests replies)
+        one_left left shard (after first.0 (of_shard shard (rs ++ arrived_for workers shard whole.0 rs maps.arrived))) stopped
+        (worker_unanswered workers (worker_of workers shard) requests replies)
         (maps.each whole.0 whole.1 shard first.0 small first.1);
   };
 }

@@ -59,13 +59,16 @@ refused_once bytes shard looks v w (of_node_behind_table null set refused) = ref
 refused_once bytes shard looks v w (of_table null refused) = refused.count
 
 -- of the bytes of its node where its shard has a table, and of a table where it has none
-asks_for : (key : ℕ) (value : List ℕ) (looks : Looks) (v w : View) → PutRefused (node_bytes (length value)) (shard_of key) looks v w → AsksFor (put key value) w.refused_bytes w
+asks_for : (key : ℕ) (value : List ℕ) (looks : Looks) (v w : View) → PutRefused (node_bytes (length value)) (shard_of key) looks v w
+    → AsksFor (put key value) w.refused_bytes w
 asks_for key value looks v w (of_node set refused) = inl (set, refused.bytes_are)
 asks_for key value looks v w (of_node_behind_table null set refused) = inl (set, refused.bytes_are)
 asks_for key value looks v w (of_table null refused) = inr (null, refused.bytes_are)
 
-pub was_refused : {S : Type 0} (view : S → View) (keeps : S → S → Type 0) (has_none : S → S → ℕ → Looks → Type 0) (key : ℕ) (value : List ℕ) (looks : Looks) (s t : S)
-    → PutRefused (node_bytes (length value)) (shard_of key) looks (view s) (view t) → WasTurnedDown keeps has_none (view t).refused_bytes (view t).refused_looks s t
+pub was_refused : {S : Type 0} (view : S → View) (keeps : S → S → Type 0) (has_none : S → S → ℕ → Looks → Type 0) (key : ℕ) (value : List ℕ)
+    (looks : Looks) (s t : S)
+    → PutRefused (node_bytes (length value)) (shard_of key) looks (view s) (view t)
+    → WasTurnedDown keeps has_none (view t).refused_bytes (view t).refused_looks s t
     → WasRefused view keeps has_none (put key value) s t
 was_refused view keeps has_none key value looks s t refused down = record {
   once = refused_once (node_bytes (length value)) (shard_of key) looks (view s) (view t) refused;
@@ -79,31 +82,42 @@ ok_then P Q (Ok x) follows is = follows x is
 ok_then P Q (Err e) follows is = is
 
 -- what was refused was so over what goes on besides
-pub refused_over : {S : Type 0} (view : S → View) (keeps goes : S → S → Type 0) (has_none : S → S → ℕ → Looks → Type 0) (q : Request) (s t : S) → ((x y : S) → keeps x y → goes x y)
+pub refused_over : {S : Type 0} (view : S → View) (keeps goes : S → S → Type 0) (has_none : S → S → ℕ → Looks → Type 0) (q : Request) (s t : S)
+    → ((x y : S) → keeps x y → goes x y)
     → WasRefused view keeps has_none q s t → WasRefused view goes has_none q s t
 refused_over view keeps goes has_none q s t over was = record {
   once = was.once;
   asked = was.asked;
   none = let none = was.none in
-      record { before = none.before; after = none.after; kept_before = over s none.before none.kept_before; none = none.none; kept_after = over none.after t none.kept_after };
+      record {
+        before = none.before;
+        after = none.after;
+        kept_before = over s none.before none.kept_before;
+        none = none.none;
+        kept_after = over none.after t none.kept_after;
+      };
 }
 
 -- one that was refused may have made one too
-full_takes : (key : ℕ) (value : List ℕ) (looks : Looks) (v w : View) → PutRefused (node_bytes (length value)) (shard_of key) looks v w → TakesFew (put key value) full v w
+full_takes : (key : ℕ) (value : List ℕ) (looks : Looks) (v w : View) → PutRefused (node_bytes (length value)) (shard_of key) looks v w
+    → TakesFew (put key value) full v w
 full_takes key value looks v w (of_node set refused) = only_node refused.taken
 full_takes key value looks v w (of_node_behind_table null set refused) = with_table tt null set (let few = refused.taken in omega arith)
 full_takes key value looks v w (of_table null refused) = only_node refused.taken
 
-refused_room : (bytes most : ℕ) (looks : Looks) (key : ℕ) (value : List ℕ) (v w : View) → span_of bytes ≤ span_of (node_bytes (length value)) → IsRefused bytes most looks v w
+refused_room : (bytes most : ℕ) (looks : Looks) (key : ℕ) (value : List ℕ) (v w : View) → span_of bytes ≤ span_of (node_bytes (length value))
+    → IsRefused bytes most looks v w
     → HadNoRoom (put key value) w
 refused_room bytes most looks key value v w least refused = record {
   past = let past = refused.found.past in let seen = refused.found.used.is in omega (arith, least);
   now = refused.found.used.taken;
 }
 
-full_room : (key : ℕ) (value : List ℕ) (looks : Looks) (v w : View) → PutRefused (node_bytes (length value)) (shard_of key) looks v w → HadNoRoom (put key value) w
+full_room : (key : ℕ) (value : List ℕ) (looks : Looks) (v w : View) → PutRefused (node_bytes (length value)) (shard_of key) looks v w
+    → HadNoRoom (put key value) w
 full_room key value looks v w (of_node set refused) = refused_room (node_bytes (length value)) 0 looks key value v w (omega arith) refused
-full_room key value looks v w (of_node_behind_table null set refused) = refused_room (node_bytes (length value)) (span_of table_bytes) looks key value v w (omega arith) refused
+full_room key value looks v w (of_node_behind_table null set refused) =
+    refused_room (node_bytes (length value)) (span_of table_bytes) looks key value v w (omega arith) refused
 full_room key value looks v w (of_table null refused) = refused_room table_bytes 0 looks key value v w (omega arith) refused
 
 pub replied_full : (key : ℕ) (value : List ℕ) (looks : Looks) (v w : View) → PutRefused (node_bytes (length value)) (shard_of key) looks v w
@@ -121,7 +135,8 @@ pub there_or_not : (o : Option (List ℕ)) → (o ≡ None) ⊎ ((value : List �
 there_or_not None = inl refl
 there_or_not (Some value) = inr (value, refl)
 
-pub replied_gone : (key : ℕ) (v w : View) → IsShard v (shard_of key) → MakesFew 0 0 (shard_of key) v w → Deletes key true v w → Replied (del key) (Some done) v w
+pub replied_gone : (key : ℕ) (v w : View) → IsShard v (shard_of key) → MakesFew 0 0 (shard_of key) v w → Deletes key true v w
+    → Replied (del key) (Some done) v w
 replied_gone key v w shard few deletes = record {
   reply = done;
   told_is = refl;
@@ -136,7 +151,8 @@ replied_gone key v w shard few deletes = record {
   room = λ is_put e. absurd (is_put);
 }
 
-pub replied_none : (key : ℕ) (v w : View) → IsShard v (shard_of key) → MakesFew 0 0 (shard_of key) v w → Deletes key false v w → Replied (del key) (Some none) v w
+pub replied_none : (key : ℕ) (v w : View) → IsShard v (shard_of key) → MakesFew 0 0 (shard_of key) v w → Deletes key false v w
+    → Replied (del key) (Some none) v w
 replied_none key v w shard few deletes = record {
   reply = none;
   told_is = refl;
@@ -150,11 +166,13 @@ replied_none key v w shard few deletes = record {
   missing : (m : Map) → GivesMap v (shard_of key) m → m key ≡ None
   missing m gives = elim (there_or_not (m key)) as (λ _. m key ≡ None) [
     | inl nothing ↦ nothing
-    | inr value ↦ absurd (let yes : false ≡ true = (deletes.tells m gives).1 (λ nothing. let e : None ≡ Some value.0 = sym nothing ∙ value.1 in absurd (cc)) in cc)
+    | inr value ↦ absurd (let yes : false ≡ true = (deletes.tells m gives).1 (λ nothing. let e : None ≡ Some value.0 = sym nothing ∙ value.1 in
+        absurd (cc)) in cc)
   ]
 
 -- the words that a request copies are few
-pub copies_few : (q : Request) (v : View) (room : ℕ) → IsShort q → Fits v q room → (map : Map) → GivesMap v (shard_asked q) map → words_copied q map ≤ 16384
+pub copies_few : (q : Request) (v : View) (room : ℕ) → IsShort q → Fits v q room → (map : Map) → GivesMap v (shard_asked q) map
+    → words_copied q map ≤ 16384
 copies_few (put key value) v room short fits map gives = omega (arith, short)
 copies_few (del key) v room short fits map gives = omega arith
 copies_few (move key to) v room short fits map gives = omega arith
@@ -164,7 +182,8 @@ copies_few (get key) v room short fits map gives = elim (there_or_not (map key))
       (let most = fits.0 in let long = fits.1 map value.0 gives value.1 in let few : value_words (length value.0) ≤ 16384 = omega arith in few)
 ]
 
-pub replied_missing : (key : ℕ) (old new : List ℕ) (v w : View) → IsShard v (shard_of key) → ReadsFew key v w → Changes (shard_of key) (λ m. m) v w → Gets key None old new v w
+pub replied_missing : (key : ℕ) (old new : List ℕ) (v w : View) → IsShard v (shard_of key) → ReadsFew key v w
+    → Changes (shard_of key) (λ m. m) v w → Gets key None old new v w
     → Replied (get key) (Some none) v w
 replied_missing key old new v w shard few same got = record {
   reply = none;
@@ -189,10 +208,13 @@ read_is : (value old new rest : List ℕ) (len n : ℕ) → n ≡ length value �
 read_is value old new rest len n count long same fits is =
     let all : take len (new ++ rest) ≡ new = subst (λ k. take k (new ++ rest) ≡ new) (sym long) (take-append_seam new rest) in
     let whole : new ≡ value ++ drop (length value) old = is ∙ ap (λ xs. xs ++ drop (length value) old) (take_all (length old) value fits) in
-    ap (take n) (all ∙ whole) ∙ subst (λ k. take k (value ++ drop (length value) old) ≡ value) (sym count) (take-append_seam value (drop (length value) old))
+    ap (take n) (all ∙ whole) ∙ subst (λ k. take k (value ++ drop (length value) old) ≡ value) (sym count)
+    (take-append_seam value (drop (length value) old))
 
-pub replied_found : (key room n len : ℕ) (old new rest told : List ℕ) (v w : View) → Fits v (get key) room → room ≡ length old → len ≡ length new → length new ≡ length old
-    → told ≡ take n (take len (new ++ rest)) → IsShard v (shard_of key) → ReadsFew key v w → Changes (shard_of key) (λ m. m) v w → Gets key (Some n) old new v w → Replied (get key) (Some (found told)) v w
+pub replied_found : (key room n len : ℕ) (old new rest told : List ℕ) (v w : View) → Fits v (get key) room → room ≡ length old
+    → len ≡ length new → length new ≡ length old
+    → told ≡ take n (take len (new ++ rest)) → IsShard v (shard_of key) → ReadsFew key v w → Changes (shard_of key) (λ m. m) v w
+    → Gets key (Some n) old new v w → Replied (get key) (Some (found told)) v w
 replied_found key room n len old new rest told v w fits is_room long same_long told_is shard few same got = record {
   reply = found told;
   told_is = refl;
@@ -206,7 +228,8 @@ replied_found key room n len old new rest told v w fits is_room long same_long t
           let is : IsAnswer (Some value.0) (Some n) old new = subst (λ o. IsAnswer o (Some n) old new) value.1 (got.tells m gives) in
           let e : Some n ≡ Some (length value.0) = is.0 in
           let count : n ≡ length value.0 = cc in
-          value.1 ∙ ap Some (sym (told_is ∙ read_is value.0 old new rest len n count long same_long (subst (λ k. length value.0 ≤ k) is_room (fits.1 m value.0 gives value.1)) is.1))
+          value.1 ∙ ap Some (sym (told_is ∙ read_is value.0 old new rest len n count long same_long
+          (subst (λ k. length value.0 ≤ k) is_room (fits.1 m value.0 gives value.1)) is.1))
     ]);
     gives = same.gives;
   };

@@ -14,11 +14,16 @@ use Rattle.run_model.specs.Opened.{HasAllRoots}
 use Rattle.dict_requests.proofs.ImageLemmas.{walk_of}
 use Rattle.dict_requests.proofs.SeatsLemmas.{nothing_outside as nothing_outside_seats, walk_alone}
 
-module _ (v : View) (left : Image) (seat : IsSeat v) (only : ReachesOnlyHeld v) (mixes : MixesOwn v left) (named : NamesAll left v.held) (kinds : StoresKinds v left)
+module _ (v : View) (left : Image) (seat : IsSeat v) (only : ReachesOnlyHeld v) (mixes : MixesOwn v left) (named : NamesAll left v.held)
+    (kinds : StoresKinds v left)
     (all : HasAllRoots v) where
   -- the seat is the only one of its heap
   share : ShareHeap 1 (λ _. v)
-  share = record { only = λ i below. only; owner = λ root below. (0, omega arith, all.each root below); one_holder = λ i j b i_below j_below hi hj. omega arith }
+  share = record {
+    only = λ i below. only;
+    owner = λ root below. (0, omega arith, all.each root below);
+    one_holder = λ i j b i_below j_below hi hj. omega arith;
+  }
 
   mixed : MixesSeats 1 (λ _. v) left
   mixed = record { mixes = λ i below. mixes; names = λ i below. named; kinds = λ i below. kinds.each }

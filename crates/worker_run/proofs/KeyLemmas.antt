@@ -28,16 +28,19 @@ find_has image key (b ∷ bs) some = elim (cases_eq (key_in image b) key) as (λ
       (find_has image key bs (λ none. some (cond-false (nat_eq (key_in image b) key) _ (find image key bs) (ne_eqb (key_in image b) key other) ∙ none)))
 ]
 
-below_has : (image : Image) (nodes : ℕ → List Block) (k j key : ℕ) → j < k → Contains (map (key_in image) (nodes j)) key → Contains (keys_below image nodes k) key
+below_has : (image : Image) (nodes : ℕ → List Block) (k j key : ℕ) → j < k → Contains (map (key_in image) (nodes j)) key
+    → Contains (keys_below image nodes k) key
 unfolding keys_below
 below_has image nodes zero j key below h = absurd (omega arith)
 below_has image nodes (suc k) j key below h = elim (cases_eq j k) as (λ _. Contains (keys_below image nodes (suc k)) key) [
-  | inl same ↦ Contains-append_left (map (key_in image) (nodes k)) (keys_below image nodes k) key (subst (λ i. Contains (map (key_in image) (nodes i)) key) same h)
+  | inl same ↦ Contains-append_left (map (key_in image) (nodes k)) (keys_below image nodes k) key
+      (subst (λ i. Contains (map (key_in image) (nodes i)) key) same h)
   | inr other ↦ Contains-append_right (map (key_in image) (nodes k)) (keys_below image nodes k) key (below_has image nodes k j key (omega arith) h)
 ]
 
 -- a list of all keys of a map
-pub map_keys : (leads : Leading) (image : Image) (shard : ℕ) (m : Map) → IsMap leads image shard m → (keys : List ℕ) × ((key : ℕ) → m key ≢ None → Contains keys key)
+pub map_keys : (leads : Leading) (image : Image) (shard : ℕ) (m : Map) → IsMap leads image shard m → (keys : List ℕ)
+    × ((key : ℕ) → m key ≢ None → Contains keys key)
 map_keys leads image shard m (is_empty null none) = ([], λ key some. absurd (some (none key)))
 map_keys leads image shard m (has_table table nodes there chains means) = (
   keys_below image nodes buckets,

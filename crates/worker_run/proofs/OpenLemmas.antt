@@ -27,21 +27,24 @@ use Rattle.run_model.specs.Stands.{IsOwnOther, HasOthers}
 use Rattle.dict_requests.proofs.ShardReachLemmas.{block_lists, used_in_image, reached_alone}
 
 -- a word is a pointer to one of the blocks, or to none
-led_or_not : (word : ℕ) (bs : List Block) → ((b : Block) × Contains bs b × IsPointerTo word (8 * b.first_word)) ⊎ ((b : Block) → Contains bs b → IsPointerTo word (8 * b.first_word) → ⊥)
+led_or_not : (word : ℕ) (bs : List Block) → ((b : Block) × Contains bs b × IsPointerTo word (8 * b.first_word)) ⊎ ((b : Block) → Contains bs b
+    → IsPointerTo word (8 * b.first_word) → ⊥)
 led_or_not word [] = inr (λ b h to. in_none b h)
 led_or_not word (c ∷ bs) = elim (both (cases_eq word (pointer_tag + 8 * c.first_word)) (at_most (8 * c.first_word + 1) (2 ^ 48)))
-    as (λ _. ((b : Block) × Contains (c ∷ bs) b × IsPointerTo word (8 * b.first_word)) ⊎ ((b : Block) → Contains (c ∷ bs) b → IsPointerTo word (8 * b.first_word) → ⊥)) [
+    as (λ _. ((b : Block) × Contains (c ∷ bs) b × IsPointerTo word (8 * b.first_word)) ⊎ ((b : Block) → Contains (c ∷ bs) b
+    → IsPointerTo word (8 * b.first_word) → ⊥)) [
       | inl first ↦ inl (c, in_head c bs, record { tagged = first.0; short = omega (arith, first.1) })
-      | inr other ↦ elim (led_or_not word bs) as (λ _. ((b : Block) × Contains (c ∷ bs) b × IsPointerTo word (8 * b.first_word)) ⊎ ((b : Block) → Contains (c ∷ bs) b → IsPointerTo word (8 * b.first_word) → ⊥)) [
-        | inl led ↦ inl (led.0, in_rest c led.0 bs led.1, led.2)
-        | inr none ↦ inr (λ b h to. elim (head_or_rest c b bs h) as (λ _. ⊥) [
-          | inl same ↦
-              let here : IsPointerTo word (8 * c.first_word) = subst (λ (x : Block). IsPointerTo word (8 * x.first_word)) (sym same) to in
-              let short = here.short in
-              other (here.tagged, omega arith)
-          | inr rest ↦ none b rest to
-        ])
-      ]
+      | inr other ↦ elim (led_or_not word bs) as (λ _. ((b : Block) × Contains (c ∷ bs) b × IsPointerTo word (8 * b.first_word)) ⊎ ((b : Block)
+          → Contains (c ∷ bs) b → IsPointerTo word (8 * b.first_word) → ⊥)) [
+            | inl led ↦ inl (led.0, in_rest c led.0 bs led.1, led.2)
+            | inr none ↦ inr (λ b h to. elim (head_or_rest c b bs h) as (λ _. ⊥) [
+              | inl same ↦
+                  let here : IsPointerTo word (8 * c.first_word) = subst (λ (x : Block). IsPointerTo word (8 * x.first_word)) (sym same) to in
+                  let short = here.short in
+                  other (here.tagged, omega arith)
+              | inr rest ↦ none b rest to
+            ])
+          ]
     ]
 
 -- each root from which a block may be reached is the seat's
@@ -64,7 +67,13 @@ module _ (image : Image) (v : View) (seat : IsSeat v) (opened : IsOpenedOver ima
   leads_in at value b own may leads =
       let reached = (opened.exact b).0 leads.0 in
       subst (λ w. Leads image w b) (read_is at value own may)
-      (record { pointer = leads.1; names = record { begins_at = refl; block = reached_block image (kinds_of image) dict_links b reached.kind reached.reach } })
+      (record {
+        pointer = leads.1;
+        names = record {
+          begins_at = refl;
+          block = reached_block image (kinds_of image) dict_links b reached.kind reached.reach;
+        };
+      })
 
   reach_back : (root : ℕ) (b : Block) (kind : ℕ) → MayReach v root b kind → ReachFrom image (λ r. r ≡ root) (kinds_of image) dict_links b kind
   reach_back root = closure_least (ReachFrom image (λ r. r ≡ root) (kinds_of image) dict_links)
@@ -78,11 +87,13 @@ module _ (image : Image) (v : View) (seat : IsSeat v) (opened : IsOpenedOver ima
       (λ a b from kind reached has link. by_link a b from kind has (record {
         position = link.position;
         listed = block_lists image a from link.position kind link.is_link;
-        leads = leads_in (a.first_word + link.position) link.value b (link_own v a from link.position kind (reached_held v root a from reached) link.is_link) link.read link.leads;
+        leads = leads_in (a.first_word + link.position) link.value b (link_own v a from link.position kind
+            (reached_held v root a from reached) link.is_link) link.read link.leads;
       }))
 
   -- what the image has where a trace from the seat's roots looks is null or leads to a held block
-  good : (at : ℕ) → IsTraced image (kinds_of image) dict_links at → ((b : Block) → Leads image (image at) b → IsReachedFrom image (Contains v.roots) b) → IsNullOrHeld v (image at)
+  good : (at : ℕ) → IsTraced image (kinds_of image) dict_links at
+      → ((b : Block) → Leads image (image at) b → IsReachedFrom image (Contains v.roots) b) → IsNullOrHeld v (image at)
   good at traced reached = elim (cases_eq (image at) 0) as (λ _. IsNullOrHeld v (image at)) [
     | inl null ↦ inl null
     | inr some ↦ elim (led_or_not (image at) v.held) as (λ _. IsNullOrHeld v (image at)) [
@@ -97,7 +108,8 @@ module _ (image : Image) (v : View) (seat : IsSeat v) (opened : IsOpenedOver ima
   own_reach : (root : ℕ) (b : Block) (kind : ℕ) → MayReach v root b kind → FromOwn b kind
   own_reach root b kind reached =
       let owned = own_root v root b kind reached in
-      more_roots {chosen = λ r. r ≡ root} {chosen' = Contains v.roots} image (kinds_of image) dict_links (λ r e. subst (Contains v.roots) (sym e) owned) b kind (reach_back root b kind reached)
+      more_roots {chosen = λ r. r ≡ root} {chosen' = Contains v.roots} image (kinds_of image) dict_links
+      (λ r e. subst (Contains v.roots) (sym e) owned) b kind (reach_back root b kind reached)
 
   any_reach : (b : Block) (kind : ℕ) → FromOwn b kind → ReachIn image dict_links b kind
   any_reach b kind reached = more_roots {chosen = Contains v.roots} {chosen' = AnyRoot} image (kinds_of image) dict_links (λ r e. tt) b kind reached
@@ -114,15 +126,18 @@ module _ (image : Image) (v : View) (seat : IsSeat v) (opened : IsOpenedOver ima
     links = λ root a from position kind value reached is may.
         let there = own_reach root a from reached in
         let listed = block_lists image a from position kind is in
-        subst (IsNullOrHeld v) (sym (read_is (a.first_word + position) value (link_own v a from position kind (reached_held v root a from reached) is) may))
-        (good (a.first_word + position) (is_linked a from position kind (a.first_word + position) (any_reach a from there) listed refl) (λ b leads. record {
+        subst (IsNullOrHeld v) (sym (read_is (a.first_word + position) value
+        (link_own v a from position kind (reached_held v root a from reached) is) may))
+        (good (a.first_word + position) (is_linked a from position kind (a.first_word + position) (any_reach a from there) listed refl)
+        (λ b leads. record {
           kind = kind;
           reach = by_link a b from kind there (record { position = position; listed = listed; leads = leads });
         }));
     alone = λ shard root b kind other small differs p q.
         let map = opened.maps.each shard small in
         reached_alone image shard small map.1.kind_is map.0 map.1 b kind other (reach_back shard b kind p)
-        (more_roots {chosen = λ r. r ≡ root} {chosen' = λ r. r ≢ shard} image (kinds_of image) dict_links (λ r e same. differs (sym same ∙ e)) b other (reach_back root b other q));
+        (more_roots {chosen = λ r. r ≡ root} {chosen' = λ r. r ≢ shard} image (kinds_of image) dict_links
+        (λ r e same. differs (sym same ∙ e)) b other (reach_back root b other q));
   }
 
   -- what the seat's roots reach in the image, loads see reached
@@ -156,7 +171,8 @@ module _ (image : Image) (v : View) (seat : IsSeat v) (opened : IsOpenedOver ima
         let reached = used_in_image image shard small is.kind_is b used in
         (opened.exact b).1 (record {
           kind = reached.0;
-          reach = more_roots {chosen = λ r. r ≡ shard} {chosen' = Contains v.roots} image (kinds_of image) dict_links (λ r e. subst (Contains v.roots) (sym e) owned) b reached.0 reached.1;
+          reach = more_roots {chosen = λ r. r ≡ shard} {chosen' = Contains v.roots} image (kinds_of image) dict_links
+              (λ r e. subst (Contains v.roots) (sym e) owned) b reached.0 reached.1;
         })
 
     by_image : (mixed : Image) → MixesOwn v mixed → IsMapIn v mixed shard map
@@ -166,7 +182,8 @@ module _ (image : Image) (v : View) (seat : IsSeat v) (opened : IsOpenedOver ima
         let own = in_root shard (root_word shard) owned refl in
         map_stays (Contains v.held) (are_placed v seat) (LeadsTo (Contains v.held)) (λ word b leads. leads.0) image mixed shard
         (settled_in v mixed mixes (root_word shard) (image (root_word shard)) own (opened.words (root_word shard) own))
-        (λ b h word inside. settled_in v mixed mixes word (image word) (in_block b word h inside) (opened.words word (in_block b word h inside))) map first
+        (λ b h word inside. settled_in v mixed mixes word (image word) (in_block b word h inside)
+        (opened.words word (in_block b word h inside))) map first
 
   pub others_opened : HasOthers image v
   others_opened = record {

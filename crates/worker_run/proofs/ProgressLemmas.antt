@@ -24,9 +24,11 @@ use Rattle.run_model.proofs.StandsLemmas.{others_still, root_in_left, block_in_l
 roots_still : (v w : View) → w.roots ≡ v.roots → HasAllRoots v → HasAllRoots w
 roots_still v w same all = record { each = λ root below. subst (λ (ns : List ℕ). Contains ns root) (sym same) (all.each root below) }
 
-module _ (image : Image) (rs : List (Request × Reply)) (v w : View) (request : Request) (seat : IsSeat v) (has : HasAnswered image rs v) (may : MayAnswer request v w) where
+module _ (image : Image) (rs : List (Request × Reply)) (v w : View) (request : Request) (seat : IsSeat v) (has : HasAnswered image rs v)
+    (may : MayAnswer request v w) where
   -- where the request was stopped, what is left of each shard is its map, or of the one shard the map after the request too
-  pub left_stopped : (left : Image) (others : List Request) → HasAllRoots v → IsSeat w → MixesOwn w left → NamesAll left w.held → StoresKinds w left → (shard : ℕ) (map : Map) → shard < shards
+  pub left_stopped : (left : Image) (others : List Request) → HasAllRoots v → IsSeat w → MixesOwn w left → NamesAll left w.held
+      → StoresKinds w left → (shard : ℕ) (map : Map) → shard < shards
       → MapOf image shard map → IsMapLeft left shard (after map (of_shard shard rs)) true (request ∷ others)
   left_stopped left others all seat_w mixes named kinds shard map small is = elim (cases_eq (shard_asked request) shard)
       as (λ _. IsMapLeft left shard (after map (of_shard shard rs)) true (request ∷ others)) [
@@ -46,7 +48,8 @@ module _ (image : Image) (rs : List (Request × Reply)) (v w : View) (request : 
                 },
               )
             ]
-        | inr other ↦ inl (on_left (after map (of_shard shard rs)) ((other_gives image rs v w request seat has may shard map small owned (λ e. other (sym e)) is).each left mixes))
+        | inr other ↦ inl (on_left (after map (of_shard shard rs)) ((other_gives image rs v w request seat has may shard map small owned
+            (λ e. other (sym e)) is).each left mixes))
       ] where
         owned : Contains v.roots shard
         owned = all.each shard (omega arith)
@@ -58,13 +61,15 @@ module _ (image : Image) (rs : List (Request × Reply)) (v w : View) (request : 
             map_left w left seat_w stands.only mixes named kinds all_now shard m small (sym (stands.kinds.each shard (omega arith)) ∙ is.kind_is) is_map
 
 -- what a run leaves that has come so far
-pub left_answered : (image : Image) (rs : List (Request × Reply)) (v : View) (left : Image) → IsSeat v → HasAllRoots v → HasAnswered image rs v → MixesOwn v left → NamesAll left v.held → StoresKinds v left
+pub left_answered : (image : Image) (rs : List (Request × Reply)) (v : View) (left : Image) → IsSeat v → HasAllRoots v → HasAnswered image rs v
+    → MixesOwn v left → NamesAll left v.held → StoresKinds v left
     → (shard : ℕ) (map : Map) → shard < shards → MapOf image shard map → MapOf left shard (after map (of_shard shard rs))
 left_answered image rs v left seat all has mixes named kinds shard map small is =
     map_left v left seat has.stands.only mixes named kinds all shard (after map (of_shard shard rs)) small
     (sym (has.stands.kinds.each shard (omega arith)) ∙ is.kind_is) ((has.gives shard map small (all.each shard (omega arith)) is).each left mixes)
 
-pub left_others : (image : Image) (v : View) (left : Image) → IsSeat v → HasAllRoots v → StandsOver image v → MixesOwn v left → NamesAll left v.held → StoresKinds v left → LeavesOthers image left
+pub left_others : (image : Image) (v : View) (left : Image) → IsSeat v → HasAllRoots v → StandsOver image v → MixesOwn v left
+    → NamesAll left v.held → StoresKinds v left → LeavesOthers image left
 left_others image v left seat all stands mixes named kinds = record {
   nothing_outside = nothing_outside v left seat stands.only mixes named kinds all;
   roots_are = root_in_left image v stands.kinds stands.others all left mixes;
@@ -81,10 +86,12 @@ begins image v seat opened = record {
 }
 
 -- a run stands as it was where no own word is stored to
-pub still : (image : Image) (rs : List (Request × Reply)) (v w : View) → IsSeat v → IsSeat w → KeepsOwn v w → w.kinds ≡ v.kinds → HasAnswered image rs v → HasAnswered image rs w
+pub still : (image : Image) (rs : List (Request × Reply)) (v w : View) → IsSeat v → IsSeat w → KeepsOwn v w → w.kinds ≡ v.kinds
+    → HasAnswered image rs v → HasAnswered image rs w
 still image rs v w seat seat_w keeps kinds has =
     let grown = grown_keeps v w keeps in
-    let before : (shard : ℕ) → Contains w.roots shard → Contains v.roots shard = λ shard owned. subst (λ (ns : List ℕ). Contains ns shard) keeps.roots owned in
+    let before : (shard : ℕ) → Contains w.roots shard → Contains v.roots shard =
+    λ shard owned. subst (λ (ns : List ℕ). Contains ns shard) keeps.roots owned in
     record {
       stands = record {
         kinds = record { each = λ root below. has.stands.kinds.each root below ∙ sym (ap (λ (ks : List ℕ). slice_index ks root) kinds) };
@@ -92,5 +99,6 @@ still image rs v w seat seat_w keeps kinds has =
         others = others_still image v has.stands.kinds has.stands.others w keeps;
       };
       right = λ shard map small owned is. has.right shard map small (before shard owned) is;
-      gives = λ shard map small owned is. gives_grown v w grown shard (after map (of_shard shard rs)) (has.gives shard map small (before shard owned) is);
+      gives = λ shard map small owned is. gives_grown v w grown shard (after map (of_shard shard rs))
+          (has.gives shard map small (before shard owned) is);
     }

@@ -28,7 +28,8 @@ module _ (old new : Image) (to : RecoversTo old new) where
   same_reach b = (λ r. record { kind = r.kind; reach = to_new b r.kind r.reach }, λ r. record { kind = r.kind; reach = to_old b r.kind r.reach })
 
   -- a word that a trace of the old image looks at leads outside in the new one no more than there
-  not_there : (at : ℕ) → IsTraced old (kinds_of old) dict_links at → ((b : Block) → Leads old (old at) b → IsReachedIn old dict_links b) → LeadsOutside new (new at) → ⊥
+  not_there : (at : ℕ) → IsTraced old (kinds_of old) dict_links at → ((b : Block) → Leads old (old at) b → IsReachedIn old dict_links b)
+      → LeadsOutside new (new at) → ⊥
   not_there at traced reaches out =
       let same = (traced_alike old new to).same_words at traced in
       none_outside old new to at traced (record {
@@ -43,7 +44,13 @@ module _ (old new : Image) (to : RecoversTo old new) where
   outside_at _ (is_root root at below chosen same) out =
       not_there at (is_root root at below chosen same) (λ b leads. record {
         kind = kinds_of old root;
-        reach = by_start b (kinds_of old root) (record { root = root; below = below; is_chosen = chosen; kind_is = refl; leads = subst (λ x. Leads old (old x) b) same leads });
+        reach = by_start b (kinds_of old root) (record {
+          root = root;
+          below = below;
+          is_chosen = chosen;
+          kind_is = refl;
+          leads = subst (λ x. Leads old (old x) b) same leads;
+        });
       }) out
   outside_at _ (is_linked a from position kind at reached listed same) out =
       let before = to_old a from reached in

@@ -16,7 +16,8 @@ line_short text (Get key) is = tt
 line_short text (Del key) is = tt
 line_short text (Move key to) is = tt
 
-each_short : (texts : List (List ℕ)) (lines : List Line) → AreLines texts lines → (request : Request) → Contains (requests_of lines) request → IsShort request
+each_short : (texts : List (List ℕ)) (lines : List Line) → AreLines texts lines → (request : Request) → Contains (requests_of lines) request
+    → IsShort request
 each_short [] [] are request h = absurd (in_none request h)
 each_short [] (line ∷ lines) are request h = absurd are
 each_short (text ∷ texts) [] are request h = absurd are

@@ -41,7 +41,8 @@ answered_push : (rs : List (Request × Reply)) (q : Request) (left : List Reques
 answered_push [] q left r = ap (λ zs. (q, r) ∷ zs) (answered_none left)
 answered_push (x ∷ rs) q left r = ap (λ zs. (x.0, x.1) ∷ zs) (answered_push rs q left r)
 
-pub answered_now : (image : Image) (qs left : List Request) (replies : Replies) (v : View) (worked : HasWorked image qs left replies v) → answered qs replies ≡ worked.rs
+pub answered_now : (image : Image) (qs left : List Request) (replies : Replies) (v : View) (worked : HasWorked image qs left replies v)
+    → answered qs replies ≡ worked.rs
 answered_now image qs left replies v worked =
     subst (λ xs. answered xs replies ≡ worked.rs) (sym worked.requests_are)
     (subst (λ ts. answered (map (λ r. r.0) worked.rs ++ left) ts ≡ worked.rs) (sym worked.replies_are) (answered_first worked.rs left))
@@ -55,22 +56,26 @@ unanswered_first : (rs : List (Request × Reply)) (left : List Request) → unan
 unanswered_first [] left = unanswered_none left
 unanswered_first (r ∷ rs) left = unanswered_first rs left
 
-pub unanswered_now : (image : Image) (qs left : List Request) (replies : Replies) (v : View) → HasWorked image qs left replies v → unanswered qs replies ≡ left
+pub unanswered_now : (image : Image) (qs left : List Request) (replies : Replies) (v : View) → HasWorked image qs left replies v
+    → unanswered qs replies ≡ left
 unanswered_now image qs left replies v worked =
     subst (λ xs. unanswered xs replies ≡ left) (sym worked.requests_are)
     (subst (λ ts. unanswered (map (λ r. r.0) worked.rs ++ left) ts ≡ left) (sym worked.replies_are) (unanswered_first worked.rs left))
 
-pub answered_next : (image : Image) (qs left : List Request) (q : Request) (told now : List Told) (reply : Told) (r : Reply) (v : View) → now ≡ told ++ (reply ∷ []) → reply_of reply ≡ Some r
+pub answered_next : (image : Image) (qs left : List Request) (q : Request) (told now : List Told) (reply : Told) (r : Reply) (v : View)
+    → now ≡ told ++ (reply ∷ []) → reply_of reply ≡ Some r
     → HasWorked image qs (q ∷ left) (replies_of told) v → answered qs (replies_of now) ≡ answered qs (replies_of told) ++ ((q, r) ∷ [])
 answered_next image qs left q told now reply r v is told_is worked =
     let more : replies_of now ≡ map (λ x. Some x.1) worked.rs ++ (Some r ∷ []) =
-    ap replies_of is ∙ map_push reply_of told reply ∙ ap (λ o. replies_of told ++ (o ∷ [])) told_is ∙ ap (λ ts. ts ++ (Some r ∷ [])) worked.replies_are in
+    ap replies_of is ∙ map_push reply_of told reply ∙ ap (λ o. replies_of told ++ (o ∷ [])) told_is
+    ∙ ap (λ ts. ts ++ (Some r ∷ [])) worked.replies_are in
     subst (λ xs. answered xs (replies_of now) ≡ worked.rs ++ ((q, r) ∷ [])) (sym worked.requests_are)
     (subst (λ ts. answered (map (λ x. x.0) worked.rs ++ (q ∷ left)) ts ≡ worked.rs ++ ((q, r) ∷ [])) (sym more) (answered_push worked.rs q left r))
     ∙ ap (λ rs. rs ++ ((q, r) ∷ [])) (sym (answered_now image qs (q ∷ left) (replies_of told) v worked))
 
 -- each request has its reply or is left
-pub worked_count : (image : Image) (qs left : List Request) (told : List Told) (v : View) → HasWorked image qs left (replies_of told) v → length told + length left ≡ length qs
+pub worked_count : (image : Image) (qs left : List Request) (told : List Told) (v : View) → HasWorked image qs left (replies_of told) v
+    → length told + length left ≡ length qs
 worked_count image qs left told v worked =
     let a = ap length worked.requests_are in
     let b = ap length worked.replies_are in
@@ -81,9 +86,14 @@ worked_count image qs left told v worked =
     omega arith
 
 -- the keys that a shard may have are those of the image and those of the trace
-pub keys_listed : (image : Image) (qs left : List Request) (q : Request) (replies : Replies) (v : View) (keys : List ℕ) → HasMaps image → Contains v.roots (shard_asked q) → HasWorked image qs (q ∷ left) replies v
+pub keys_listed : (image : Image) (qs left : List Request) (q : Request) (replies : Replies) (v : View) (keys : List ℕ) → HasMaps image
+    → Contains v.roots (shard_asked q) → HasWorked image qs (q ∷ left) replies v
     → ListsKeysOf image keys → ListsKeys v (shard_asked q) (keys ++ map key_of qs)
-keys_listed image qs left q replies v keys maps owned worked lists = record { map = now; gives = worked.answered.gives shard first.0 small owned first.1; all = listed } where
+keys_listed image qs left q replies v keys maps owned worked lists = record {
+  map = now;
+  gives = worked.answered.gives shard first.0 small owned first.1;
+  all = listed;
+} where
   shard : ℕ
   shard = shard_asked q
 
@@ -100,9 +110,11 @@ keys_listed image qs left q replies v keys maps owned worked lists = record { ma
   listed key some = elim (there_or_not (now key)) as (λ _. Contains (keys ++ map key_of qs) key) [
     | inl nothing ↦ absurd (some nothing)
     | inr value ↦ elim (all_where (shard_asked q) first.0 worked.rs key value.0 value.1) as (λ _. Contains (keys ++ map key_of qs) key) [
-      | inl old ↦ Contains-append_left keys (map key_of qs) key (lists.all (shard_asked q) first.0 (small_shard q) first.1 key (λ none. let e : None ≡ Some value.0 = sym none ∙ old in absurd (cc)))
+      | inl old ↦ Contains-append_left keys (map key_of qs) key (lists.all (shard_asked q) first.0 (small_shard q) first.1 key
+          (λ none. let e : None ≡ Some value.0 = sym none ∙ old in absurd (cc)))
       | inr by_put ↦ Contains-append_right keys (map key_of qs) key (map_in key_of qs (put key value.0)
-          (subst (λ (xs : List Request). Contains xs (put key value.0)) (sym worked.requests_are) (Contains-append_left (map (λ r. r.0) worked.rs) (q ∷ left) (put key value.0) by_put)))
+          (subst (λ (xs : List Request). Contains xs (put key value.0)) (sym worked.requests_are)
+          (Contains-append_left (map (λ r. r.0) worked.rs) (q ∷ left) (put key value.0) by_put)))
     ]
   ]
 
@@ -116,7 +128,8 @@ larges_push rs q r =
     let one = sum_by-cons (λ (x : Request × Reply). large_calls_of x.0) (q, r) [] in
     omega arith
 
-larges_asked : (rs : List (Request × Reply)) (left : List Request) → sum_by large_calls_of (map (λ r. r.0) rs ++ left) ≡ larges_of rs + sum_by large_calls_of left
+larges_asked : (rs : List (Request × Reply)) (left : List Request)
+    → sum_by large_calls_of (map (λ r. r.0) rs ++ left) ≡ larges_of rs + sum_by large_calls_of left
 larges_asked [] left = omega arith
 larges_asked (r ∷ rs) left =
     let a = sum_by-cons large_calls_of r.0 (map (λ x. x.0) rs ++ left) in
@@ -124,17 +137,21 @@ larges_asked (r ∷ rs) left =
     let rest = larges_asked rs left in
     omega arith
 
-pub larges_worked : (image : Image) (qs left : List Request) (replies : Replies) (v : View) → HasWorked image qs left replies v → larges_of (answered qs replies) + sum_by large_calls_of left ≡ sum_by large_calls_of qs
+pub larges_worked : (image : Image) (qs left : List Request) (replies : Replies) (v : View) → HasWorked image qs left replies v
+    → larges_of (answered qs replies) + sum_by large_calls_of left ≡ sum_by large_calls_of qs
 larges_worked image qs left replies v worked =
     subst (λ rs. larges_of rs + sum_by large_calls_of left ≡ sum_by large_calls_of qs) (sym (answered_now image qs left replies v worked))
-    (subst (λ xs. larges_of worked.rs + sum_by large_calls_of left ≡ sum_by large_calls_of xs) (sym worked.requests_are) (sym (larges_asked worked.rs left)))
+    (subst (λ xs. larges_of worked.rs + sum_by large_calls_of left ≡ sum_by large_calls_of xs) (sym worked.requests_are)
+    (sym (larges_asked worked.rs left)))
 
 -- no request makes no call, and one more makes as many as one does
 pub few_none : (small : ℕ) (v : View) → MakeFew 0 small 0 v v
 few_none small v = record { most = 0; row = row_more 0 0 0 (0 * small) 0 0 v v (omega arith) (omega arith) (omega arith) (row_none v) }
 
-pub few_next : (requests small large : ℕ) (image : Image) (qs left : List Request) (q : Request) (replies : Replies) (v u w : View) (room : ℕ) (keys : List ℕ) → small ≡ 33280 + 4 * (length keys + length qs)
-    → HasMaps image → Contains u.roots (shard_asked q) → HasWorked image qs (q ∷ left) replies u → ListsKeysOf image keys → IsShort q → Fits u q room → MakesCalls q u w → MakeFew requests small large v u
+pub few_next : (requests small large : ℕ) (image : Image) (qs left : List Request) (q : Request) (replies : Replies) (v u w : View) (room : ℕ)
+    (keys : List ℕ) → small ≡ 33280 + 4 * (length keys + length qs)
+    → HasMaps image → Contains u.roots (shard_asked q) → HasWorked image qs (q ∷ left) replies u → ListsKeysOf image keys → IsShort q
+    → Fits u q room → MakesCalls q u w → MakeFew requests small large v u
     → MakeFew (requests + 1) small (large + large_calls_of q) v w
 few_next requests small large image qs left q replies v u w room keys small_is maps owned worked lists short fits calls few =
     let listed = keys_listed image qs left q replies u keys maps owned worked lists in
@@ -145,12 +162,15 @@ few_next requests small large image qs left q replies v u w room keys small_is m
     let product = add-mul requests 1 small in
     record {
       most = few.most + calls.most;
-      row = row_more (requests * small + (512 + 2 * words_copied q listed.map + 4 * length (keys ++ map key_of qs))) (large + large_calls_of q) (few.most + calls.most) ((requests + 1) * small) (large + large_calls_of q) (few.most + calls.most) v w
+      row = row_more (requests * small + (512 + 2 * words_copied q listed.map + 4 * length (keys ++ map key_of qs))) (large + large_calls_of q)
+          (few.most + calls.most) ((requests + 1) * small) (large + large_calls_of q) (few.most + calls.most) v w
           (omega arith) (omega arith) (omega arith)
-          (row_then (requests * small) large few.most (512 + 2 * words_copied q listed.map + 4 * length (keys ++ map key_of qs)) (large_calls_of q) calls.most v u w few.row row);
+          (row_then (requests * small) large few.most (512 + 2 * words_copied q listed.map + 4 * length (keys ++ map key_of qs))
+          (large_calls_of q) calls.most v u w few.row row);
     }
 
-pub few_more : (requests more small large larger : ℕ) (v w : View) → requests ≤ more → large ≤ larger → MakeFew requests small large v w → MakeFew more small larger v w
+pub few_more : (requests more small large larger : ℕ) (v w : View) → requests ≤ more → large ≤ larger → MakeFew requests small large v w
+    → MakeFew more small larger v w
 few_more requests more small large larger v w most most_large few = record {
   most = few.most;
   row = row_more (requests * small) large few.most (more * small) larger few.most v w (mul-le-mul_right small most) most_large (omega arith) few.row;
@@ -161,20 +181,23 @@ no_end : {X : Type 0} (xs ys : List X) (x : X) → [] ≡ xs ++ (x ∷ ys) → �
 no_end [] ys x e = absurd (cc)
 no_end (y ∷ xs) ys x e = absurd (cc)
 
-last_or_before : {X : Type 0} (xs before later : List X) (y x : X) → xs ++ (y ∷ []) ≡ before ++ (x ∷ later) → ((xs ≡ before) × (y ≡ x)) ⊎ ((more : List X) × (xs ≡ before ++ (x ∷ more)))
+last_or_before : {X : Type 0} (xs before later : List X) (y x : X) → xs ++ (y ∷ []) ≡ before ++ (x ∷ later)
+    → ((xs ≡ before) × (y ≡ x)) ⊎ ((more : List X) × (xs ≡ before ++ (x ∷ more)))
 last_or_before [] [] later y x e = let same : y ≡ x = cc in inl (refl, same)
 last_or_before [] (b ∷ before) later y x e = let none : [] ≡ before ++ (x ∷ later) = cc in absurd (no_end before later x none)
 last_or_before (z ∷ xs) [] later y x e = let same : z ≡ x = cc in inr (xs, ap (λ a. a ∷ xs) same)
 last_or_before (z ∷ xs) (b ∷ before) later y x e =
     let same : z ≡ b = cc in
     let rest : xs ++ (y ∷ []) ≡ before ++ (x ∷ later) = cc in
-    elim (last_or_before xs before later y x rest) as (λ _. ((z ∷ xs ≡ b ∷ before) × (y ≡ x)) ⊎ ((more : List _) × (z ∷ xs ≡ (b ∷ before) ++ (x ∷ more)))) [
+    elim (last_or_before xs before later y x rest) as (λ _. ((z ∷ xs ≡ b ∷ before) × (y ≡ x)) ⊎ ((more : List _)
+    × (z ∷ xs ≡ (b ∷ before) ++ (x ∷ more)))) [
       | inl last ↦ inl (ap (λ a. a ∷ xs) same ∙ ap (λ zs. b ∷ zs) last.0, last.1)
       | inr old ↦ inr (old.0, ap (λ a. a ∷ xs) same ∙ ap (λ zs. b ∷ zs) old.1)
     ]
 
 -- a put that was told full, by what was taken then
-pub full_behind : (requests : List Request) (rs : List (Request × Reply)) (q : Request) (r : Reply) (v w : View) → HasTaken requests (rs ++ ((q, r) ∷ [])) v w → r ≡ full → HadNoRoom q w
+pub full_behind : (requests : List Request) (rs : List (Request × Reply)) (q : Request) (r : Reply) (v w : View)
+    → HasTaken requests (rs ++ ((q, r) ∷ [])) v w → r ≡ full → HadNoRoom q w
     → IsFullBehind (tables_missing (put_into requests) v) rs q v w
 full_behind requests rs q r v w taken is room = record {
   room = room;
@@ -201,14 +224,18 @@ knows_call q v w shard calls =
 
 -- it stays so where the heap goes on
 pub refused_on : {S : Type 0} (view : S → View) (keeps : S → S → Type 0) (tables : ℕ) (rs : List (Request × Reply)) (s t u : S)
-    → AreFullRightly view keeps tables rs s t → ((x : S) → keeps x t → keeps x u) → KnowsNoLess (view t) (view u) → AreFullRightly view keeps tables rs s u
+    → AreFullRightly view keeps tables rs s t → ((x : S) → keeps x t → keeps x u) → KnowsNoLess (view t) (view u)
+    → AreFullRightly view keeps tables rs s u
 refused_on view keeps tables rs s t u was on knows = record {
-  each = λ before later key value is. let at = was.each before later key value is in (at.0, at.1, on at.0 at.2, knows_then (view at.0) (view t) (view u) at.3 knows, at.4);
+  each = λ before later key value is. let at = was.each before later key value is in
+      (at.0, at.1, on at.0 at.2, knows_then (view at.0) (view t) (view u) at.3 knows, at.4);
 }
 
 -- and at a request more
-pub refused_next : {S : Type 0} (view : S → View) (keeps : S → S → Type 0) (tables : ℕ) (rs : List (Request × Reply)) (q : Request) (r : Reply) (s t : S)
-    → AreFullRightly view keeps tables rs s t → keeps s t → keeps t t → (IsPut q → r ≡ full → IsFullBehind tables rs q (view s) (view t)) → AreFullRightly view keeps tables (rs ++ ((q, r) ∷ [])) s t
+pub refused_next : {S : Type 0} (view : S → View) (keeps : S → S → Type 0) (tables : ℕ) (rs : List (Request × Reply)) (q : Request) (r : Reply)
+    (s t : S)
+    → AreFullRightly view keeps tables rs s t → keeps s t → keeps t t → (IsPut q → r ≡ full → IsFullBehind tables rs q (view s) (view t))
+    → AreFullRightly view keeps tables (rs ++ ((q, r) ∷ [])) s t
 refused_next view keeps tables rs q r s t was kept same now = record {
   each = λ before later key value is.
       elim (last_or_before rs before later (q, r) (put key value, full) is)

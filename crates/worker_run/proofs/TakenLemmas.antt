@@ -24,20 +24,23 @@ use Rattle.run_model.specs.Workers.{shard_asked}
 use Rattle.run_model.proofs.OneMapLemmas.{small_shard}
 use Rattle.heap_model.proofs.ListLemmas.{in_numbers}
 
--- no more superblocks were taken than those of the nodes, and one for each table that was made of the shards that are put into; and none of their tables went away
+-- no more superblocks were taken than those of the nodes, and one for each table that was made of the shards that are
+-- put into; and none of their tables went away
 pub record HasTaken (requests : List Request) (rs : List (Request × Reply)) (v w : View) : Type 0 where
   pub taken : w.taken ≤ v.taken + sum_by span_taken rs + tables_made (put_into requests) v w
   pub sees : (shard : ℕ) → put_into requests shard ≡ true → sees_table v shard ≡ true → sees_table w shard ≡ true
 
 pub tables_few : (requests : List Request) (v w : View) → tables_made (put_into requests) v w ≤ tables_missing (put_into requests) v
 tables_few requests v w =
-    count_rises (λ shard. put_into requests shard && (sees_table w shard && not (sees_table v shard))) (λ shard. put_into requests shard && not (sees_table v shard)) (words_from (λ i. i) 0 shards)
+    count_rises (λ shard. put_into requests shard && (sees_table w shard && not (sees_table v shard)))
+    (λ shard. put_into requests shard && not (sees_table v shard)) (words_from (λ i. i) 0 shards)
     (λ x h all.
     let parts = and_parts (put_into requests x) (sees_table w x && not (sees_table v x)) all in
     and_from (put_into requests x) (not (sees_table v x)) parts.0 (and_parts (sees_table w x) (not (sees_table v x)) parts.1).1)
 
 -- where none has gone away, a shard that has none had none
-none_before : (v u : View) (shard : ℕ) → (sees_table v shard ≡ true → sees_table u shard ≡ true) → sees_table u shard ≡ false → not (sees_table v shard) ≡ true
+none_before : (v u : View) (shard : ℕ) → (sees_table v shard ≡ true → sees_table u shard ≡ true) → sees_table u shard ≡ false
+    → not (sees_table v shard) ≡ true
 none_before v u shard sees none = by_case (sees_table v shard) refl where
   by_case : (b : Bool) → sees_table v shard ≡ b → not (sees_table v shard) ≡ true
   by_case true is = let e : true ≡ false = sym (sees is) ∙ none in absurd (cc)
@@ -59,25 +62,30 @@ table_kept v w request shard owned may sees =
     ]
 
 -- a shard is put into where one of the requests is such a put
-pub put_into_has : (requests : List Request) (request : Request) → IsPut request → Contains requests request → put_into requests (shard_asked request) ≡ true
+pub put_into_has : (requests : List Request) (request : Request) → IsPut request → Contains requests request
+    → put_into requests (shard_asked request) ≡ true
 put_into_has [] request is h = absurd (in_none request h)
-put_into_has (put key value ∷ rest) request is h = elim (head_or_rest (put key value) request rest h) as (λ _. put_into (put key value ∷ rest) (shard_asked request) ≡ true) [
-  | inl same ↦ or_left (is_to (shard_asked request) (put key value)) (put_into rest (shard_asked request))
-      (eq-eqb (shard_asked (put key value)) (shard_asked request) (ap shard_asked same))
-  | inr later ↦ or_right (is_to (shard_asked request) (put key value)) (put_into rest (shard_asked request)) (put_into_has rest request is later)
-]
-put_into_has (get key ∷ rest) request is h = elim (head_or_rest (get key) request rest h) as (λ _. put_into (get key ∷ rest) (shard_asked request) ≡ true) [
-  | inl same ↦ absurd (subst IsPut (sym same) is)
-  | inr later ↦ put_into_has rest request is later
-]
-put_into_has (move key to ∷ rest) request is h = elim (head_or_rest (move key to) request rest h) as (λ _. put_into (move key to ∷ rest) (shard_asked request) ≡ true) [
-  | inl same ↦ absurd (subst IsPut (sym same) is)
-  | inr later ↦ put_into_has rest request is later
-]
-put_into_has (del key ∷ rest) request is h = elim (head_or_rest (del key) request rest h) as (λ _. put_into (del key ∷ rest) (shard_asked request) ≡ true) [
-  | inl same ↦ absurd (subst IsPut (sym same) is)
-  | inr later ↦ put_into_has rest request is later
-]
+put_into_has (put key value ∷ rest) request is h = elim (head_or_rest (put key value) request rest h) as
+    (λ _. put_into (put key value ∷ rest) (shard_asked request) ≡ true) [
+      | inl same ↦ or_left (is_to (shard_asked request) (put key value)) (put_into rest (shard_asked request))
+          (eq-eqb (shard_asked (put key value)) (shard_asked request) (ap shard_asked same))
+      | inr later ↦ or_right (is_to (shard_asked request) (put key value)) (put_into rest (shard_asked request)) (put_into_has rest request is later)
+    ]
+put_into_has (get key ∷ rest) request is h = elim (head_or_rest (get key) request rest h) as
+    (λ _. put_into (get key ∷ rest) (shard_asked request) ≡ true) [
+      | inl same ↦ absurd (subst IsPut (sym same) is)
+      | inr later ↦ put_into_has rest request is later
+    ]
+put_into_has (move key to ∷ rest) request is h = elim (head_or_rest (move key to) request rest h) as
+    (λ _. put_into (move key to ∷ rest) (shard_asked request) ≡ true) [
+      | inl same ↦ absurd (subst IsPut (sym same) is)
+      | inr later ↦ put_into_has rest request is later
+    ]
+put_into_has (del key ∷ rest) request is h = elim (head_or_rest (del key) request rest h) as
+    (λ _. put_into (del key ∷ rest) (shard_asked request) ≡ true) [
+      | inl same ↦ absurd (subst IsPut (sym same) is)
+      | inr later ↦ put_into_has rest request is later
+    ]
 
 -- whether a shard that is put into got a table from the one view to the other
 abbrev made_from : List Request → View → View → ℕ → Bool
@@ -85,9 +93,13 @@ made_from requests v x shard = put_into requests shard && (sees_table x shard &&
 
 -- one request more
 pub taken_next : (requests : List Request) (rs : List (Request × Reply)) (request : Request) (reply : Reply) (v u w : View) → Contains requests request
-    → ((shard : ℕ) → put_into requests shard ≡ true → Contains u.roots shard) → MayAnswer request u w → HasTaken requests rs v u → TakesFew request reply u w
+    → ((shard : ℕ) → put_into requests shard ≡ true → Contains u.roots shard) → MayAnswer request u w → HasTaken requests rs v u
+    → TakesFew request reply u w
     → HasTaken requests (rs ++ ((request, reply) ∷ [])) v w
-taken_next requests rs request reply v u w h owns may was takes = record { taken = by_case takes; sees = λ shard is sees. kept shard is (was.sees shard is sees) } where
+taken_next requests rs request reply v u w h owns may was takes = record {
+  taken = by_case takes;
+  sees = λ shard is sees. kept shard is (was.sees shard is sees);
+} where
   kept : (shard : ℕ) → put_into requests shard ≡ true → sees_table u shard ≡ true → sees_table w shard ≡ true
   kept shard is sees = table_kept u w request shard (owns shard is) may sees
 
@@ -95,7 +107,8 @@ taken_next requests rs request reply v u w h owns may was takes = record { taken
   stays shard among all =
       let parts = and_parts (put_into requests shard) (sees_table u shard && not (sees_table v shard)) all in
       let both = and_parts (sees_table u shard) (not (sees_table v shard)) parts.1 in
-      and_from (put_into requests shard) (sees_table w shard && not (sees_table v shard)) parts.0 (and_from (sees_table w shard) (not (sees_table v shard)) (kept shard parts.0 both.0) both.1)
+      and_from (put_into requests shard) (sees_table w shard && not (sees_table v shard)) parts.0
+      (and_from (sees_table w shard) (not (sees_table v shard)) (kept shard parts.0 both.0) both.1)
 
   sums : sum_by span_taken (rs ++ ((request, reply) ∷ [])) ≡ sum_by span_taken rs + span_taken (request, reply)
   sums = let both = sum_by-append span_taken rs ((request, reply) ∷ []) in let one = sum_by-cons span_taken (request, reply) [] in omega arith
@@ -110,22 +123,30 @@ taken_next requests rs request reply v u w h owns may was takes = record { taken
       let none = null_unset (u.volatile (root_word shard)) null in
       let more = count_gains (made_from requests v u) (made_from requests v w) (words_from (λ i. i) 0 shards) shard
       (in_numbers 0 shards shard (omega arith) (let small = small_shard request in omega arith))
-      (and_right (put_into requests shard) (sees_table u shard && not (sees_table v shard)) (and_left (sees_table u shard) (not (sees_table v shard)) none))
+      (and_right (put_into requests shard) (sees_table u shard && not (sees_table v shard))
+      (and_left (sees_table u shard) (not (sees_table v shard)) none))
       (and_from (put_into requests shard) (sees_table w shard && not (sees_table v shard)) into
-      (and_from (sees_table w shard) (not (sees_table v shard)) (value_set (w.volatile (root_word shard)) now.value now.seen now.some) (none_before v u shard (was.sees shard into) none))) stays in
+      (and_from (sees_table w shard) (not (sees_table v shard)) (value_set (w.volatile (root_word shard)) now.value now.seen now.some)
+      (none_before v u shard (was.sees shard into) none))) stays in
       let all_sums = sums in let before = was.taken in omega arith
 
 -- a request that may not have been answered
-pub taken_stopped : (requests : List Request) (rs : List (Request × Reply)) (request : Request) (others : List Request) (v u w : View) → Contains requests request → HasTaken requests rs v u → MayTake request u w
+pub taken_stopped : (requests : List Request) (rs : List (Request × Reply)) (request : Request) (others : List Request) (v u w : View)
+    → Contains requests request → HasTaken requests rs v u → MayTake request u w
     → HasTakenFew (tables_missing (put_into requests) v) rs (request ∷ others) v w
-taken_stopped requests rs request others v u w h was (for_node few) = record { taken = let tables = tables_few requests v u in let before = was.taken in omega arith }
+taken_stopped requests rs request others v u w h was (for_node few) = record {
+  taken = let tables = tables_few requests v u in
+      let before = was.taken in omega arith;
+}
 taken_stopped requests rs request others v u w h was (with_table is null few) = record {
   taken = let shard = shard_asked request in
       let into = put_into_has requests request is h in
       let none = null_unset (u.volatile (root_word shard)) null in
-      let tables = count_gains (λ x. put_into requests x && (sees_table u x && not (sees_table v x))) (λ x. put_into requests x && not (sees_table v x)) (words_from (λ i. i) 0 shards) shard
+      let tables = count_gains (λ x. put_into requests x && (sees_table u x && not (sees_table v x)))
+      (λ x. put_into requests x && not (sees_table v x)) (words_from (λ i. i) 0 shards) shard
       (in_numbers 0 shards shard (omega arith) (let small = small_shard request in omega arith))
-      (and_right (put_into requests shard) (sees_table u shard && not (sees_table v shard)) (and_left (sees_table u shard) (not (sees_table v shard)) none))
+      (and_right (put_into requests shard) (sees_table u shard && not (sees_table v shard))
+      (and_left (sees_table u shard) (not (sees_table v shard)) none))
       (and_from (put_into requests shard) (not (sees_table v shard)) into (none_before v u shard (was.sees shard into) none))
       (λ x among all.
       let parts = and_parts (put_into requests x) (sees_table u x && not (sees_table v x)) all in
@@ -135,7 +156,8 @@ taken_stopped requests rs request others v u w h was (with_table is null few) = 
 }
 
 -- where all were answered
-pub taken_ended : (requests : List Request) (rs : List (Request × Reply)) (v w : View) → HasTaken requests rs v w → HasTakenFew (tables_missing (put_into requests) v) rs [] v w
+pub taken_ended : (requests : List Request) (rs : List (Request × Reply)) (v w : View) → HasTaken requests rs v w
+    → HasTakenFew (tables_missing (put_into requests) v) rs [] v w
 taken_ended requests rs v w was = record { taken = let tables = tables_few requests v w in let before = was.taken in omega arith }
 
 -- a shard that has a key in every mixture has a table, as loads see it
@@ -154,9 +176,11 @@ some_seen None some = absurd (some refl)
 some_seen (Some x) some = (x, refl, some)
 
 pub key_has_table : (w : View) (shard : ℕ) (map : Map) (key : ℕ) (value : List ℕ) → GivesMap w shard map → map key ≡ Some value → RootIsSet w shard
-key_has_table w shard map key value gives is = by_map (gives.each (λ word. seen_or_null (w.volatile word)) (record { each = λ word own. inl (may_seen (w.volatile word)) })) where
-  by_map : IsMapIn w (λ word. seen_or_null (w.volatile word)) shard map → RootIsSet w shard
-  by_map (is_empty null none) = let e : None ≡ Some value = sym (none key) ∙ is in absurd (cc)
-  by_map (has_table table nodes there chains means) =
-      let some = some_seen (w.volatile (root_word shard)) (not_null (seen_or_null (w.volatile (root_word shard))) (8 * table.first_word) there.leads_there.1) in
-      record { value = some.0; seen = some.1; some = some.2 }
+key_has_table w shard map key value gives is = by_map (gives.each (λ word. seen_or_null (w.volatile word))
+    (record { each = λ word own. inl (may_seen (w.volatile word)) })) where
+      by_map : IsMapIn w (λ word. seen_or_null (w.volatile word)) shard map → RootIsSet w shard
+      by_map (is_empty null none) = let e : None ≡ Some value = sym (none key) ∙ is in absurd (cc)
+      by_map (has_table table nodes there chains means) =
+          let some = some_seen (w.volatile (root_word shard)) (not_null (seen_or_null (w.volatile (root_word shard)))
+          (8 * table.first_word) there.leads_there.1) in
+          record { value = some.0; seen = some.1; some = some.2 }

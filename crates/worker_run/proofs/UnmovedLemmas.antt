@@ -15,5 +15,7 @@ none_needed (del key ∷ qs) unmoved = let e = sum_by-cons needs_room (del key) 
 none_needed (move key to ∷ qs) unmoved = absurd (cc)
 
 -- so none of a worker's do
-pub no_room_needed : (workers worker : ℕ) (requests : List Request) → has_move requests ≡ false → rooms_needed (worker_requests workers worker requests) ≤ 0
-no_room_needed workers worker requests unmoved = none_needed (worker_requests workers worker requests) (none_of_part (is_of_worker workers worker) requests unmoved)
+pub no_room_needed : (workers worker : ℕ) (requests : List Request) → has_move requests ≡ false
+    → rooms_needed (worker_requests workers worker requests) ≤ 0
+no_room_needed workers worker requests unmoved = none_needed (worker_requests workers worker requests)
+    (none_of_part (is_of_worker workers worker) requests unmoved)

@@ -23,7 +23,8 @@ length_in map key = length_of (get nat_cmp map key)
 abbrev pub IsPutLength : List Request → ℕ → ℕ → Type 0
 IsPutLength requests key n = (n ≡ 0) ⊎ ((value : List ℕ) × Contains requests (put key value) × (n ≡ length value))
 
--- the length at a key is that of the longest value that the requests put under it, and no more than the longest that there may be; 0 where they put none
+-- the length at a key is that of the longest value that the requests put under it, and no more than the longest that
+-- there may be; 0 where they put none
 pub record AreLongest (requests : List Request) (longest : BTreeMap ℕ ℕ) : Type 0 where
   pub holds : (key : ℕ) (value : List ℕ) → Contains requests (put key value) → length value ≤ length_at longest key
   pub short : (key : ℕ) → length_at longest key ≤ largest_value

@@ -21,5 +21,6 @@ overflow_add-result c =
 pub returns : goal.returns
 returns c =
     let e = c.block_words.ensures.words in
-    subst (λ (words : ℕ). c.start.result + c.args.index * words ≡ start_word c.args.geometry.capacity c.args.d + c.args.index * words_of_class c.args.class.number) (sym e)
+    subst (λ (words : ℕ). c.start.result + c.args.index * words ≡ start_word c.args.geometry.capacity c.args.d + c.args.index * words_of_class
+    c.args.class.number) (sym e)
     (ap (λ (start : ℕ). start + c.args.index * words_of_class c.args.class.number) c.start.ensures)

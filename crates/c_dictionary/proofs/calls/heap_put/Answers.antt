@@ -15,31 +15,44 @@ pub returns-then-state-ne-GOING-clause-done : goal.returns-then-state-ne-GOING-c
 returns-then-state-ne-GOING-clause-done c = λ e. absurd (not_zero c.refusal.result c.refusal.ensures.refused e)
 
 pub returns-clause-done : goal.returns-clause-done
-returns-clause-done c = λ e. passes c.args.handle.now.value c.state-state.new.self.value c.set.new.self.value c.take.result.value c.into_box-store.result.value c.deref_mut.result.now c.put-status.new.store c.of.result.value c.state-state.ensures.1 c.take.ensures.0 c.into_box-store.ensures c.deref_mut.ensures.value c.set.ensures c.of.ensures (Changes (shard_of c.args.key) (λ map. with_key map c.args.key c.args.value.now)) (c.put-status.ensures.done e)
+returns-clause-done c = λ e. passes c.args.handle.now.value c.state-state.new.self.value c.set.new.self.value c.take.result.value
+    c.into_box-store.result.value c.deref_mut.result.now c.put-status.new.store c.of.result.value c.state-state.ensures.1 c.take.ensures.0
+    c.into_box-store.ensures c.deref_mut.ensures.value c.set.ensures c.of.ensures
+    (Changes (shard_of c.args.key) (λ map. with_key map c.args.key c.args.value.now)) (c.put-status.ensures.done e)
 
 pub returns-then-state-ne-GOING-clause-set : goal.returns-then-state-ne-GOING-clause-set
 returns-then-state-ne-GOING-clause-set c = λ e. absurd (not_zero c.refusal.result c.refusal.ensures.refused e)
 
 pub returns-clause-set : goal.returns-clause-set
-returns-clause-set c = λ e. becomes c.args.handle.now.value c.state-state.new.self.value c.set.new.self.value c.take.result.value c.into_box-store.result.value c.deref_mut.result.now c.put-status.new.store c.of.result.value c.state-state.ensures.1 c.take.ensures.0 c.into_box-store.ensures c.deref_mut.ensures.value c.set.ensures c.of.ensures (λ map. with_key map c.args.key c.args.value.now) (c.put-status.ensures.set e)
+returns-clause-set c = λ e. becomes c.args.handle.now.value c.state-state.new.self.value c.set.new.self.value c.take.result.value
+    c.into_box-store.result.value c.deref_mut.result.now c.put-status.new.store c.of.result.value c.state-state.ensures.1 c.take.ensures.0
+    c.into_box-store.ensures c.deref_mut.ensures.value c.set.ensures c.of.ensures (λ map. with_key map c.args.key c.args.value.now)
+    (c.put-status.ensures.set e)
 
 pub returns-then-state-ne-GOING-clause-full : goal.returns-then-state-ne-GOING-clause-full
 returns-then-state-ne-GOING-clause-full c = λ e. absurd (not_eleven c.refusal.result c.refusal.ensures.refused e)
 
 pub returns-clause-full : goal.returns-clause-full
-returns-clause-full c = λ e. passes c.args.handle.now.value c.state-state.new.self.value c.set.new.self.value c.take.result.value c.into_box-store.result.value c.deref_mut.result.now c.put-status.new.store c.of.result.value c.state-state.ensures.1 c.take.ensures.0 c.into_box-store.ensures c.deref_mut.ensures.value c.set.ensures c.of.ensures (Changes (shard_of c.args.key) (λ map. map)) (c.put-status.ensures.full e)
+returns-clause-full c = λ e. passes c.args.handle.now.value c.state-state.new.self.value c.set.new.self.value c.take.result.value
+    c.into_box-store.result.value c.deref_mut.result.now c.put-status.new.store c.of.result.value c.state-state.ensures.1 c.take.ensures.0
+    c.into_box-store.ensures c.deref_mut.ensures.value c.set.ensures c.of.ensures (Changes (shard_of c.args.key) (λ map. map))
+    (c.put-status.ensures.full e)
 
 pub returns-then-state-ne-GOING-clause-refused : goal.returns-then-state-ne-GOING-clause-refused
 returns-then-state-ne-GOING-clause-refused c = λ e. absurd (not_eleven c.refusal.result c.refusal.ensures.refused e)
 
 pub returns-clause-refused : goal.returns-clause-refused
-returns-clause-refused c = λ e. becomes c.args.handle.now.value c.state-state.new.self.value c.set.new.self.value c.take.result.value c.into_box-store.result.value c.deref_mut.result.now c.put-status.new.store c.of.result.value c.state-state.ensures.1 c.take.ensures.0 c.into_box-store.ensures c.deref_mut.ensures.value c.set.ensures c.of.ensures (λ map. map) (c.put-status.ensures.refused e)
+returns-clause-refused c = λ e. becomes c.args.handle.now.value c.state-state.new.self.value c.set.new.self.value c.take.result.value
+    c.into_box-store.result.value c.deref_mut.result.now c.put-status.new.store c.of.result.value c.state-state.ensures.1 c.take.ensures.0
+    c.into_box-store.ensures c.deref_mut.ensures.value c.set.ensures c.of.ensures (λ map. map) (c.put-status.ensures.refused e)
 
 pub returns-then-state-ne-GOING-clause-memory : goal.returns-then-state-ne-GOING-clause-memory
 returns-then-state-ne-GOING-clause-memory c = λ e. absurd (not_three c.refusal.result c.refusal.ensures.refused e)
 
 pub returns-clause-memory : goal.returns-clause-memory
-returns-clause-memory c = λ e. stays c.args.handle.now.value c.state-state.new.self.value c.set.new.self.value c.take.result.value c.into_box-store.result.value c.deref_mut.result.now c.put-status.new.store c.of.result.value c.state-state.ensures.1 c.take.ensures.0 c.into_box-store.ensures c.deref_mut.ensures.value c.set.ensures c.of.ensures (c.put-status.ensures.memory e)
+returns-clause-memory c = λ e. stays c.args.handle.now.value c.state-state.new.self.value c.set.new.self.value c.take.result.value
+    c.into_box-store.result.value c.deref_mut.result.now c.put-status.new.store c.of.result.value c.state-state.ensures.1 c.take.ensures.0
+    c.into_box-store.ensures c.deref_mut.ensures.value c.set.ensures c.of.ensures (c.put-status.ensures.memory e)
 
 pub set-requires : goal.set-requires
 set-requires c = λ e. subst IsReady (sym c.of.ensures) (c.put-status.ensures.ready (c.state_after.ensures e))
@@ -50,12 +63,18 @@ returns-clause-crash c = may c.put-status.ensures.crash where
   how : View → View → Type 0
   how = MayChange (shard_of c.args.key) (λ map. with_key map c.args.key c.args.value.now)
 
-  may : (c.put-status.new.store ≡ c.deref_mut.result.now) ⊎ how (seat_of c.deref_mut.result.now.heap) (seat_of c.put-status.new.store.heap) → MayPass c.args.handle.now.value c.set.new.self.value how
-  may (inl same) = inl (stays c.args.handle.now.value c.state-state.new.self.value c.set.new.self.value c.take.result.value c.into_box-store.result.value c.deref_mut.result.now c.put-status.new.store c.of.result.value c.state-state.ensures.1 c.take.ensures.0 c.into_box-store.ensures c.deref_mut.ensures.value c.set.ensures c.of.ensures same)
-  may (inr is) = inr (passes c.args.handle.now.value c.state-state.new.self.value c.set.new.self.value c.take.result.value c.into_box-store.result.value c.deref_mut.result.now c.put-status.new.store c.of.result.value c.state-state.ensures.1 c.take.ensures.0 c.into_box-store.ensures c.deref_mut.ensures.value c.set.ensures c.of.ensures how is)
+  may : (c.put-status.new.store ≡ c.deref_mut.result.now) ⊎ how (seat_of c.deref_mut.result.now.heap) (seat_of c.put-status.new.store.heap)
+      → MayPass c.args.handle.now.value c.set.new.self.value how
+  may (inl same) = inl (stays c.args.handle.now.value c.state-state.new.self.value c.set.new.self.value c.take.result.value
+      c.into_box-store.result.value c.deref_mut.result.now c.put-status.new.store c.of.result.value c.state-state.ensures.1 c.take.ensures.0
+      c.into_box-store.ensures c.deref_mut.ensures.value c.set.ensures c.of.ensures same)
+  may (inr is) = inr (passes c.args.handle.now.value c.state-state.new.self.value c.set.new.self.value c.take.result.value
+      c.into_box-store.result.value c.deref_mut.result.now c.put-status.new.store c.of.result.value c.state-state.ensures.1 c.take.ensures.0
+      c.into_box-store.ensures c.deref_mut.ensures.value c.set.ensures c.of.ensures how is)
 
 pub returns-then-state-ne-GOING-clause-closed : goal.returns-then-state-ne-GOING-clause-closed
-returns-then-state-ne-GOING-clause-closed c = λ none. c.refusal.ensures.closed (closed c.state-state.result c.args.handle.now.value c.state-state.ensures.0.0 none)
+returns-then-state-ne-GOING-clause-closed c = λ none. c.refusal.ensures.closed
+    (closed c.state-state.result c.args.handle.now.value c.state-state.ensures.0.0 none)
 
 pub returns-clause-usage : goal.returns-clause-usage
 returns-clause-usage c = λ e. absurd (c.put-status.ensures.answers e)

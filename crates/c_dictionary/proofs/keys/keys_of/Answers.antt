@@ -8,7 +8,9 @@ pub loop-i-init : goal.loop-i-init
 loop-i-init c = none_first c.args.maps.now c.new-keys.result c.new-keys.ensures.empty
 
 pub loop-i-preserved : goal.loop-i-preserved
-loop-i-preserved c = one_more c.args.maps.now c.loop-i.i c.index-maps-i.result (slice_get_read c.args.maps.now (length c.args.maps.now) c.loop-i.i c.index-maps-i.result refl c.loop-i-test.true c.index-maps-i.is) c.loop-i.keys c.add_keys.new.keys c.in_ok-add_keys.ensures c.loop-i.invariant
+loop-i-preserved c = one_more c.args.maps.now c.loop-i.i c.index-maps-i.result
+    (slice_get_read c.args.maps.now (length c.args.maps.now) c.loop-i.i c.index-maps-i.result refl c.loop-i-test.true c.index-maps-i.is)
+    c.loop-i.keys c.add_keys.new.keys c.in_ok-add_keys.ensures c.loop-i.invariant
 
 pub returns : goal.returns
 returns c =

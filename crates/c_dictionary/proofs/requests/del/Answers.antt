@@ -19,7 +19,8 @@ returns-in-Ok-true c =
     let t : Store = record s { heap = c.del.new.seat; keys = c.take_key.new.keys } in
     let key = c.args.key in
     let made : Map → Map = λ map. without_key map key in
-    let told : Deletes key true (seat_of s.heap) (seat_of t.heap) = subst (λ (found : Bool). Deletes key found (seat_of s.heap) (seat_of t.heap)) c.in-Ok-true.field-0-test c.in-Ok-true.ensures.ok in
+    let told : Deletes key true (seat_of s.heap) (seat_of t.heap) =
+    subst (λ (found : Bool). Deletes key found (seat_of s.heap) (seat_of t.heap)) c.in-Ok-true.field-0-test c.in-Ok-true.ensures.ok in
     let changes : Changes (shard_of key) made (seat_of s.heap) (seat_of t.heap) = record { gives = told.gives } in
     let lists = λ (map : Map) (h : Holds map s). c.take_key.ensures map h.listed in
     record {
@@ -38,9 +39,11 @@ returns-in-Ok-false c =
     let t : Store = record s { heap = c.del.new.seat } in
     let key = c.args.key in
     let made : Map → Map = λ map. without_key map key in
-    let told : Deletes key false (seat_of s.heap) (seat_of t.heap) = subst (λ (found : Bool). Deletes key found (seat_of s.heap) (seat_of t.heap)) c.in-Ok-false.field-0-test c.in-Ok-false.ensures.ok in
+    let told : Deletes key false (seat_of s.heap) (seat_of t.heap) =
+    subst (λ (found : Bool). Deletes key found (seat_of s.heap) (seat_of t.heap)) c.in-Ok-false.field-0-test c.in-Ok-false.ensures.ok in
     let changes : Changes (shard_of key) made (seat_of s.heap) (seat_of t.heap) = record { gives = told.gives } in
-    let lists = λ (map : Map) (h : Holds map s). lists_absent s.keys map key (was_absent key (seat_of s.heap) (seat_of t.heap) told map h.gives) h.listed in
+    let lists = λ (map : Map) (h : Holds map s). lists_absent s.keys map key
+    (was_absent key (seat_of s.heap) (seat_of t.heap) told map h.gives) h.listed in
     record {
       answers = one_two;
       ready = λ _. ready_after s t c.requires.ready key made made c.in-Ok-false.ensures.crash (without_local key) changes lists;

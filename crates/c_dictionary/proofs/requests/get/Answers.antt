@@ -17,10 +17,13 @@ returns-in-Ok-Some c =
     let lists = λ (map : Map) (h : Holds map s). h.listed in
     record {
       answers = zero_two;
-      ready = λ _. ready_after s t c.requires.ready key (λ map. map) (λ map. map) c.in-Ok-Some.ensures.crash (same_local key) c.in-Ok-Some.ensures.maps lists;
-      found = λ _. subst (λ (answer : Option ℕ). Gets key answer c.args.room.now c.get.new.out (seat_of s.heap) (seat_of t.heap)) c.in-Ok-Some.field-0-is c.in-Ok-Some.ensures.ok;
+      ready = λ _. ready_after s t c.requires.ready key (λ map. map) (λ map. map) c.in-Ok-Some.ensures.crash
+          (same_local key) c.in-Ok-Some.ensures.maps lists;
+      found = λ _. subst (λ (answer : Option ℕ). Gets key answer c.args.room.now c.get.new.out (seat_of s.heap) (seat_of t.heap))
+          c.in-Ok-Some.field-0-is c.in-Ok-Some.ensures.ok;
       absent = λ e. absurd (zero_one e);
-      same = λ _. turns_after s t c.requires.ready key (λ map. map) (λ map. map) c.in-Ok-Some.ensures.crash (same_local key) c.in-Ok-Some.ensures.maps lists;
+      same = λ _. turns_after s t c.requires.ready key (λ map. map) (λ map. map) c.in-Ok-Some.ensures.crash
+          (same_local key) c.in-Ok-Some.ensures.maps lists;
     }
 
 pub returns-in-Ok-None : goal.returns-in-Ok-None
@@ -31,8 +34,11 @@ returns-in-Ok-None c =
     let lists = λ (map : Map) (h : Holds map s). h.listed in
     record {
       answers = one_two;
-      ready = λ _. ready_after s t c.requires.ready key (λ map. map) (λ map. map) c.in-Ok-None.ensures.crash (same_local key) c.in-Ok-None.ensures.maps lists;
+      ready = λ _. ready_after s t c.requires.ready key (λ map. map) (λ map. map) c.in-Ok-None.ensures.crash
+          (same_local key) c.in-Ok-None.ensures.maps lists;
       found = λ e. absurd (one_zero e);
-      absent = λ _. subst (λ (answer : Option ℕ). Gets key answer c.args.room.now c.get.new.out (seat_of s.heap) (seat_of t.heap)) c.in-Ok-None.field-0-is c.in-Ok-None.ensures.ok;
-      same = λ _. turns_after s t c.requires.ready key (λ map. map) (λ map. map) c.in-Ok-None.ensures.crash (same_local key) c.in-Ok-None.ensures.maps lists;
+      absent = λ _. subst (λ (answer : Option ℕ). Gets key answer c.args.room.now c.get.new.out (seat_of s.heap) (seat_of t.heap))
+          c.in-Ok-None.field-0-is c.in-Ok-None.ensures.ok;
+      same = λ _. turns_after s t c.requires.ready key (λ map. map) (λ map. map) c.in-Ok-None.ensures.crash
+          (same_local key) c.in-Ok-None.ensures.maps lists;
     }

@@ -43,17 +43,21 @@ returns-in-Err-Full c =
     let key = c.args.key in let value = c.args.value.now in
     let made : Map → Map = λ map. with_key map key value in
     let told : PutAnswers (node_bytes (length value)) (shard_of key) (Full c.in-Err-Full.field-0-0) (seat_of s.heap) (seat_of t.heap)
-    = subst (λ (fault : AllocFault). PutAnswers (node_bytes (length value)) (shard_of key) fault (seat_of s.heap) (seat_of t.heap)) c.in-Err-Full.field-0-is c.in-Err-Full.ensures.cause in
+    = subst (λ (fault : AllocFault). PutAnswers (node_bytes (length value)) (shard_of key) fault (seat_of s.heap) (seat_of t.heap))
+    c.in-Err-Full.field-0-is c.in-Err-Full.ensures.cause in
     let lists = λ (map : Map) (h : Holds map s). lists_undone s.keys c.add_key.new.keys t.keys key c.in-Ok.added map h.listed
-    (λ is. not-true (is_some (map key)) (sym (c.in-Ok.ensures.added map h.listed) ∙ is)) (c.in-Ok.ensures.set map [] h.listed) (λ no. c.in-Ok.ensures.same no map h.listed)
+    (λ is. not-true (is_some (map key)) (sym (c.in-Ok.ensures.added map h.listed) ∙ is)) (c.in-Ok.ensures.set map [] h.listed)
+    (λ no. c.in-Ok.ensures.same no map h.listed)
     (λ is. c.undo_add.ensures.taken is (with_key map key [])) (λ no. c.undo_add.ensures.same no) in
     record {
-      ready = λ _. ready_after s t c.requires.ready key made (λ map. map) c.in-Err-Full.ensures.crash (same_local key) (record { gives = told.1 }) lists;
+      ready = λ _. ready_after s t c.requires.ready key made (λ map. map) c.in-Err-Full.ensures.crash (same_local key)
+          (record { gives = told.1 }) lists;
       answers = eleven_two;
       done = λ e. absurd (eleven_zero e);
       set = λ e. absurd (eleven_zero e);
       full = λ _. record { gives = told.1 };
-      refused = λ _. turns_after s t c.requires.ready key made (λ map. map) c.in-Err-Full.ensures.crash (same_local key) (record { gives = told.1 }) lists;
+      refused = λ _. turns_after s t c.requires.ready key made (λ map. map) c.in-Err-Full.ensures.crash (same_local key)
+          (record { gives = told.1 }) lists;
       memory = λ e. absurd (eleven_three e);
       crash = inr c.in-Err-Full.ensures.crash;
     }
@@ -62,7 +66,8 @@ returns-in-Err-Full c =
 pub returns-in_default : goal.returns-in_default
 returns-in_default c =
     let s = c.args.store.now in
-    let same : ◌≡◌ {A = Store} (record s { keys = c.add_key.new.keys }) s = ap (λ (ks : List ℕ). record s { keys = record { keys = ks } }) c.in_default.ensures.err in
+    let same : ◌≡◌ {A = Store} (record s { keys = c.add_key.new.keys }) s =
+    ap (λ (ks : List ℕ). record s { keys = record { keys = ks } }) c.in_default.ensures.err in
     record {
       ready = λ _. subst IsReady (sym same) c.requires.ready;
       answers = three_two;

@@ -24,9 +24,11 @@ store_word-requires-clause-can g c =
 
 pub returns-clause-filled : goal.returns-clause-filled
 returns-clause-filled g c = let e = c.store_word.ensures.event in
-    anchor_filled c.args.seat.now.view c.recall_soundness.ensures c.args.d c.requires.claimed c.draw.new.seat.view c.store_word.new.self.view e.0 c.in_ok-draw.ensures.drawn
+    anchor_filled c.args.seat.now.view c.recall_soundness.ensures c.args.d c.requires.claimed c.draw.new.seat.view c.store_word.new.self.view
+    e.0 c.in_ok-draw.ensures.drawn
     (subst (λ (n : ℕ). IsEvent (Store (anchor_word c.args.d) n) c.draw.new.seat.view e.0 c.store_word.new.self.view) c.anchor_after_take_all.ensures
-    (subst (λ (n : ℕ). IsEvent (Store n c.anchor_after_take_all.result) c.draw.new.seat.view e.0 c.store_word.new.self.view) c.anchor-anchor.ensures e.1))
+    (subst (λ (n : ℕ). IsEvent (Store n c.anchor_after_take_all.result) c.draw.new.seat.view e.0 c.store_word.new.self.view)
+    c.anchor-anchor.ensures e.1))
 
 pub returns-clause-row : goal.returns-clause-row
 returns-clause-row g c = let e = c.store_word.ensures.event in
@@ -35,7 +37,8 @@ returns-clause-row g c = let e = c.store_word.ensures.event in
     (subst (λ (n : ℕ). IsEvent (Store n c.anchor_after_take_all.result) u.view e.0 w.view) c.anchor-anchor.ensures e.1) in
     let free = anchor_not_held v.view c.recall_soundness.ensures c.args.d c.requires.claimed u.view w.view e.0 c.in_ok-draw.ensures.drawn stores in
     row_then v u w c.draw.ensures.row
-    (row_of_store u w (anchor_word c.args.d) (subst (λ (n : ℕ). HasNewStore n u w) c.anchor-anchor.ensures c.store_word.ensures.stores) free (store_row (anchor_word c.args.d) full_anchor u.view w.view e.0 stores free))
+    (row_of_store u w (anchor_word c.args.d) (subst (λ (n : ℕ). HasNewStore n u w) c.anchor-anchor.ensures c.store_word.ensures.stores) free
+    (store_row (anchor_word c.args.d) full_anchor u.view w.view e.0 stores free))
 
 pub returns-clause-asked : goal.returns-clause-asked
 returns-clause-asked g c = asked_step tt c.draw.ensures.numbers c.store_word.ensures.event.1

@@ -8,22 +8,26 @@ use Rattle.cache_fill.proofs.refills.find_superblock.Goals as goal
 
 pub returns-in_err-take-clause-row : goal.returns-in_err-take-clause-row
 returns-in_err-take-clause-row g c = let v = c.args.seat.now in let t = c.pop.new.seat in
-    row_then v t c.take_fresh.new.seat (empty_list_row 0 c.in-Empty.head v t c.in_ok-d.field-0 c.in-Empty.is c.in_ok-d.ensures.done c.pop.ensures.row) c.take_fresh.ensures.row
+    row_then v t c.take_fresh.new.seat (empty_list_row 0 c.in-Empty.head v t c.in_ok-d.field-0 c.in-Empty.is c.in_ok-d.ensures.done
+    c.pop.ensures.row) c.take_fresh.ensures.row
 
 pub returns-in-Got-take-clause-row : goal.returns-in-Got-take-clause-row
 returns-in-Got-take-clause-row g c = let v = c.args.seat.now in let t = c.pop.new.seat in
-    row_then v t c.take_fresh.new.seat (empty_list_row 0 c.in-Empty.head v t c.in_ok-d.field-0 c.in-Empty.is c.in_ok-d.ensures.done c.pop.ensures.row) c.take_fresh.ensures.row
+    row_then v t c.take_fresh.new.seat (empty_list_row 0 c.in-Empty.head v t c.in_ok-d.field-0 c.in-Empty.is c.in_ok-d.ensures.done
+    c.pop.ensures.row) c.take_fresh.ensures.row
 
 pub returns-in-Past-clause-row : goal.returns-in-Past-clause-row
 returns-in-Past-clause-row g c = let v = c.args.seat.now in let t = c.pop.new.seat in
-    row_then v t c.take_fresh.new.seat (empty_list_row 0 c.in-Empty.head v t c.in_ok-d.field-0 c.in-Empty.is c.in_ok-d.ensures.done c.pop.ensures.row) c.take_fresh.ensures.row
+    row_then v t c.take_fresh.new.seat (empty_list_row 0 c.in-Empty.head v t c.in_ok-d.field-0 c.in-Empty.is c.in_ok-d.ensures.done
+    c.pop.ensures.row) c.take_fresh.ensures.row
 
 pub returns-in-Past-clause-done : goal.returns-in-Past-clause-done
 returns-in-Past-clause-done g c = let v = c.args.seat.now in let t = c.pop.new.seat in let w = c.take_fresh.new.seat.view in
     let empty : IsEmptyList 0 c.in-Empty.head v.view t.view = subst (λ pop. Pops 0 pop v.view t.view) c.in-Empty.is c.in_ok-d.ensures.done in
     let past : IsPast 1 c.in-Past.used t.view w = subst (λ take. Takes 1 take t.view w) c.in-Past.is c.in_ok-take.ensures.done in
     nothing_free v.view t.view w c.in-Empty.head c.in-Past.used c.recall_soundness.ensures
-    (view_row_then v.view t.view w (empty_list_row 0 c.in-Empty.head v t c.in_ok-d.field-0 c.in-Empty.is c.in_ok-d.ensures.done c.pop.ensures.row).view (nothing_won t.view w past.wins past.taken c.take_fresh.ensures.row.view))
+    (view_row_then v.view t.view w (empty_list_row 0 c.in-Empty.head v t c.in_ok-d.field-0 c.in-Empty.is c.in_ok-d.ensures.done
+    c.pop.ensures.row).view (nothing_won t.view w past.wins past.taken c.take_fresh.ensures.row.view))
     empty past
 
 pub returns-in-Got-clause-fresh : goal.returns-in-Got-clause-fresh

@@ -12,18 +12,22 @@ use Rattle.cache_fill.proofs.refills.try_fill_from_class.Goals as goal
 
 pub returns-in_err-take_free_blocks-in-Got-clause-row : goal.returns-in_err-take_free_blocks-in-Got-clause-row
 returns-in_err-take_free_blocks-in-Got-clause-row g c = let v = c.args.seat.now in let w = c.take_free_blocks.new.seat in
-    row_moves v w (row_within (record no_costs { draws = 7; wins = 2 }) v w (record { draws = omega arith; wins = omega arith; gives = omega arith; cuts = omega arith; taken = omega arith; moves = omega arith })
+    row_moves v w (row_within (record no_costs { draws = 7; wins = 2 }) v w
+    (record { draws = omega arith; wins = omega arith; gives = omega arith; cuts = omega arith; taken = omega arith; moves = omega arith })
     (row_then v c.pop.new.seat w c.pop.ensures.row c.take_free_blocks.ensures.row))
 
 pub returns-then-branch-clause-row : goal.returns-then-branch-clause-row
 returns-then-branch-clause-row g c = let v = c.args.seat.now in let w = c.take_free_blocks.new.seat in
-    row_moves v w (row_within (record no_costs { draws = 7; wins = 2 }) v w (record { draws = omega arith; wins = omega arith; gives = omega arith; cuts = omega arith; taken = omega arith; moves = omega arith })
+    row_moves v w (row_within (record no_costs { draws = 7; wins = 2 }) v w
+    (record { draws = omega arith; wins = omega arith; gives = omega arith; cuts = omega arith; taken = omega arith; moves = omega arith })
     (row_then v c.pop.new.seat w c.pop.ensures.row c.take_free_blocks.ensures.row))
 
 pub returns-then-branch-clause-done : goal.returns-then-branch-clause-done
 returns-then-branch-clause-done g c = let v = c.args.seat.now in let t = c.pop.new.seat in let w = c.take_free_blocks.new.seat in
-    let popped : HasPopped c.args.class.number c.in-Got.d v.view t.view = subst (λ pop. Pops c.args.class.number pop v.view t.view) c.in-Got.is c.in_ok-pop.ensures.done in
-    let taken : HasTakenFree c.in-Got.d c.args.class.number t.view w.view = subst (λ some. TakesFree c.in-Got.d c.args.class.number some t.view w.view) c.if-branch.true c.in_ok-take_free_blocks-in-Got.ensures.taken in
+    let popped : HasPopped c.args.class.number c.in-Got.d v.view t.view =
+    subst (λ pop. Pops c.args.class.number pop v.view t.view) c.in-Got.is c.in_ok-pop.ensures.done in
+    let taken : HasTakenFree c.in-Got.d c.args.class.number t.view w.view =
+    subst (λ some. TakesFree c.in-Got.d c.args.class.number some t.view w.view) c.if-branch.true c.in_ok-take_free_blocks-in-Got.ensures.taken in
     record {
       filled = taken_fills v.view t.view c.args.class.number c.in-Got.d c.args.class.is popped w.view taken;
       row = (row_moves v w (row_then v t w c.pop.ensures.row c.take_free_blocks.ensures.row)).view;
@@ -37,36 +41,52 @@ take_free_blocks-requires-clause-claim g c =
 pub push-requires-clause-can : goal.push-requires-clause-can
 push-requires-clause-can g c = let v = c.args.seat.now.view in let t = c.pop.new.seat.view in let x = c.take_free_blocks.new.seat.view in
     let popped : HasPopped c.args.class.number c.in-Got.d v t = subst (λ pop. Pops c.args.class.number pop v t) c.in-Got.is c.in_ok-pop.ensures.done in
-    let free : IsAllFree c.in-Got.d t x = subst (λ some. TakesFree c.in-Got.d c.args.class.number some t x) c.if-branch.false c.in_ok-take_free_blocks-in-Got.ensures.taken in
+    let free : IsAllFree c.in-Got.d t x = subst (λ some. TakesFree c.in-Got.d c.args.class.number some t x)
+    c.if-branch.false c.in_ok-take_free_blocks-in-Got.ensures.taken in
     free_lists v t c.args.class.number c.in-Got.d c.args.class.is popped x c.recall_soundness-in-Got.ensures free
 
 pub returns-in_err-push-in-Got-clause-stopped : goal.returns-in_err-push-in-Got-clause-stopped
 returns-in_err-push-in-Got-clause-stopped g c = let v = c.args.seat.now in let t = c.pop.new.seat in let x = c.take_free_blocks.new.seat in
-    let popped : HasPopped c.args.class.number c.in-Got.d v.view t.view = subst (λ pop. Pops c.args.class.number pop v.view t.view) c.in-Got.is c.in_ok-pop.ensures.done in
-    let free : IsAllFree c.in-Got.d t.view x.view = subst (λ some. TakesFree c.in-Got.d c.args.class.number some t.view x.view) c.if-branch.false c.in_ok-take_free_blocks-in-Got.ensures.taken in
+    let popped : HasPopped c.args.class.number c.in-Got.d v.view t.view =
+    subst (λ pop. Pops c.args.class.number pop v.view t.view) c.in-Got.is c.in_ok-pop.ensures.done in
+    let free : IsAllFree c.in-Got.d t.view x.view = subst (λ some. TakesFree c.in-Got.d c.args.class.number some t.view x.view)
+    c.if-branch.false c.in_ok-take_free_blocks-in-Got.ensures.taken in
     let p = err_from_is_err_and c.from_residual-in_err-push-in-Got.result c.from_residual-in_err-push-in-Got.ensures.1 in
-    rw (p.1, p.2) (stops_later v.view x.view c.push.new.seat.view c.in_err-push-in-Got.field-0.0.step popped.ran free.going (row_then v t x c.pop.ensures.row c.take_free_blocks.ensures.row).view c.in_err-push-in-Got.ensures.stopped)
+    rw (p.1, p.2) (stops_later v.view x.view c.push.new.seat.view c.in_err-push-in-Got.field-0.0.step popped.ran free.going
+    (row_then v t x c.pop.ensures.row c.take_free_blocks.ensures.row).view c.in_err-push-in-Got.ensures.stopped)
 
 pub returns-in_err-push-in-Got-clause-row : goal.returns-in_err-push-in-Got-clause-row
-returns-in_err-push-in-Got-clause-row g c = let v = c.args.seat.now in let t = c.pop.new.seat in let x = c.take_free_blocks.new.seat in let w = c.push.new.seat in
-    row_moves v w (row_within (record no_costs { draws = 7; wins = 2; moves = 1 }) v w (record { draws = omega arith; wins = omega arith; gives = omega arith; cuts = omega arith; taken = omega arith; moves = omega arith })
+returns-in_err-push-in-Got-clause-row g c = let v = c.args.seat.now in let t = c.pop.new.seat in let x = c.take_free_blocks.new.seat in
+    let w = c.push.new.seat in
+    row_moves v w (row_within (record no_costs { draws = 7; wins = 2; moves = 1 }) v w
+    (record { draws = omega arith; wins = omega arith; gives = omega arith; cuts = omega arith; taken = omega arith; moves = omega arith })
     (row_then v x w (row_then v t x c.pop.ensures.row (c.in_ok-take_free_blocks-in-Got.ensures.none c.if-branch.false)) c.push.ensures.row))
 
 pub returns-in_ok-push-in-Got-clause-row : goal.returns-in_ok-push-in-Got-clause-row
-returns-in_ok-push-in-Got-clause-row g c = let v = c.args.seat.now in let t = c.pop.new.seat in let x = c.take_free_blocks.new.seat in let w = c.push.new.seat in
-    row_moves v w (row_within (record no_costs { draws = 7; wins = 2; moves = 1 }) v w (record { draws = omega arith; wins = omega arith; gives = omega arith; cuts = omega arith; taken = omega arith; moves = omega arith })
+returns-in_ok-push-in-Got-clause-row g c = let v = c.args.seat.now in let t = c.pop.new.seat in let x = c.take_free_blocks.new.seat in
+    let w = c.push.new.seat in
+    row_moves v w (row_within (record no_costs { draws = 7; wins = 2; moves = 1 }) v w
+    (record { draws = omega arith; wins = omega arith; gives = omega arith; cuts = omega arith; taken = omega arith; moves = omega arith })
     (row_then v x w (row_then v t x c.pop.ensures.row (c.in_ok-take_free_blocks-in-Got.ensures.none c.if-branch.false)) c.push.ensures.row))
 
 pub returns-in_ok-push-in-Got-clause-done : goal.returns-in_ok-push-in-Got-clause-done
-returns-in_ok-push-in-Got-clause-done g c = let v = c.args.seat.now in let t = c.pop.new.seat in let x = c.take_free_blocks.new.seat in let w = c.push.new.seat in let class = c.args.class.number in let d = c.in-Got.d in
+returns-in_ok-push-in-Got-clause-done g c = let v = c.args.seat.now in let t = c.pop.new.seat in let x = c.take_free_blocks.new.seat in
+    let w = c.push.new.seat in let class = c.args.class.number in let d = c.in-Got.d in
     let popped : HasPopped class d v.view t.view = subst (λ pop. Pops class pop v.view t.view) c.in-Got.is c.in_ok-pop.ensures.done in
-    let free : IsAllFree d t.view x.view = subst (λ some. TakesFree d class some t.view x.view) c.if-branch.false c.in_ok-take_free_blocks-in-Got.ensures.taken in
+    let free : IsAllFree d t.view x.view = subst (λ some. TakesFree d class some t.view x.view)
+    c.if-branch.false c.in_ok-take_free_blocks-in-Got.ensures.taken in
     let pushed : HasPushed 0 d 3 x.view w.view = c.in_ok-push-in-Got.ensures.done in
-    let move : Row (record one_move { draws = 3 }) x w = record { view = free_moves v.view t.view class d c.args.class.is popped x.view c.recall_soundness-in-Got.ensures free w.view pushed; marks = c.push.ensures.row.marks } in
+    let move : Row (record one_move { draws = 3 }) x w = record {
+      view =
+          free_moves v.view t.view class d c.args.class.is popped x.view c.recall_soundness-in-Got.ensures free w.view pushed;
+      marks = c.push.ensures.row.marks;
+    } in
     let row = row_then v x w (row_then v t x c.pop.ensures.row (c.in_ok-take_free_blocks-in-Got.ensures.none c.if-branch.false)) move in
     moved_on v.view t.view class d c.args.class.is popped x.view c.recall_soundness-in-Got.ensures free w.view pushed
     (let a = popped.more in let b = free.row.passes.more.draws in let m = move.view.passes.more.draws in omega arith)
-    (row_moves v w (row_within (record no_costs { moves = 1 }) v w (record { draws = omega arith; wins = omega arith; gives = omega arith; cuts = omega arith; taken = omega arith; moves = omega arith }) row)).view
+    (row_moves v w (row_within (record no_costs { moves = 1 }) v w
+    (record { draws = omega arith; wins = omega arith; gives = omega arith; cuts = omega arith; taken = omega arith; moves = omega arith })
+    row)).view
 
 pub returns-in-Empty-clause-done : goal.returns-in-Empty-clause-done
 returns-in-Empty-clause-done g c = let v = c.args.seat.now in let w = c.pop.new.seat in

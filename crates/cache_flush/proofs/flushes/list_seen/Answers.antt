@@ -7,5 +7,6 @@ push_to-requires-clause-can g c = claim_lists c.args.seat.now.view c.recall_soun
 
 pub returns-clause-listed : goal.returns-clause-listed
 returns-clause-listed g c =
-    on_ok_then c.push_to.result (listed_by c.args.seat.now.view c.recall_soundness.ensures c.args.class.number c.args.d c.requires.claim c.push_to.new.seat.view c.list_for-list.result c.args.anchor
+    on_ok_then c.push_to.result (listed_by c.args.seat.now.view c.recall_soundness.ensures c.args.class.number c.args.d c.requires.claim
+    c.push_to.new.seat.view c.list_for-list.result c.args.anchor
     c.list_for-list.ensures.partial c.list_for-list.ensures.other) c.push_to.ensures.done

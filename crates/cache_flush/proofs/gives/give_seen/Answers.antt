@@ -9,7 +9,8 @@ try_give-requires-clause-can g c =
 
 pub returns-clause-done : goal.returns-clause-done
 returns-clause-done g c = let e = c.try_give.ensures.event in
-    exchanged c.args.seat.now.view c.draw.new.seat.view c.try_give.new.self.view c.args.d e.0 c.in_ok-draw.ensures.drawn c.draw.ensures.row.view e.1 c.is_ok.result c.try_give.result e.2 c.is_ok.ensures.value
+    exchanged c.args.seat.now.view c.draw.new.seat.view c.try_give.new.self.view c.args.d e.0 c.in_ok-draw.ensures.drawn c.draw.ensures.row.view
+    e.1 c.is_ok.result c.try_give.result e.2 c.is_ok.ensures.value
 
 pub returns-clause-row : goal.returns-clause-row
 returns-clause-row g c = let e = c.try_give.ensures.event in

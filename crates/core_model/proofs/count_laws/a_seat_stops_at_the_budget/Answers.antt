@@ -15,7 +15,8 @@ pub returns-clause-looked_used : goal.returns-clause-looked_used
 returns-clause-looked_used c k s sound = λ i v below at t is. there_then _ t v.used_look.ticket (sound.good.tickets i v below at).used_look.is_drawn is
 
 pub returns-clause-looked_heads : goal.returns-clause-looked_heads
-returns-clause-looked_heads c k s sound = λ i v below at list t less is. there_then _ t _ ((sound.good.tickets i v below at).head_looks list less).is_drawn is
+returns-clause-looked_heads c k s sound = λ i v below at list t less is. there_then _ t _
+    ((sound.good.tickets i v below at).head_looks list less).is_drawn is
 
 pub returns-clause-in_hand : goal.returns-clause-in_hand
 returns-clause-in_hand c k s sound = λ i v below at t is. let told = (sound.good.tickets i v below at).state.in_hand (ap one_if_some is) in

@@ -23,10 +23,12 @@ pub returns-clause-accepts_one : goal.returns-clause-accepts_one
 returns-clause-accepts_one c = accepts_one
 
 pub returns-clause-stepped : goal.returns-clause-stepped
-returns-clause-stepped c = λ k m views i v event below at seat are. same_roles k views i v (seat_after m v event) below at are seat (role_after m v event (found_by m v event))
+returns-clause-stepped c = λ k m views i v event below at seat are. same_roles k views i v (seat_after m v event) below at are seat
+    (role_after m v event (found_by m v event))
 
 pub returns-clause-accepted_in_place : goal.returns-clause-accepted_in_place
-returns-clause-accepted_in_place c = λ k words views i j v u apart below_i at_i below_j at_j carries sound. accept_sound k views i j v u apart below_i at_i below_j at_j words carries sound
+returns-clause-accepted_in_place c = λ k words views i j v u apart below_i at_i below_j at_j carries sound. accept_sound k views i j v u apart
+    below_i at_i below_j at_j words carries sound
 
 pub returns-clause-emptied : goal.returns-clause-emptied
 returns-clause-emptied c = empties_carrier

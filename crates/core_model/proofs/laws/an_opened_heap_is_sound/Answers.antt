@@ -29,9 +29,11 @@ returns-clause-nothing_yet c words held budget seats block_owners root_owners i 
 
 pub returns-clause-running : goal.returns-clause-running
 returns-clause-running c words held budget seats block_owners root_owners ready owners events answers s runs =
-    sound_runs (setup_of words budget seats) (opened_state (setup_of words budget seats) held block_owners root_owners seats) s events answers (opened words held budget seats block_owners root_owners ready owners) runs
+    sound_runs (setup_of words budget seats) (opened_state (setup_of words budget seats) held block_owners root_owners seats) s events answers
+    (opened words held budget seats block_owners root_owners ready owners) runs
 
 pub returns-clause-firm : goal.returns-clause-firm
 returns-clause-firm c words held budget seats block_owners root_owners ready owners events answers s runs =
     firm (setup_of words budget seats) s.words s.views
-    (sound_runs (setup_of words budget seats) (opened_state (setup_of words budget seats) held block_owners root_owners seats) s events answers (opened words held budget seats block_owners root_owners ready owners) runs)
+    (sound_runs (setup_of words budget seats) (opened_state (setup_of words budget seats) held block_owners root_owners seats) s events answers
+    (opened words held budget seats block_owners root_owners ready owners) runs)

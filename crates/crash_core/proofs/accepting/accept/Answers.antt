@@ -6,14 +6,17 @@ use Rattle.crash_core.proofs.StandingLemmas.{seat_is}
 use Rattle.crash_core.proofs.accepting.accept.Goals as goal
 
 pub returns-in-Some-clause-follows : goal.returns-in-Some-clause-follows
-returns-in-Some-clause-follows c = accept_stopped c.args.core.now c.args.seat c.args.carrier c.index.result.now c.in-Some.step (seat_is c.requires.seat (sym c.index.ensures)) c.in-Some.is
+returns-in-Some-clause-follows c = accept_stopped c.args.core.now c.args.seat c.args.carrier c.index.result.now c.in-Some.step
+    (seat_is c.requires.seat (sym c.index.ensures)) c.in-Some.is
 
 pub returns-then-is_none-clause-follows : goal.returns-then-is_none-clause-follows
-returns-then-is_none-clause-follows c = accept_no_ticket c.args.core.now c.args.seat c.args.carrier c.index.result.now (seat_is c.requires.seat (sym c.index.ensures)) c.in_default.is
+returns-then-is_none-clause-follows c = accept_no_ticket c.args.core.now c.args.seat c.args.carrier c.index.result.now
+    (seat_is c.requires.seat (sym c.index.ensures)) c.in_default.is
     (no_ticket c.index.result.now.ticket c.is_none.result c.is_none.ensures c.if-is_none.true)
 
 pub returns-then-not-carries_block-clause-follows : goal.returns-then-not-carries_block-clause-follows
-returns-then-not-carries_block-clause-follows c = accept_none c.args.core.now c.args.seat c.args.carrier c.index.result.now (seat_is c.requires.seat (sym c.index.ensures)) c.in_default.is
+returns-then-not-carries_block-clause-follows c = accept_none c.args.core.now c.args.seat c.args.carrier c.index.result.now
+    (seat_is c.requires.seat (sym c.index.ensures)) c.in_default.is
     (λ carries. true≢false (sym (c.if-not-carries_block.ensures.1 carries)))
 
 pub accept_block-requires-clause-carries : goal.accept_block-requires-clause-carries

@@ -7,4 +7,5 @@ use Rattle.crash_core.proofs.CutSteps.{IsHalfLinked}
 use Rattle.crash_core.proofs.cuts.is_linked.Given as goal
 
 abbrev pub invariant-loop-step : goal.invariant-loop-step
-invariant-loop-step l = IsHalfLinked (next (memory_at l.core)) (start_word l.core.geometry.capacity l.d) (words_of_class l.fn.class.number) (blocks_of l.fn.class.number) l.block (blocks_of l.fn.class.number + 1 - l._step)
+invariant-loop-step l = IsHalfLinked (next (memory_at l.core)) (start_word l.core.geometry.capacity l.d) (words_of_class l.fn.class.number)
+    (blocks_of l.fn.class.number) l.block (blocks_of l.fn.class.number + 1 - l._step)

@@ -18,6 +18,16 @@ returns c = λ k s stands.
       after_offer s c.args.seat o.view c.args.block,
       is_offered o.view o.at (small_may c.args.core.now k s c.args.seat o.view c.index-notes.result.now c.args.block stands o.at at_t hand held),
       small_offer c.args.core.now k s c.args.seat o.view c.index-notes.result.now c.args.block stands o.at at_t hand held _
-          (record { words = refl; capacity = refl; budget = refl; seats = refl; carriers = refl; blocks = length-set c.args.core.now.blocks.items c.args.block (record { seat = c.len.result + c.args.core.now.carriers; place = place.Held }); superblocks = refl; roots = refl })
+          (record {
+            words = refl;
+            capacity = refl;
+            budget = refl;
+            seats = refl;
+            carriers = refl;
+            blocks = length-set c.args.core.now.blocks.items c.args.block
+                (record { seat = c.len.result + c.args.core.now.carriers; place = place.Held });
+            superblocks = refl;
+            roots = refl;
+          })
           (ap (λ n. set c.args.core.now.blocks.items c.args.block (record { seat = n; place = place.Held })) number) refl,
     )

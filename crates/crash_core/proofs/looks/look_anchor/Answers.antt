@@ -10,4 +10,6 @@ returns-then-not-may_look_at c = λ k views v keeps below at going ticket. step_
 
 pub returns : goal.returns
 returns c = λ k views v keeps below at going ticket.
-    look_anchor c.args.core.now k views c.args.seat v c.index-notes.result.now keeps below at (seat_is c.requires.seat (sym c.index-notes.ensures)) going ticket c.args.d c.anchor-word.result ((c.if-not-may_look_at.ensures.decides k views v keeps below at).0 refl) (c.if-not-may_look_at.ensures.below refl) c.anchor-word.ensures
+    look_anchor c.args.core.now k views c.args.seat v c.index-notes.result.now keeps below at
+    (seat_is c.requires.seat (sym c.index-notes.ensures)) going ticket c.args.d c.anchor-word.result
+    ((c.if-not-may_look_at.ensures.decides k views v keeps below at).0 refl) (c.if-not-may_look_at.ensures.below refl) c.anchor-word.ensures

@@ -8,4 +8,5 @@ returns-then-list-ge-LISTS c = λ k views v keeps below at going ticket. step_no
 
 pub returns : goal.returns
 returns c = λ k views v keeps below at going ticket.
-    look_head c.args.core.now k views c.args.seat v c.index-notes.result.now keeps below at (seat_is c.requires.seat (sym c.index-notes.ensures)) going ticket c.args.list c.index-word.result.now (omega arith) c.index-word.ensures
+    look_head c.args.core.now k views c.args.seat v c.index-notes.result.now keeps below at
+    (seat_is c.requires.seat (sym c.index-notes.ensures)) going ticket c.args.list c.index-word.result.now (omega arith) c.index-word.ensures

@@ -5,31 +5,41 @@ use Rattle.crash_core.proofs.StandingLemmas.{seat_is}
 use Rattle.crash_core.proofs.moves.alloc.Goals as goal
 
 pub offset_bounds-notes-class : goal.offset_bounds-notes-class
-offset_bounds-notes-class c = let f = (alloc_fits c.args.core.now c.args.seat c.args.class c.index.result.now c.requires.core c.requires.seat (seat_is c.requires.seat (sym c.index.ensures)) c.requires.may).last in omega arith
+offset_bounds-notes-class c = let f = (alloc_fits c.args.core.now c.args.seat c.args.class c.index.result.now c.requires.core c.requires.seat
+    (seat_is c.requires.seat (sym c.index.ensures)) c.requires.may).last in omega arith
 
 pub bounds-notes-class : goal.bounds-notes-class
-bounds-notes-class c = (alloc_fits c.args.core.now c.args.seat c.args.class c.index.result.now c.requires.core c.requires.seat (seat_is c.requires.seat (sym c.index.ensures)) c.requires.may).last
+bounds-notes-class c = (alloc_fits c.args.core.now c.args.seat c.args.class c.index.result.now c.requires.core c.requires.seat
+    (seat_is c.requires.seat (sym c.index.ensures)) c.requires.may).last
 
 pub next-first-requires-clause-from : goal.next-first-requires-clause-from
-next-first-requires-clause-from c = (alloc_fits c.args.core.now c.args.seat c.args.class c.index.result.now c.requires.core c.requires.seat (seat_is c.requires.seat (sym c.index.ensures)) c.requires.may).from
+next-first-requires-clause-from c = (alloc_fits c.args.core.now c.args.seat c.args.class c.index.result.now c.requires.core c.requires.seat
+    (seat_is c.requires.seat (sym c.index.ensures)) c.requires.may).from
 
 pub next-first-requires-clause-until : goal.next-first-requires-clause-until
-next-first-requires-clause-until c = (alloc_fits c.args.core.now c.args.seat c.args.class c.index.result.now c.requires.core c.requires.seat (seat_is c.requires.seat (sym c.index.ensures)) c.requires.may).until
+next-first-requires-clause-until c = (alloc_fits c.args.core.now c.args.seat c.args.class c.index.result.now c.requires.core c.requires.seat
+    (seat_is c.requires.seat (sym c.index.ensures)) c.requires.may).until
 
 pub index_mut-requires : goal.index_mut-requires
-index_mut-requires c = let l = (alloc_fits c.args.core.now c.args.seat c.args.class c.index.result.now c.requires.core c.requires.seat (seat_is c.requires.seat (sym c.index.ensures)) c.requires.may).long in omega arith
+index_mut-requires c = let l = (alloc_fits c.args.core.now c.args.seat c.args.class c.index.result.now c.requires.core c.requires.seat
+    (seat_is c.requires.seat (sym c.index.ensures)) c.requires.may).long in omega arith
 
 pub overflow_sub-caches : goal.overflow_sub-caches
-overflow_sub-caches c = (alloc_fits c.args.core.now c.args.seat c.args.class c.index.result.now c.requires.core c.requires.seat (seat_is c.requires.seat (sym c.index.ensures)) c.requires.may).count
+overflow_sub-caches c = (alloc_fits c.args.core.now c.args.seat c.args.class c.index.result.now c.requires.core c.requires.seat
+    (seat_is c.requires.seat (sym c.index.ensures)) c.requires.may).count
 
 pub offset_bounds-caches-class : goal.offset_bounds-caches-class
-offset_bounds-caches-class c = let f = (alloc_fits c.args.core.now c.args.seat c.args.class c.index.result.now c.requires.core c.requires.seat (seat_is c.requires.seat (sym c.index.ensures)) c.requires.may).last in omega arith
+offset_bounds-caches-class c = let f = (alloc_fits c.args.core.now c.args.seat c.args.class c.index.result.now c.requires.core c.requires.seat
+    (seat_is c.requires.seat (sym c.index.ensures)) c.requires.may).last in omega arith
 
 pub bounds-caches-class : goal.bounds-caches-class
-bounds-caches-class c = (alloc_fits c.args.core.now c.args.seat c.args.class c.index.result.now c.requires.core c.requires.seat (seat_is c.requires.seat (sym c.index.ensures)) c.requires.may).last
+bounds-caches-class c = (alloc_fits c.args.core.now c.args.seat c.args.class c.index.result.now c.requires.core c.requires.seat
+    (seat_is c.requires.seat (sym c.index.ensures)) c.requires.may).last
 
 pub returns : goal.returns
 returns c = λ k views v t keeps below at at_t.
-    let same : c.index.result.now ≡ t = c.index.ensures ∙ entry_is c.args.core.now.seats.items c.args.seat c.index.result.now t c.requires.seat ∙ at_t.at in
-    retold _ _ views c.args.seat c.index.result.now t _ same (alloc c.args.core.now k views c.args.seat v c.index.result.now keeps below at (seat_is c.requires.seat (sym c.index.ensures)) c.args.class
+    let same : c.index.result.now ≡ t = c.index.ensures ∙ entry_is c.args.core.now.seats.items c.args.seat c.index.result.now t c.requires.seat
+    ∙ at_t.at in
+    retold _ _ views c.args.seat c.index.result.now t _ same (alloc c.args.core.now k views c.args.seat v c.index.result.now keeps below at
+    (seat_is c.requires.seat (sym c.index.ensures)) c.args.class
     ((c.requires.may k views v keeps below at).0 refl) c.next-first.result c.next-first.ensures)

@@ -18,8 +18,10 @@ returns c = record {
     budget_is = refl;
     seats_are = c.in_ok-vec.ensures.items_if_clones_equal (λ y e. e);
     no_carriers = refl;
-    blocks = subst (λ os. AreBlockOwners c.args.heap.now.words c.args.heap.now.held os c.in_ok-block_owners.field-0.items) c.held.ensures c.in_ok-block_owners.ensures.ok;
-    superblocks = subst (λ os. AreSuperblockOwners c.args.heap.now.words c.args.heap.now.held os c.in_ok-superblock_owners.field-0.items) c.held-2.ensures c.in_ok-superblock_owners.ensures.ok;
+    blocks = subst (λ os. AreBlockOwners c.args.heap.now.words c.args.heap.now.held os c.in_ok-block_owners.field-0.items)
+        c.held.ensures c.in_ok-block_owners.ensures.ok;
+    superblocks = subst (λ os. AreSuperblockOwners c.args.heap.now.words c.args.heap.now.held os c.in_ok-superblock_owners.field-0.items)
+        c.held-2.ensures c.in_ok-superblock_owners.ensures.ok;
     roots_are = c.in_ok-from_slice.ensures.items ∙ c.roots.ensures;
   }) c.in_ok-block_owners.ensures.ready c.requires.owners c.requires.seats c.requires.budget;
 }

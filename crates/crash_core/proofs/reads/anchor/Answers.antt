@@ -7,4 +7,5 @@ pub index-requires : goal.index-requires
 index-requires c = let l = (lengths c.args.core.now c.requires.core).words in let e = c.anchor.ensures in let d = c.requires.d in omega arith
 
 pub returns : goal.returns
-returns c = reads_volatile c.args.core.now (anchor_cell c.args.d) c.anchor.result c.index.result.now c.requires.core (lt-ltb c.args.d c.args.core.now.geometry.capacity c.requires.d) c.anchor.ensures c.index.ensures
+returns c = reads_volatile c.args.core.now (anchor_cell c.args.d) c.anchor.result c.index.result.now c.requires.core
+    (lt-ltb c.args.d c.args.core.now.geometry.capacity c.requires.d) c.anchor.ensures c.index.ensures

@@ -7,4 +7,5 @@ use Rattle.crash_core.proofs.reads.next.Goals as goal
 
 pub returns : goal.returns
 returns c = reads_volatile c.args.core.now (data_cell c.args.block) c.args.block c.index.result.now c.requires.core
-    (and_is _ _ (le-leb (start_word c.args.core.now.geometry.capacity 0) c.args.block c.requires.from) (lt-ltb c.args.block (superblocks_end c.args.core.now.geometry.capacity) c.requires.until)) refl c.index.ensures
+    (and_is _ _ (le-leb (start_word c.args.core.now.geometry.capacity 0) c.args.block c.requires.from)
+    (lt-ltb c.args.block (superblocks_end c.args.core.now.geometry.capacity) c.requires.until)) refl c.index.ensures

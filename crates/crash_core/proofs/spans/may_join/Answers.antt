@@ -10,19 +10,73 @@ use Rattle.crash_core.proofs.StandingLemmas.{seat_is}
 use Rattle.crash_core.proofs.spans.may_join.Goals.{then-e-d, else-e-d}
 
 pub returns-in-Split : goal.returns-in-Split
-returns-in-Split c = λ k views v keeps below at. (λ e. join_split c.args.core.now k views c.args.seat v (entry_there c.args.core.now.seats.items c.args.seat c.requires.seat).0 keeps below at (seat_is c.requires.seat (entry_there c.args.core.now.seats.items c.args.seat c.requires.seat).1) c.args.d c.args.n c.args.e c.if-e-d.wanted (elim c.if-e-d.branch as (λ _. c.if-e-d.wanted ≡ cond (nat_eq c.args.e c.args.d) (large_info c.args.n) 0) [ then-e-d w ↦ w.wanted-is ∙ w.pack-wanted.ensures ∙ sym (pick (nat_eq c.args.e c.args.d) (large_info c.args.n) 0 (eq-eqb c.args.e c.args.d w.if-e-d.true)) | else-e-d w ↦ w.wanted-is ∙ sym (skip (nat_eq c.args.e c.args.d) (large_info c.args.n) 0 (not-eq c.args.e c.args.d w.if-e-d.false)) ]) c.info.result c.durable_info.result c.info.ensures (let e = c.if-info-wanted.false in omega arith) c.durable_info.ensures (let e = c.if-durable_info-wanted.false in omega arith) (sym c.in-Split.is ∙ c.usage.ensures), λ may. refl)
+returns-in-Split c = λ k views v keeps below at. (
+  λ e. join_split c.args.core.now k views c.args.seat v
+      (entry_there c.args.core.now.seats.items c.args.seat c.requires.seat).0 keeps below at
+      (seat_is c.requires.seat (entry_there c.args.core.now.seats.items c.args.seat c.requires.seat).1) c.args.d c.args.n c.args.e c.if-e-d.wanted
+      (elim c.if-e-d.branch as (λ _. c.if-e-d.wanted ≡ cond (nat_eq c.args.e c.args.d) (large_info c.args.n) 0) [
+        | then-e-d w ↦ w.wanted-is
+            ∙ w.pack-wanted.ensures ∙ sym (pick (nat_eq c.args.e c.args.d) (large_info c.args.n) 0 (eq-eqb c.args.e c.args.d w.if-e-d.true))
+        | else-e-d w ↦ w.wanted-is ∙ sym (skip (nat_eq c.args.e c.args.d) (large_info c.args.n) 0 (not-eq c.args.e c.args.d w.if-e-d.false))
+      ])
+      c.info.result c.durable_info.result c.info.ensures (let e = c.if-info-wanted.false in
+      omega arith) c.durable_info.ensures (let e = c.if-durable_info-wanted.false in omega arith) (sym c.in-Split.is ∙ c.usage.ensures),
+  λ may. refl,
+)
 
 pub returns-in-Raw : goal.returns-in-Raw
-returns-in-Raw c = λ k views v keeps below at. join_raw c.args.core.now k views c.args.seat v (entry_there c.args.core.now.seats.items c.args.seat c.requires.seat).0 keeps below at (seat_is c.requires.seat (entry_there c.args.core.now.seats.items c.args.seat c.requires.seat).1) c.args.d c.args.n c.args.e c.if-e-d.wanted (elim c.if-e-d.branch as (λ _. c.if-e-d.wanted ≡ cond (nat_eq c.args.e c.args.d) (large_info c.args.n) 0) [ then-e-d w ↦ w.wanted-is ∙ w.pack-wanted.ensures ∙ sym (pick (nat_eq c.args.e c.args.d) (large_info c.args.n) 0 (eq-eqb c.args.e c.args.d w.if-e-d.true)) | else-e-d w ↦ w.wanted-is ∙ sym (skip (nat_eq c.args.e c.args.d) (large_info c.args.n) 0 (not-eq c.args.e c.args.d w.if-e-d.false)) ]) c.info.result c.durable_info.result c.info.ensures (let e = c.if-info-wanted.false in omega arith) c.durable_info.ensures (let e = c.if-durable_info-wanted.false in omega arith) c.anchor_state.result c.anchor.result (sym c.in-Raw.is ∙ c.usage.ensures) c.anchor_state.ensures c.anchor.ensures
+returns-in-Raw c = λ k views v keeps below at. join_raw c.args.core.now k views c.args.seat v
+    (entry_there c.args.core.now.seats.items c.args.seat c.requires.seat).0 keeps below at
+    (seat_is c.requires.seat (entry_there c.args.core.now.seats.items c.args.seat c.requires.seat).1) c.args.d c.args.n c.args.e c.if-e-d.wanted
+    (elim c.if-e-d.branch as (λ _. c.if-e-d.wanted ≡ cond (nat_eq c.args.e c.args.d) (large_info c.args.n) 0) [
+      | then-e-d w ↦ w.wanted-is
+          ∙ w.pack-wanted.ensures ∙ sym (pick (nat_eq c.args.e c.args.d) (large_info c.args.n) 0 (eq-eqb c.args.e c.args.d w.if-e-d.true))
+      | else-e-d w ↦ w.wanted-is ∙ sym (skip (nat_eq c.args.e c.args.d) (large_info c.args.n) 0 (not-eq c.args.e c.args.d w.if-e-d.false))
+    ])
+    c.info.result c.durable_info.result c.info.ensures (let e = c.if-info-wanted.false in
+    omega arith) c.durable_info.ensures (let e = c.if-durable_info-wanted.false in
+    omega arith) c.anchor_state.result c.anchor.result (sym c.in-Raw.is ∙ c.usage.ensures) c.anchor_state.ensures c.anchor.ensures
 
 pub returns-in-Nothing : goal.returns-in-Nothing
-returns-in-Nothing c = λ k views v keeps below at. refused (unclaimed c.args.core.now k views c.args.seat v (entry_there c.args.core.now.seats.items c.args.seat c.requires.seat).0 keeps below at (seat_is c.requires.seat (entry_there c.args.core.now.seats.items c.args.seat c.requires.seat).1) c.args.d c.args.n c.args.e c.if-e-d.wanted (elim c.if-e-d.branch as (λ _. c.if-e-d.wanted ≡ cond (nat_eq c.args.e c.args.d) (large_info c.args.n) 0) [ then-e-d w ↦ w.wanted-is ∙ w.pack-wanted.ensures ∙ sym (pick (nat_eq c.args.e c.args.d) (large_info c.args.n) 0 (eq-eqb c.args.e c.args.d w.if-e-d.true)) | else-e-d w ↦ w.wanted-is ∙ sym (skip (nat_eq c.args.e c.args.d) (large_info c.args.n) 0 (not-eq c.args.e c.args.d w.if-e-d.false)) ]) c.usage.result c.usage.ensures (ap (λ x. raw_in x + split_in x) c.in-Nothing.is))
+returns-in-Nothing c = λ k views v keeps below at. refused (unclaimed c.args.core.now k views c.args.seat v
+    (entry_there c.args.core.now.seats.items c.args.seat c.requires.seat).0 keeps below at
+    (seat_is c.requires.seat (entry_there c.args.core.now.seats.items c.args.seat c.requires.seat).1) c.args.d c.args.n c.args.e c.if-e-d.wanted
+    (elim c.if-e-d.branch as (λ _. c.if-e-d.wanted ≡ cond (nat_eq c.args.e c.args.d) (large_info c.args.n) 0) [
+      | then-e-d w ↦ w.wanted-is
+          ∙ w.pack-wanted.ensures ∙ sym (pick (nat_eq c.args.e c.args.d) (large_info c.args.n) 0 (eq-eqb c.args.e c.args.d w.if-e-d.true))
+      | else-e-d w ↦ w.wanted-is ∙ sym (skip (nat_eq c.args.e c.args.d) (large_info c.args.n) 0 (not-eq c.args.e c.args.d w.if-e-d.false))
+    ])
+    c.usage.result c.usage.ensures (ap (λ x. raw_in x + split_in x) c.in-Nothing.is))
 
 pub returns-in-Cutting : goal.returns-in-Cutting
-returns-in-Cutting c = λ k views v keeps below at. refused (unclaimed c.args.core.now k views c.args.seat v (entry_there c.args.core.now.seats.items c.args.seat c.requires.seat).0 keeps below at (seat_is c.requires.seat (entry_there c.args.core.now.seats.items c.args.seat c.requires.seat).1) c.args.d c.args.n c.args.e c.if-e-d.wanted (elim c.if-e-d.branch as (λ _. c.if-e-d.wanted ≡ cond (nat_eq c.args.e c.args.d) (large_info c.args.n) 0) [ then-e-d w ↦ w.wanted-is ∙ w.pack-wanted.ensures ∙ sym (pick (nat_eq c.args.e c.args.d) (large_info c.args.n) 0 (eq-eqb c.args.e c.args.d w.if-e-d.true)) | else-e-d w ↦ w.wanted-is ∙ sym (skip (nat_eq c.args.e c.args.d) (large_info c.args.n) 0 (not-eq c.args.e c.args.d w.if-e-d.false)) ]) c.usage.result c.usage.ensures (ap (λ x. raw_in x + split_in x) c.in-Cutting.is))
+returns-in-Cutting c = λ k views v keeps below at. refused (unclaimed c.args.core.now k views c.args.seat v
+    (entry_there c.args.core.now.seats.items c.args.seat c.requires.seat).0 keeps below at
+    (seat_is c.requires.seat (entry_there c.args.core.now.seats.items c.args.seat c.requires.seat).1) c.args.d c.args.n c.args.e c.if-e-d.wanted
+    (elim c.if-e-d.branch as (λ _. c.if-e-d.wanted ≡ cond (nat_eq c.args.e c.args.d) (large_info c.args.n) 0) [
+      | then-e-d w ↦ w.wanted-is
+          ∙ w.pack-wanted.ensures ∙ sym (pick (nat_eq c.args.e c.args.d) (large_info c.args.n) 0 (eq-eqb c.args.e c.args.d w.if-e-d.true))
+      | else-e-d w ↦ w.wanted-is ∙ sym (skip (nat_eq c.args.e c.args.d) (large_info c.args.n) 0 (not-eq c.args.e c.args.d w.if-e-d.false))
+    ])
+    c.usage.result c.usage.ensures (ap (λ x. raw_in x + split_in x) c.in-Cutting.is))
 
 pub returns-in-Classed : goal.returns-in-Classed
-returns-in-Classed c = λ k views v keeps below at. refused (unclaimed c.args.core.now k views c.args.seat v (entry_there c.args.core.now.seats.items c.args.seat c.requires.seat).0 keeps below at (seat_is c.requires.seat (entry_there c.args.core.now.seats.items c.args.seat c.requires.seat).1) c.args.d c.args.n c.args.e c.if-e-d.wanted (elim c.if-e-d.branch as (λ _. c.if-e-d.wanted ≡ cond (nat_eq c.args.e c.args.d) (large_info c.args.n) 0) [ then-e-d w ↦ w.wanted-is ∙ w.pack-wanted.ensures ∙ sym (pick (nat_eq c.args.e c.args.d) (large_info c.args.n) 0 (eq-eqb c.args.e c.args.d w.if-e-d.true)) | else-e-d w ↦ w.wanted-is ∙ sym (skip (nat_eq c.args.e c.args.d) (large_info c.args.n) 0 (not-eq c.args.e c.args.d w.if-e-d.false)) ]) c.usage.result c.usage.ensures (ap (λ x. raw_in x + split_in x) c.in-Classed.is))
+returns-in-Classed c = λ k views v keeps below at. refused (unclaimed c.args.core.now k views c.args.seat v
+    (entry_there c.args.core.now.seats.items c.args.seat c.requires.seat).0 keeps below at
+    (seat_is c.requires.seat (entry_there c.args.core.now.seats.items c.args.seat c.requires.seat).1) c.args.d c.args.n c.args.e c.if-e-d.wanted
+    (elim c.if-e-d.branch as (λ _. c.if-e-d.wanted ≡ cond (nat_eq c.args.e c.args.d) (large_info c.args.n) 0) [
+      | then-e-d w ↦ w.wanted-is
+          ∙ w.pack-wanted.ensures ∙ sym (pick (nat_eq c.args.e c.args.d) (large_info c.args.n) 0 (eq-eqb c.args.e c.args.d w.if-e-d.true))
+      | else-e-d w ↦ w.wanted-is ∙ sym (skip (nat_eq c.args.e c.args.d) (large_info c.args.n) 0 (not-eq c.args.e c.args.d w.if-e-d.false))
+    ])
+    c.usage.result c.usage.ensures (ap (λ x. raw_in x + split_in x) c.in-Classed.is))
 
 pub returns-in-Large : goal.returns-in-Large
-returns-in-Large c = λ k views v keeps below at. refused (unclaimed c.args.core.now k views c.args.seat v (entry_there c.args.core.now.seats.items c.args.seat c.requires.seat).0 keeps below at (seat_is c.requires.seat (entry_there c.args.core.now.seats.items c.args.seat c.requires.seat).1) c.args.d c.args.n c.args.e c.if-e-d.wanted (elim c.if-e-d.branch as (λ _. c.if-e-d.wanted ≡ cond (nat_eq c.args.e c.args.d) (large_info c.args.n) 0) [ then-e-d w ↦ w.wanted-is ∙ w.pack-wanted.ensures ∙ sym (pick (nat_eq c.args.e c.args.d) (large_info c.args.n) 0 (eq-eqb c.args.e c.args.d w.if-e-d.true)) | else-e-d w ↦ w.wanted-is ∙ sym (skip (nat_eq c.args.e c.args.d) (large_info c.args.n) 0 (not-eq c.args.e c.args.d w.if-e-d.false)) ]) c.usage.result c.usage.ensures (ap (λ x. raw_in x + split_in x) c.in-Large.is))
+returns-in-Large c = λ k views v keeps below at. refused (unclaimed c.args.core.now k views c.args.seat v
+    (entry_there c.args.core.now.seats.items c.args.seat c.requires.seat).0 keeps below at
+    (seat_is c.requires.seat (entry_there c.args.core.now.seats.items c.args.seat c.requires.seat).1) c.args.d c.args.n c.args.e c.if-e-d.wanted
+    (elim c.if-e-d.branch as (λ _. c.if-e-d.wanted ≡ cond (nat_eq c.args.e c.args.d) (large_info c.args.n) 0) [
+      | then-e-d w ↦ w.wanted-is
+          ∙ w.pack-wanted.ensures ∙ sym (pick (nat_eq c.args.e c.args.d) (large_info c.args.n) 0 (eq-eqb c.args.e c.args.d w.if-e-d.true))
+      | else-e-d w ↦ w.wanted-is ∙ sym (skip (nat_eq c.args.e c.args.d) (large_info c.args.n) 0 (not-eq c.args.e c.args.d w.if-e-d.false))
+    ])
+    c.usage.result c.usage.ensures (ap (λ x. raw_in x + split_in x) c.in-Large.is))

@@ -15,19 +15,24 @@ pub returns-in-Settle : goal.returns-in-Settle
 returns-in-Settle c = subst (λ e. Takes c.args.core.now c.args.seat e c.settle.result c.settle.new.core) (sym c.in-Settle.is) c.settle.ensures
 
 pub returns-in-LookUsed : goal.returns-in-LookUsed
-returns-in-LookUsed c = subst (λ e. Takes c.args.core.now c.args.seat e c.look_used.result c.look_used.new.core) (sym c.in-LookUsed.is) c.look_used.ensures
+returns-in-LookUsed c = subst (λ e. Takes c.args.core.now c.args.seat e c.look_used.result c.look_used.new.core)
+    (sym c.in-LookUsed.is) c.look_used.ensures
 
 pub returns-in-TakeFresh : goal.returns-in-TakeFresh
-returns-in-TakeFresh c = subst (λ e. Takes c.args.core.now c.args.seat e c.take_fresh.result c.take_fresh.new.core) (sym c.in-TakeFresh.is) c.take_fresh.ensures
+returns-in-TakeFresh c = subst (λ e. Takes c.args.core.now c.args.seat e c.take_fresh.result c.take_fresh.new.core)
+    (sym c.in-TakeFresh.is) c.take_fresh.ensures
 
 pub returns-in-KeepUsed : goal.returns-in-KeepUsed
-returns-in-KeepUsed c = subst (λ e. Takes c.args.core.now c.args.seat e c.keep_used.result c.keep_used.new.core) (sym c.in-KeepUsed.is) c.keep_used.ensures
+returns-in-KeepUsed c = subst (λ e. Takes c.args.core.now c.args.seat e c.keep_used.result c.keep_used.new.core)
+    (sym c.in-KeepUsed.is) c.keep_used.ensures
 
 pub returns-in-LookHead : goal.returns-in-LookHead
-returns-in-LookHead c = subst (λ e. Takes c.args.core.now c.args.seat e c.look_head.result c.look_head.new.core) (sym c.in-LookHead.is) c.look_head.ensures
+returns-in-LookHead c = subst (λ e. Takes c.args.core.now c.args.seat e c.look_head.result c.look_head.new.core)
+    (sym c.in-LookHead.is) c.look_head.ensures
 
 pub returns-in-LookLink : goal.returns-in-LookLink
-returns-in-LookLink c = subst (λ e. Takes c.args.core.now c.args.seat e c.look_link.result c.look_link.new.core) (sym c.in-LookLink.is) c.look_link.ensures
+returns-in-LookLink c = subst (λ e. Takes c.args.core.now c.args.seat e c.look_link.result c.look_link.new.core)
+    (sym c.in-LookLink.is) c.look_link.ensures
 
 pub pop-requires-clause-ticket : goal.pop-requires-clause-ticket
 pop-requires-clause-ticket c = λ t at. subst (HasTicketAt t.ticket) c.in-Pop.is (c.requires.ticket t at)
@@ -39,7 +44,8 @@ pub returns-in-Push : goal.returns-in-Push
 returns-in-Push c = subst (λ e. Takes c.args.core.now c.args.seat e c.push.result c.push.new.core) (sym c.in-Push.is) c.push.ensures
 
 pub returns-in-LookAnchor : goal.returns-in-LookAnchor
-returns-in-LookAnchor c = subst (λ e. Takes c.args.core.now c.args.seat e c.look_anchor.result c.look_anchor.new.core) (sym c.in-LookAnchor.is) c.look_anchor.ensures
+returns-in-LookAnchor c = subst (λ e. Takes c.args.core.now c.args.seat e c.look_anchor.result c.look_anchor.new.core)
+    (sym c.in-LookAnchor.is) c.look_anchor.ensures
 
 pub returns-in-TakeAll : goal.returns-in-TakeAll
 returns-in-TakeAll c = subst (λ e. Takes c.args.core.now c.args.seat e c.take_all.result c.take_all.new.core) (sym c.in-TakeAll.is) c.take_all.ensures

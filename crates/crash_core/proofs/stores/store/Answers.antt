@@ -10,4 +10,6 @@ returns-then-not-is_own c = λ k views v keeps below at going ticket. step_not c
     (λ may seen. true≢false (sym ((c.if-not-is_own.ensures k views v keeps below at).1 may.0)))
 
 pub returns-in-Shared : goal.returns-in-Shared
-returns-in-Shared c = λ k views v keeps below at going ticket. shared c.args.core.now k views c.args.seat v (entry_there c.args.core.now.seats.items c.args.seat c.requires.seat).0 keeps below at (seat_is c.requires.seat (entry_there c.args.core.now.seats.items c.args.seat c.requires.seat).1) going c.args.word c.args.value c.in-Shared.ensures
+returns-in-Shared c = λ k views v keeps below at going ticket. shared c.args.core.now k views c.args.seat v
+    (entry_there c.args.core.now.seats.items c.args.seat c.requires.seat).0 keeps below at
+    (seat_is c.requires.seat (entry_there c.args.core.now.seats.items c.args.seat c.requires.seat).1) going c.args.word c.args.value c.in-Shared.ensures

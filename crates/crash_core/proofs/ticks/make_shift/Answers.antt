@@ -21,7 +21,8 @@ pub free-requires-clause-may : goal.free-requires-clause-may
 free-requires-clause-may c = subst (λ s. Decides c.args.core.now c.args.seat (λ m v. MayShift m v (Some s)) true) c.in-Free.is c.requires.may
 
 pub free-requires-clause-held : goal.free-requires-clause-held
-free-requires-clause-held c = free_held c.args.core.now c.args.seat c.in-Free.block c.requires.core c.requires.seat (subst (λ s. Decides c.args.core.now c.args.seat (λ m v. MayShift m v (Some s)) true) c.in-Free.is c.requires.may)
+free-requires-clause-held c = free_held c.args.core.now c.args.seat c.in-Free.block c.requires.core c.requires.seat
+    (subst (λ s. Decides c.args.core.now c.args.seat (λ m v. MayShift m v (Some s)) true) c.in-Free.is c.requires.may)
 
 pub returns-in-Free : goal.returns-in-Free
 returns-in-Free c = subst (λ s. Moves c.args.core.now c.args.seat (λ m v. shifted m v (Some s)) c.free.new.core) (sym c.in-Free.is) c.free.ensures
@@ -36,7 +37,8 @@ pub hold_large-requires-clause-may : goal.hold_large-requires-clause-may
 hold_large-requires-clause-may c = subst (λ s. Decides c.args.core.now c.args.seat (λ m v. MayShift m v (Some s)) true) c.in-Large.is c.requires.may
 
 pub returns-in-Large : goal.returns-in-Large
-returns-in-Large c = subst (λ s. Moves c.args.core.now c.args.seat (λ m v. shifted m v (Some s)) c.hold_large.new.core) (sym c.in-Large.is) c.hold_large.ensures
+returns-in-Large c = subst (λ s. Moves c.args.core.now c.args.seat (λ m v. shifted m v (Some s)) c.hold_large.new.core)
+    (sym c.in-Large.is) c.hold_large.ensures
 
 pub split-requires-clause-may : goal.split-requires-clause-may
 split-requires-clause-may c = subst (λ s. Decides c.args.core.now c.args.seat (λ m v. MayShift m v (Some s)) true) c.in-Split.is c.requires.may

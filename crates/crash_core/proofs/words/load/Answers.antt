@@ -9,4 +9,5 @@ returns-then-not-is_own c = λ k views v keeps below at going ticket. step_not c
     (λ may seen. true≢false (sym ((c.if-not-is_own.ensures k views v keeps below at).1 may)))
 
 pub returns : goal.returns
-returns c = λ k views v keeps below at going ticket. load c.args.core.now k views c.args.seat v c.index-notes.result.now keeps below at (seat_is c.requires.seat (sym c.index-notes.ensures)) going ticket c.args.word ((c.if-not-is_own.ensures k views v keeps below at).0 refl)
+returns c = λ k views v keeps below at going ticket. load c.args.core.now k views c.args.seat v c.index-notes.result.now keeps below at
+    (seat_is c.requires.seat (sym c.index-notes.ensures)) going ticket c.args.word ((c.if-not-is_own.ensures k views v keeps below at).0 refl)

@@ -12,10 +12,12 @@ returns-clause-long g c =
 
 pub returns-clause-image : goal.returns-clause-image
 returns-clause-image g c =
-    crash_left c.args.geometry.capacity c.args.words.items c.scramble_heads.new.image.items c.scramble_descriptors.new.image.items c.requires.long c.requires.layout
+    crash_left c.args.geometry.capacity c.args.words.items c.scramble_heads.new.image.items c.scramble_descriptors.new.image.items
+    c.requires.long c.requires.layout
     (c.scramble_heads.ensures.left c.args.geometry.capacity) c.scramble_descriptors.ensures.left
 
 pub returns-clause-drawn : goal.returns-clause-drawn
 returns-clause-drawn g c =
-    all_drawn g.C.Chance.draw_gives c.args.scramble.now c.scramble_heads.new.scramble c.scramble_descriptors.new.scramble c.scramble_heads.new.image.items c.scramble_descriptors.new.image.items c.args.geometry.capacity
+    all_drawn g.C.Chance.draw_gives c.args.scramble.now c.scramble_heads.new.scramble c.scramble_descriptors.new.scramble
+    c.scramble_heads.new.image.items c.scramble_descriptors.new.image.items c.args.geometry.capacity
     c.scramble_descriptors.ensures.heads c.scramble_heads.ensures.drawn c.scramble_descriptors.ensures.drawn

@@ -19,14 +19,16 @@ returns-in_err-table_of-clause-crash g c =
     let v = view c.args.seat.now in
     let u = view c.table_of.new.seat in
     let grown = grown_keeps v u c.table_of.ensures.quiet.unchanged in
-    λ after. change_none (shard_of c.args.key) after v u grown c.table_of.ensures.quiet.calls.goes_on.kinds (g.met.H.HeapSeat.seat c.table_of.new.seat) c.requires.only
+    λ after. change_none (shard_of c.args.key) after v u grown c.table_of.ensures.quiet.calls.goes_on.kinds
+    (g.met.H.HeapSeat.seat c.table_of.new.seat) c.requires.only
 
 pub make_table-requires-clause-shard : goal.make_table-requires-clause-shard
 make_table-requires-clause-shard g c =
     let view = g.H.HeapSeat.view in
     let v = view c.args.seat.now in
     let u = view c.table_of.new.seat in
-    shard_still v u (shard_of c.args.key) (g.met.H.HeapSeat.seat c.table_of.new.seat) c.table_of.ensures.quiet.unchanged c.table_of.ensures.quiet.calls.goes_on.kinds c.requires
+    shard_still v u (shard_of c.args.key) (g.met.H.HeapSeat.seat c.table_of.new.seat)
+    c.table_of.ensures.quiet.unchanged c.table_of.ensures.quiet.calls.goes_on.kinds c.requires
 
 pub make_table-requires-clause-none : goal.make_table-requires-clause-none
 make_table-requires-clause-none g c =
@@ -37,7 +39,8 @@ make_table-requires-clause-none g c =
     let finds = subst (λ (t : Option Block). FindsTable (shard_of c.args.key) t v u) c.in-None.is c.in_ok-table_of.ensures.ok in
     record {
       root = finds.none.root;
-      empty = λ map gives key. same_map u (g.met.H.HeapSeat.seat c.table_of.new.seat) (shard_of c.args.key) map c.requires.map gives (gives_grown v u grown (shard_of c.args.key) c.requires.map c.requires.gives) key
+      empty = λ map gives key. same_map u (g.met.H.HeapSeat.seat c.table_of.new.seat) (shard_of c.args.key) map c.requires.map gives
+          (gives_grown v u grown (shard_of c.args.key) c.requires.map c.requires.gives) key
           ∙ finds.none.empty c.requires.map c.requires.gives key;
     }
 
@@ -50,7 +53,8 @@ returns-in_err-make_table-in-None-clause-exact_full g c =
     let p = err_from_is_err_and c.from_residual-in_err-make_table-in-None.result c.from_residual-in_err-make_table-in-None.ensures.1 in
     rw (p.1, p.2)
     (λ looks is all. all_quiet u w (g.met.H.HeapSeat.seat c.make_table.new.seat)
-    (full_keeps table_bytes c.in_err-make_table-in-None.field-0.0 u w looks is c.in_err-make_table-in-None.ensures.cause) c.make_table.ensures.calls.goes_on.kinds
+    (full_keeps table_bytes c.in_err-make_table-in-None.field-0.0 u w looks is c.in_err-make_table-in-None.ensures.cause)
+    c.make_table.ensures.calls.goes_on.kinds
     (all_quiet v u (g.met.H.HeapSeat.seat c.table_of.new.seat) c.table_of.ensures.quiet.unchanged c.table_of.ensures.quiet.calls.goes_on.kinds all))
 
 pub returns-in_err-make_table-in-None-clause-cause : goal.returns-in_err-make_table-in-None-clause-cause
@@ -63,7 +67,8 @@ returns-in_err-make_table-in-None-clause-cause g c =
     let finds = subst (λ (t : Option Block). FindsTable (shard_of c.args.key) t v u) c.in-None.is c.in_ok-table_of.ensures.ok in
     let p = err_from_is_err_and c.from_residual-in_err-make_table-in-None.result c.from_residual-in_err-make_table-in-None.ensures.1 in
     rw (p.1, p.2)
-    (fails_table (shard_of c.args.key) c.in_err-make_table-in-None.field-0.0 v u w finds.goes.runs (grown_keeps v u keeps) c.table_of.ensures.quiet.refusals c.table_of.ensures.quiet.calls.few
+    (fails_table (shard_of c.args.key) c.in_err-make_table-in-None.field-0.0 v u w finds.goes.runs
+    (grown_keeps v u keeps) c.table_of.ensures.quiet.refusals c.table_of.ensures.quiet.calls.few
     (still_owned v u (shard_of c.args.key) keeps c.requires.owned) finds.none.root c.in_err-make_table-in-None.ensures.cause)
 
 pub returns-in_err-make_table-in-None-clause-none : goal.returns-in_err-make_table-in-None-clause-none
@@ -71,7 +76,8 @@ returns-in_err-make_table-in-None-clause-none g c =
     let heap = g.H.HeapSeat in
     let p = err_from_is_err_and c.from_residual-in_err-make_table-in-None.result c.from_residual-in_err-make_table-in-None.ensures.1 in
     rw (p.1, p.2)
-    (λ looks is. turned_down_behind heap.keeps heap.has_none g.met.H.HeapSeat.keeps_row table_bytes looks c.args.seat.now c.table_of.new.seat c.make_table.new.seat
+    (λ looks is. turned_down_behind heap.keeps heap.has_none g.met.H.HeapSeat.keeps_row table_bytes looks c.args.seat.now c.table_of.new.seat
+    c.make_table.new.seat
     c.table_of.ensures.kept (c.in_err-make_table-in-None.ensures.none looks is))
 
 pub returns-in_err-make_table-in-None-clause-crash : goal.returns-in_err-make_table-in-None-clause-crash
@@ -81,7 +87,8 @@ returns-in_err-make_table-in-None-clause-crash g c =
     let u = view c.table_of.new.seat in
     let w = view c.make_table.new.seat in
     let grown = grown_keeps v u c.table_of.ensures.quiet.unchanged in
-    λ after. change_after (shard_of c.args.key) after v u w grown c.table_of.ensures.quiet.calls.goes_on.kinds (g.met.H.HeapSeat.seat c.table_of.new.seat) c.requires.only
+    λ after. change_after (shard_of c.args.key) after v u w grown c.table_of.ensures.quiet.calls.goes_on.kinds
+    (g.met.H.HeapSeat.seat c.table_of.new.seat) c.requires.only
     (c.make_table.ensures.crash after)
 
 pub returns-in_ok-make_table-in-None-clause-crash : goal.returns-in_ok-make_table-in-None-clause-crash
@@ -91,7 +98,8 @@ returns-in_ok-make_table-in-None-clause-crash g c =
     let u = view c.table_of.new.seat in
     let w = view c.make_table.new.seat in
     let grown = grown_keeps v u c.table_of.ensures.quiet.unchanged in
-    λ after. change_after (shard_of c.args.key) after v u w grown c.table_of.ensures.quiet.calls.goes_on.kinds (g.met.H.HeapSeat.seat c.table_of.new.seat) c.requires.only
+    λ after. change_after (shard_of c.args.key) after v u w grown c.table_of.ensures.quiet.calls.goes_on.kinds
+    (g.met.H.HeapSeat.seat c.table_of.new.seat) c.requires.only
     (c.make_table.ensures.crash after)
 
 pub returns-in_err-make_table-in-None-clause-taken : goal.returns-in_err-make_table-in-None-clause-taken
@@ -122,7 +130,8 @@ returns-in-Some-clause-ok g c =
 pub returns-in-Some-clause-exact : goal.returns-in-Some-clause-exact
 returns-in-Some-clause-exact g c =
     let view = g.H.HeapSeat.view in
-    all_quiet (view c.args.seat.now) (view c.table_of.new.seat) (g.met.H.HeapSeat.seat c.table_of.new.seat) c.table_of.ensures.quiet.unchanged c.table_of.ensures.quiet.calls.goes_on.kinds
+    all_quiet (view c.args.seat.now) (view c.table_of.new.seat) (g.met.H.HeapSeat.seat c.table_of.new.seat)
+    c.table_of.ensures.quiet.unchanged c.table_of.ensures.quiet.calls.goes_on.kinds
 
 pub returns-in-Some-clause-crash : goal.returns-in-Some-clause-crash
 returns-in-Some-clause-crash g c =
@@ -130,7 +139,8 @@ returns-in-Some-clause-crash g c =
     let v = view c.args.seat.now in
     let u = view c.table_of.new.seat in
     let grown = grown_keeps v u c.table_of.ensures.quiet.unchanged in
-    λ after. change_none (shard_of c.args.key) after v u grown c.table_of.ensures.quiet.calls.goes_on.kinds (g.met.H.HeapSeat.seat c.table_of.new.seat) c.requires.only
+    λ after. change_none (shard_of c.args.key) after v u grown c.table_of.ensures.quiet.calls.goes_on.kinds
+    (g.met.H.HeapSeat.seat c.table_of.new.seat) c.requires.only
 
 pub returns-in-Some-clause-table : goal.returns-in-Some-clause-table
 returns-in-Some-clause-table g c =
@@ -146,14 +156,16 @@ returns-in_ok-make_table-in-None-clause-ok g c =
     let v = view c.args.seat.now in
     let u = view c.table_of.new.seat in
     let grown = grown_keeps v u c.table_of.ensures.quiet.unchanged in
-    changes_after (shard_of c.args.key) (λ map. map) v u (view c.make_table.new.seat) grown (record { gives = c.in_ok-make_table-in-None.ensures.ok.gives })
+    changes_after (shard_of c.args.key) (λ map. map) v u (view c.make_table.new.seat) grown
+    (record { gives = c.in_ok-make_table-in-None.ensures.ok.gives })
 
 pub returns-in_ok-make_table-in-None-clause-exact : goal.returns-in_ok-make_table-in-None-clause-exact
 returns-in_ok-make_table-in-None-clause-exact g c =
     let view = g.H.HeapSeat.view in
     let v = view c.args.seat.now in
     let u = view c.table_of.new.seat in
-    λ all. c.in_ok-make_table-in-None.ensures.exact (all_quiet v u (g.met.H.HeapSeat.seat c.table_of.new.seat) c.table_of.ensures.quiet.unchanged c.table_of.ensures.quiet.calls.goes_on.kinds all)
+    λ all. c.in_ok-make_table-in-None.ensures.exact (all_quiet v u
+    (g.met.H.HeapSeat.seat c.table_of.new.seat) c.table_of.ensures.quiet.unchanged c.table_of.ensures.quiet.calls.goes_on.kinds all)
 
 pub returns-in_ok-make_table-in-None-clause-table : goal.returns-in_ok-make_table-in-None-clause-table
 returns-in_ok-make_table-in-None-clause-table g c =

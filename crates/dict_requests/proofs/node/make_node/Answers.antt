@@ -40,7 +40,8 @@ returns-in_err-fence-clause-grown g c =
     let n = value_words (length c.args.value.now) in
     let bytes = 8 * (3 + c.div_ceil.result) in
     let w = view c.fence.new.self in
-    grown_then v t w (grown_within bytes c.in_ok-node.node v u t (g.met.H.HeapSeat.seat c.alloc.new.self) c.in_ok-node.ensures.ok (2 * n + 6) c.write_node.ensures.within) (grown_keeps t w c.fence.ensures.unchanged)
+    grown_then v t w (grown_within bytes c.in_ok-node.node v u t (g.met.H.HeapSeat.seat c.alloc.new.self) c.in_ok-node.ensures.ok
+    (2 * n + 6) c.write_node.ensures.within) (grown_keeps t w c.fence.ensures.unchanged)
 
 pub returns-in_err-fence-clause-calls : goal.returns-in_err-fence-clause-calls
 returns-in_err-fence-clause-calls g c =
@@ -65,7 +66,8 @@ returns-clause-grown g c =
     let n = value_words (length c.args.value.now) in
     let bytes = 8 * (3 + c.div_ceil.result) in
     let w = view c.fence.new.self in
-    grown_then v t w (grown_within bytes c.in_ok-node.node v u t (g.met.H.HeapSeat.seat c.alloc.new.self) c.in_ok-node.ensures.ok (2 * n + 6) c.write_node.ensures.within) (grown_keeps t w c.fence.ensures.unchanged)
+    grown_then v t w (grown_within bytes c.in_ok-node.node v u t (g.met.H.HeapSeat.seat c.alloc.new.self) c.in_ok-node.ensures.ok
+    (2 * n + 6) c.write_node.ensures.within) (grown_keeps t w c.fence.ensures.unchanged)
 
 pub returns-clause-calls : goal.returns-clause-calls
 returns-clause-calls g c =
@@ -92,7 +94,8 @@ returns-clause-ok g c =
     let w = view c.fence.new.self in
     let room = room_for bytes c.in_ok-node.node.words c.in_ok-node.ensures.ok.size in
     made bytes c.in_ok-node.node v u t (g.met.H.HeapSeat.seat c.alloc.new.self) c.in_ok-node.ensures.ok (2 * n + 6) c.write_node.ensures.within
-    c.args.key c.args.next c.args.value.now w (omega arith) c.in_ok-write_node.ensures.ok c.fence.ensures.unchanged c.in_ok-fence.ensures.ok c.fence.ensures.counted.refusals
+    c.args.key c.args.next c.args.value.now w (omega arith) c.in_ok-write_node.ensures.ok c.fence.ensures.unchanged c.in_ok-fence.ensures.ok
+    c.fence.ensures.counted.refusals
 
 pub returns-in_err-node-clause-none : goal.returns-in_err-node-clause-none
 returns-in_err-node-clause-none g c =

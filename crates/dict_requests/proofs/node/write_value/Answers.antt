@@ -12,10 +12,12 @@ returns-in_err-write_word-clause-within g c =
     let u = view c.loop-index.seat in
     let w = view c.write_word.new.seat in
     let i = c.loop-index.index in
-    let held : Contains u.held c.args.node = subst (λ (bs : List Block). Contains bs c.args.node) (sym c.loop-index.invariant.writing.within.held) c.requires.held in
+    let held : Contains u.held c.args.node = subst (λ (bs : List Block). Contains bs c.args.node)
+    (sym c.loop-index.invariant.writing.within.held) c.requires.held in
     let less : i < value_words (length c.args.value.now) = omega arith in
     let may = subst (λ (x : ℕ). MayHaveStored (c.args.node.first_word + (3 + i)) x u w) c.value_word.ensures c.write_word.ensures.crash in
-    within_more c.args.node c.args.value.now i (view c.args.seat.now) u w held (omega arith) may (2 * i) (2 * value_words (length c.args.value.now)) (omega arith)
+    within_more c.args.node c.args.value.now i (view c.args.seat.now) u w held (omega arith) may (2 * i)
+    (2 * value_words (length c.args.value.now)) (omega arith)
     c.loop-index.invariant.writing.within c.write_word.ensures.calls c.write_word.ensures.refusals
 
 pub loop-index-preserved : goal.loop-index-preserved
@@ -24,7 +26,8 @@ loop-index-preserved g c =
     let u = view c.loop-index.seat in
     let w = view c.write_word.new.seat in
     let i = c.loop-index.index in
-    let held : Contains u.held c.args.node = subst (λ (bs : List Block). Contains bs c.args.node) (sym c.loop-index.invariant.writing.within.held) c.requires.held in
+    let held : Contains u.held c.args.node = subst (λ (bs : List Block). Contains bs c.args.node)
+    (sym c.loop-index.invariant.writing.within.held) c.requires.held in
     let less : i < value_words (length c.args.value.now) = omega arith in
     let may = subst (λ (x : ℕ). MayHaveStored (c.args.node.first_word + (3 + i)) x u w) c.value_word.ensures c.write_word.ensures.crash in
     let write = subst (λ (x : ℕ). Writes (c.args.node.first_word + (3 + i)) x u w) c.value_word.ensures c.in_ok-write_word.ensures.ok in

@@ -36,13 +36,16 @@ read_value-requires-clause-node g c =
     (gives_grown v u (grown_keeps v u keeps) (shard_of c.args.key) c.requires.map c.requires.gives) image completes).1
 
 pub returns-in_err-place-clause-calls : goal.returns-in_err-place-clause-calls
-returns-in_err-place-clause-calls g c = few_search c.args.key (g.H.HeapSeat.view c.args.seat.now) (g.H.HeapSeat.view c.search.new.seat) c.search.ensures.quiet
+returns-in_err-place-clause-calls g c = few_search c.args.key (g.H.HeapSeat.view c.args.seat.now)
+    (g.H.HeapSeat.view c.search.new.seat) c.search.ensures.quiet
 
 pub returns-in-Missing-clause-calls : goal.returns-in-Missing-clause-calls
-returns-in-Missing-clause-calls g c = few_search c.args.key (g.H.HeapSeat.view c.args.seat.now) (g.H.HeapSeat.view c.search.new.seat) c.search.ensures.quiet
+returns-in-Missing-clause-calls g c = few_search c.args.key (g.H.HeapSeat.view c.args.seat.now)
+    (g.H.HeapSeat.view c.search.new.seat) c.search.ensures.quiet
 
 pub returns-in-NoTable-clause-calls : goal.returns-in-NoTable-clause-calls
-returns-in-NoTable-clause-calls g c = few_search c.args.key (g.H.HeapSeat.view c.args.seat.now) (g.H.HeapSeat.view c.search.new.seat) c.search.ensures.quiet
+returns-in-NoTable-clause-calls g c = few_search c.args.key (g.H.HeapSeat.view c.args.seat.now)
+    (g.H.HeapSeat.view c.search.new.seat) c.search.ensures.quiet
 
 pub returns-in_err-read_value-in-Found-clause-calls : goal.returns-in_err-read_value-in-Found-clause-calls
 returns-in_err-read_value-in-Found-clause-calls g c =
@@ -50,7 +53,8 @@ returns-in_err-read_value-in-Found-clause-calls g c =
     let v = view c.args.seat.now in
     let u = view c.search.new.seat in
     let searches = subst (λ (e : SearchEnd). Searches c.args.key e v u) c.in-Found.is c.in_ok-place.ensures.ok in
-    few_read v u (view c.read_value.new.seat) c.args.key c.in-Found.place (g.met.H.HeapSeat.seat c.search.new.seat) c.search.ensures.quiet searches.ends c.read_value.ensures.quiet
+    few_read v u (view c.read_value.new.seat) c.args.key c.in-Found.place
+    (g.met.H.HeapSeat.seat c.search.new.seat) c.search.ensures.quiet searches.ends c.read_value.ensures.quiet
 
 pub returns-in_ok-read_value-in-Found-clause-calls : goal.returns-in_ok-read_value-in-Found-clause-calls
 returns-in_ok-read_value-in-Found-clause-calls g c =
@@ -58,7 +62,8 @@ returns-in_ok-read_value-in-Found-clause-calls g c =
     let v = view c.args.seat.now in
     let u = view c.search.new.seat in
     let searches = subst (λ (e : SearchEnd). Searches c.args.key e v u) c.in-Found.is c.in_ok-place.ensures.ok in
-    few_read v u (view c.read_value.new.seat) c.args.key c.in-Found.place (g.met.H.HeapSeat.seat c.search.new.seat) c.search.ensures.quiet searches.ends c.read_value.ensures.quiet
+    few_read v u (view c.read_value.new.seat) c.args.key c.in-Found.place
+    (g.met.H.HeapSeat.seat c.search.new.seat) c.search.ensures.quiet searches.ends c.read_value.ensures.quiet
 
 pub returns-in_ok-read_value-in-Found-clause-ok : goal.returns-in_ok-read_value-in-Found-clause-ok
 returns-in_ok-read_value-in-Found-clause-ok g c =
@@ -66,8 +71,10 @@ returns-in_ok-read_value-in-Found-clause-ok g c =
     let v = view c.args.seat.now in
     let u = view c.search.new.seat in
     let searches = subst (λ (e : SearchEnd). Searches c.args.key e v u) c.in-Found.is c.in_ok-place.ensures.ok in
-    gets_node v u (view c.read_value.new.seat) c.args.key c.in-Found.place (g.met.H.HeapSeat.seat c.search.new.seat) c.search.ensures.quiet.quiet.unchanged searches.ends
-    c.in_ok-read_value-in-Found.field-0 c.args.out.now c.read_value.new.out searches.goes.runs c.read_value.ensures.quiet c.in_ok-read_value-in-Found.ensures.ok
+    gets_node v u (view c.read_value.new.seat) c.args.key c.in-Found.place
+    (g.met.H.HeapSeat.seat c.search.new.seat) c.search.ensures.quiet.quiet.unchanged searches.ends
+    c.in_ok-read_value-in-Found.field-0 c.args.out.now c.read_value.new.out searches.goes.runs c.read_value.ensures.quiet
+    c.in_ok-read_value-in-Found.ensures.ok
 
 pub returns-in-Missing-clause-ok : goal.returns-in-Missing-clause-ok
 returns-in-Missing-clause-ok g c =

@@ -20,5 +20,6 @@ write_back-requires g c =
 pub returns-clause-ok : goal.returns-clause-ok
 returns-clause-ok g c =
     let view = g.H.HeapSeat.view in
-    takes (view c.args.seat.now) (view c.follow.new.seat) (view c.write_back.new.self) c.args.key c.in_ok-next.next c.args.place (g.met.H.HeapSeat.seat c.args.seat.now) c.requires
+    takes (view c.args.seat.now) (view c.follow.new.seat) (view c.write_back.new.self) c.args.key c.in_ok-next.next c.args.place
+    (g.met.H.HeapSeat.seat c.args.seat.now) c.requires
     c.follow.ensures.quiet.unchanged c.in_ok-next.ensures.ok c.write_back.ensures.unchanged c.in_ok-write_back.ensures.ok

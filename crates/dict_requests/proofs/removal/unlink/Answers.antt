@@ -17,7 +17,9 @@ returns-in_err-next-clause-crash g c =
     let view = g.H.HeapSeat.view in
     let v = view c.args.seat.now in
     let w = view c.read_place.new.seat in
-    change_none (shard_of c.args.key) (λ map. without_key map c.args.key) v w (grown_keeps v w c.read_place.ensures.quiet.unchanged) c.read_place.ensures.quiet.calls.goes_on.kinds (g.met.H.HeapSeat.seat c.read_place.new.seat) c.requires.shard.only
+    change_none (shard_of c.args.key) (λ map. without_key map c.args.key) v w
+    (grown_keeps v w c.read_place.ensures.quiet.unchanged) c.read_place.ensures.quiet.calls.goes_on.kinds
+    (g.met.H.HeapSeat.seat c.read_place.new.seat) c.requires.shard.only
 
 pub returns-in_err-fence-clause-crash : goal.returns-in_err-fence-clause-crash
 returns-in_err-fence-clause-crash g c =
@@ -26,7 +28,8 @@ returns-in_err-fence-clause-crash g c =
     let w = view c.fence.new.self in
     change_none (shard_of c.args.key) (λ map. without_key map c.args.key) v w
     (grown_keeps v w (keeps_own_then v (view c.read_place.new.seat) w c.read_place.ensures.quiet.unchanged c.fence.ensures.unchanged))
-    (c.fence.ensures.counted.goes_on.kinds ∙ c.read_place.ensures.quiet.calls.goes_on.kinds) (g.met.H.HeapSeat.seat c.fence.new.self) c.requires.shard.only
+    (c.fence.ensures.counted.goes_on.kinds ∙ c.read_place.ensures.quiet.calls.goes_on.kinds)
+    (g.met.H.HeapSeat.seat c.fence.new.self) c.requires.shard.only
 
 pub returns-in_err-persist-clause-crash : goal.returns-in_err-persist-clause-crash
 returns-in_err-persist-clause-crash g c =
@@ -39,7 +42,8 @@ returns-in_err-persist-clause-crash g c =
     (record { each = c.in_ok-fence.ensures.ok.durable }) c.in_ok-next.ensures.ok.taken in
     let kinds = c.fence.ensures.counted.goes_on.kinds ∙ c.read_place.ensures.quiet.calls.goes_on.kinds in
     let grown = grown_keeps v u (keeps_own_then v t u c.read_place.ensures.quiet.unchanged c.fence.ensures.unchanged) in
-    left_stored v u c.args.key c.args.place c.in_ok-next.next seat c.requires.shard grown kinds taken (view c.persist.new.heap) c.persist.ensures.crash c.persist.ensures.calls.goes_on.kinds
+    left_stored v u c.args.key c.args.place c.in_ok-next.next seat c.requires.shard grown kinds taken
+    (view c.persist.new.heap) c.persist.ensures.crash c.persist.ensures.calls.goes_on.kinds
 
 pub returns-clause-ok : goal.returns-clause-ok
 returns-clause-ok g c =
@@ -53,8 +57,12 @@ returns-clause-ok g c =
     (record { each = c.in_ok-fence.ensures.ok.durable }) c.in_ok-next.ensures.ok.taken in
     let kinds = c.fence.ensures.counted.goes_on.kinds ∙ c.read_place.ensures.quiet.calls.goes_on.kinds in
     let grown = grown_keeps v u (keeps_own_then v t u c.read_place.ensures.quiet.unchanged c.fence.ensures.unchanged) in
-    let settled : IsDurableAt w (word_of c.args.place.link) c.in_ok-next.next = record { seen = c.in_ok-persist.ensures.ok; left = c.in_ok-persist.ensures.durable } in
-    taken_out v u w c.args.key c.args.place c.in_ok-next.next seat c.requires.shard grown kinds taken c.persist.ensures.crash c.persist.ensures.calls.goes_on.kinds (g.met.H.HeapSeat.seat c.persist.new.heap) settled
+    let settled : IsDurableAt w (word_of c.args.place.link) c.in_ok-next.next = record {
+      seen = c.in_ok-persist.ensures.ok;
+      left = c.in_ok-persist.ensures.durable;
+    } in
+    taken_out v u w c.args.key c.args.place c.in_ok-next.next seat c.requires.shard grown kinds taken c.persist.ensures.crash
+    c.persist.ensures.calls.goes_on.kinds (g.met.H.HeapSeat.seat c.persist.new.heap) settled
     (found_held v c.args.key c.args.place c.requires.found)
 
 pub returns-clause-crash : goal.returns-clause-crash
@@ -69,7 +77,8 @@ returns-clause-crash g c =
     (record { each = c.in_ok-fence.ensures.ok.durable }) c.in_ok-next.ensures.ok.taken in
     let kinds = c.fence.ensures.counted.goes_on.kinds ∙ c.read_place.ensures.quiet.calls.goes_on.kinds in
     let grown = grown_keeps v u (keeps_own_then v t u c.read_place.ensures.quiet.unchanged c.fence.ensures.unchanged) in
-    left_stored v u c.args.key c.args.place c.in_ok-next.next seat c.requires.shard grown kinds taken w c.persist.ensures.crash c.persist.ensures.calls.goes_on.kinds
+    left_stored v u c.args.key c.args.place c.in_ok-next.next seat c.requires.shard grown kinds taken w c.persist.ensures.crash
+    c.persist.ensures.calls.goes_on.kinds
 
 pub returns-clause-calls : goal.returns-clause-calls
 returns-clause-calls g c =
@@ -95,8 +104,12 @@ returns-clause-exact g c =
     let keeps = keeps_own_then v t u c.read_place.ensures.quiet.unchanged c.fence.ensures.unchanged in
     let kinds = c.fence.ensures.counted.goes_on.kinds ∙ c.read_place.ensures.quiet.calls.goes_on.kinds in
     let grown = grown_keeps v u keeps in
-    let settled : IsDurableAt w (word_of c.args.place.link) c.in_ok-next.next = record { seen = c.in_ok-persist.ensures.ok; left = c.in_ok-persist.ensures.durable } in
-    let only_w = (left_stored v u c.args.key c.args.place c.in_ok-next.next seat c.requires.shard grown kinds taken w c.persist.ensures.crash c.persist.ensures.calls.goes_on.kinds).only in
+    let settled : IsDurableAt w (word_of c.args.place.link) c.in_ok-next.next = record {
+      seen = c.in_ok-persist.ensures.ok;
+      left = c.in_ok-persist.ensures.durable;
+    } in
+    let only_w = (left_stored v u c.args.key c.args.place c.in_ok-next.next seat c.requires.shard grown kinds taken w c.persist.ensures.crash
+    c.persist.ensures.calls.goes_on.kinds).only in
     λ all. all_unlinked u w seat seat_w c.args.key c.args.place c.in_ok-next.next taken c.requires.shard.map
     (gives_grown v u grown (shard_of c.args.key) c.requires.shard.map c.requires.shard.gives) (only_grown v u grown kinds seat c.requires.shard.only)
     (kind_kept v u (shard_of c.args.key) kinds ∙ c.requires.shard.kind_is) c.persist.ensures.calls.goes_on.kinds

@@ -18,17 +18,20 @@ walk-requires-clause-map g c =
 pub returns-in_err-place-clause-quiet : goal.returns-in_err-place-clause-quiet
 returns-in_err-place-clause-quiet g c =
     let view = g.H.HeapSeat.view in
-    quiet_then_walk 3 (shard_of c.args.key) (view c.args.seat.now) (view c.table_of.new.seat) (view c.walk.new.seat) c.table_of.ensures.quiet c.walk.ensures.quiet
+    quiet_then_walk 3 (shard_of c.args.key) (view c.args.seat.now) (view c.table_of.new.seat)
+    (view c.walk.new.seat) c.table_of.ensures.quiet c.walk.ensures.quiet
 
 pub returns-in-Some-2-clause-quiet : goal.returns-in-Some-2-clause-quiet
 returns-in-Some-2-clause-quiet g c =
     let view = g.H.HeapSeat.view in
-    quiet_then_walk 3 (shard_of c.args.key) (view c.args.seat.now) (view c.table_of.new.seat) (view c.walk.new.seat) c.table_of.ensures.quiet c.walk.ensures.quiet
+    quiet_then_walk 3 (shard_of c.args.key) (view c.args.seat.now) (view c.table_of.new.seat)
+    (view c.walk.new.seat) c.table_of.ensures.quiet c.walk.ensures.quiet
 
 pub returns-in-None-clause-quiet : goal.returns-in-None-clause-quiet
 returns-in-None-clause-quiet g c =
     let view = g.H.HeapSeat.view in
-    quiet_then_walk 3 (shard_of c.args.key) (view c.args.seat.now) (view c.table_of.new.seat) (view c.walk.new.seat) c.table_of.ensures.quiet c.walk.ensures.quiet
+    quiet_then_walk 3 (shard_of c.args.key) (view c.args.seat.now) (view c.table_of.new.seat)
+    (view c.walk.new.seat) c.table_of.ensures.quiet c.walk.ensures.quiet
 
 pub returns-in-None-clause-ok : goal.returns-in-None-clause-ok
 returns-in-None-clause-ok g c =
@@ -38,5 +41,6 @@ returns-in-None-clause-ok g c =
     let w = view c.walk.new.seat in
     let finds = subst (λ (t : Option Block). FindsTable (shard_of c.args.key) t v u) c.in-Some.is c.in_ok-table.ensures.ok in
     let walks = subst (λ (p : Option Place). Walks c.args.key p u w) c.in-None.is c.in_ok-place.ensures.ok in
-    searched_missing v u w c.args.key (g.met.H.HeapSeat.seat c.table_of.new.seat) c.table_of.ensures.quiet.unchanged finds.goes c.walk.ensures.quiet.quiet.unchanged
+    searched_missing v u w c.args.key (g.met.H.HeapSeat.seat c.table_of.new.seat)
+    c.table_of.ensures.quiet.unchanged finds.goes c.walk.ensures.quiet.quiet.unchanged
     c.in-Some.table finds.some walks

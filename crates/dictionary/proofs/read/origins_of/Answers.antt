@@ -10,4 +10,5 @@ pub returns : goal.returns
 returns c =
     let image = slice_index c.args.scan.now.words.now in
     IfOk-weaker c.trace_origins.result (AreOrigins image (slice_index c.kinds.result) dict_links) (AreOrigins image (kinds_of image) dict_links)
-    (λ origins are. origins_same image (slice_index c.kinds.result) (kinds_of image) dict_links origins (λ i below. sym (c.kinds.ensures i below)) are) c.trace_origins.ensures.ok
+    (λ origins are. origins_same image (slice_index c.kinds.result) (kinds_of image) dict_links origins
+    (λ i below. sym (c.kinds.ensures i below)) are) c.trace_origins.ensures.ok

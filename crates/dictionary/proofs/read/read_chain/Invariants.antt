@@ -7,7 +7,8 @@ use Rattle.dictionary.proofs.read.read_chain.Given as goal
 
 abbrev pub invariant-loop-node : goal.invariant-loop-node
 invariant-loop-node l = record {
-  before : IsMapBefore (LeadsAlone (slice_index l.walk.scan.words.now) l.walk.shard) (slice_index l.walk.scan.words.now) l.walk.shard l.table l.bucket l.at (get nat_cmp l.map);
+  before : IsMapBefore (LeadsAlone (slice_index l.walk.scan.words.now) l.walk.shard)
+      (slice_index l.walk.scan.words.now) l.walk.shard l.table l.bucket l.at (get nat_cmp l.map);
   ordered : IsOrdered nat_cmp l.map;
   inside : l.at < length l.walk.scan.words.now;
 }

@@ -7,6 +7,7 @@ use Rattle.dictionary.proofs.read.read_in_order.Given as goal
 
 abbrev pub invariant-loop-bucket : goal.invariant-loop-bucket
 invariant-loop-bucket l = record {
-  upto : IsMapUpTo (LeadsAlone (slice_index l.walk.scan.words.now) l.walk.shard) (slice_index l.walk.scan.words.now) l.walk.shard l.table l.bucket (get nat_cmp l.map);
+  upto : IsMapUpTo (LeadsAlone (slice_index l.walk.scan.words.now) l.walk.shard)
+      (slice_index l.walk.scan.words.now) l.walk.shard l.table l.bucket (get nat_cmp l.map);
   ordered : IsOrdered nat_cmp l.map;
 }

@@ -17,7 +17,8 @@ returns-in-Astray-clause-err c = rw (c.fault-in-Astray.ensures) (
 pub returns-in-Some-clause-ok : goal.returns-in-Some-clause-ok
 returns-in-Some-clause-ok c = record {
   kind_is = subst (λ at. slice_index c.args.scan.words.now at ≡ table_kind) c.kind_place-kind.ensures.is c.if-walk-kind.false;
-  is_map = subst (λ found. IfSome found (λ map. IsMap (LeadsAlone (slice_index c.args.scan.words.now) c.args.shard) (slice_index c.args.scan.words.now) c.args.shard (get nat_cmp map)))
+  is_map = subst (λ found. IfSome found (λ map. IsMap (LeadsAlone (slice_index c.args.scan.words.now) c.args.shard)
+      (slice_index c.args.scan.words.now) c.args.shard (get nat_cmp map)))
       c.in-Some.is c.in_ok-map-in-To.ensures.map;
 }
 
@@ -34,4 +35,8 @@ returns-in-None-clause-ok c = IfOk-weaker c.read_in_order.result
 pub returns-then-walk-kind-clause-err : goal.returns-then-walk-kind-clause-err
 returns-then-walk-kind-clause-err c =
     let place = c.kind_place-kind.ensures.is in
-    rw (c.fault.ensures, place) (refl, at_kind (λ is. c.if-walk-kind.true (subst (λ at. slice_index c.args.scan.words.now at ≡ table_kind) (sym place) is)))
+    rw (c.fault.ensures, place) (
+      refl,
+      at_kind (λ is. c.if-walk-kind.true
+          (subst (λ at. slice_index c.args.scan.words.now at ≡ table_kind) (sym place) is)),
+    )

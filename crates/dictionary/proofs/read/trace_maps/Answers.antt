@@ -18,15 +18,18 @@ read_shard-requires-clause-read c = record {
 
 pub loop-shard-preserved : goal.loop-shard-preserved
 loop-shard-preserved c = rw (c.in-Ok.ensures.items)
-    (maps_push (slice_index c.words-words.result.now) c.loop-shard.shard c.loop-shard.maps.items c.in_ok-read_shard.field-0 c.loop-shard.invariant c.in_ok-read_shard.ensures.ok c.in_ok-read_shard.ensures.ordered)
+    (maps_push (slice_index c.words-words.result.now) c.loop-shard.shard c.loop-shard.maps.items c.in_ok-read_shard.field-0
+    c.loop-shard.invariant c.in_ok-read_shard.ensures.ok c.in_ok-read_shard.ensures.ordered)
 
 pub returns-in_err-read_shard-clause-err : goal.returns-in_err-read_shard-clause-err
 returns-in_err-read_shard-clause-err c =
     let p = err_from_is_err_and c.from_residual-in_err-read_shard.result c.from_residual-in_err-read_shard.ensures.1 in
-    rw (p.1, p.2, ← c.words-words.ensures.words) (tells_lowest (slice_index c.words-words.result.now) c.loop-shard.shard c.loop-shard.maps.items c.in_err-read_shard.field-0.0
+    rw (p.1, p.2, ← c.words-words.ensures.words) (tells_lowest (slice_index c.words-words.result.now)
+    c.loop-shard.shard c.loop-shard.maps.items c.in_err-read_shard.field-0.0
     (omega arith) c.loop-shard.invariant c.in_err-read_shard.ensures.err)
 
 pub returns-clause-ok : goal.returns-clause-ok
 returns-clause-ok c =
     let all : c.loop-shard.shard ≡ shards = omega arith in
-    rw (← c.words-words.ensures.words) (subst (λ n. AreMaps (slice_index c.words-words.result.now) n c.loop-shard.maps.items) all c.loop-shard.invariant)
+    rw (← c.words-words.ensures.words) (subst (λ n. AreMaps (slice_index c.words-words.result.now) n c.loop-shard.maps.items)
+    all c.loop-shard.invariant)

@@ -20,7 +20,8 @@ loop-bucket-preserved c =
     record {
       empty = was.empty;
       first = links_begin c.loop-bucket.links c.args.table.first_word c.loop-bucket.bucket (omega arith) was.first;
-      all = subst (λ (bs : List ℕ). (k : ℕ) → k < c.loop-bucket.bucket + 1 → Contains bs k) (sym items) (unread_begin c.loop-bucket.unread.items c.loop-bucket.bucket was.all);
+      all = subst (λ (bs : List ℕ). (k : ℕ) → k < c.loop-bucket.bucket + 1 → Contains bs k) (sym items)
+          (unread_begin c.loop-bucket.unread.items c.loop-bucket.bucket was.all);
       ordered = was.ordered;
       few = All-same (λ k. k < buckets) c.push_back_reserved.new.self.items (c.loop-bucket.unread.items ++ c.loop-bucket.bucket ∷ []) items
           (All-push (λ k. k < buckets) c.loop-bucket.unread.items c.loop-bucket.bucket was.few (omega arith));
@@ -33,11 +34,14 @@ pub loop-bucket-2-init : goal.loop-bucket-2-init
 loop-bucket-2-init c =
     let was = c.loop-bucket.invariant in
     let all : c.loop-bucket.bucket ≡ buckets = omega arith in
-    let lies = lies_in c.args.walk.now.scan.words.now c.args.walk.now.scan.directory.now c.args.walk.now.origins.now c.args.table c.requires.read c.requires.table.leads_there.0.names.block in
+    let lies = lies_in c.args.walk.now.scan.words.now c.args.walk.now.scan.directory.now c.args.walk.now.origins.now c.args.table
+    c.requires.read c.requires.table.leads_there.0.names.block in
     let size = c.requires.table.size in
     record {
-      along = along_begins (LeadsAlone (slice_index c.args.walk.now.scan.words.now) c.args.walk.now.shard) (slice_index c.args.walk.now.scan.words.now) c.args.walk.now.shard c.args.table
-          c.loop-bucket.links c.loop-bucket.unread.items (get nat_cmp c.new-map.result) (λ k below. was.first k (omega arith)) (λ k below. was.all k (omega arith))
+      along = along_begins (LeadsAlone (slice_index c.args.walk.now.scan.words.now) c.args.walk.now.shard)
+          (slice_index c.args.walk.now.scan.words.now) c.args.walk.now.shard c.args.table
+          c.loop-bucket.links c.loop-bucket.unread.items (get nat_cmp c.new-map.result) (λ k below. was.first k (omega arith))
+          (λ k below. was.all k (omega arith))
           (no_key c.new-map.result was.empty);
       ordered = was.ordered;
       few = was.few;
@@ -52,9 +56,11 @@ loop-bucket-2-preserved-in-Null c =
     let was = c.loop-bucket-2.invariant in
     let items : c.loop-bucket-2.unread.items ≡ c.in-Some.bucket ∷ c.pop_front.new.self.items = c.in-Some.ensures.items in
     record {
-      along = along_null (LeadsAlone (slice_index c.args.walk.now.scan.words.now) c.args.walk.now.shard) (slice_index c.args.walk.now.scan.words.now) c.args.walk.now.shard c.args.table c.in-Some.bucket
+      along = along_null (LeadsAlone (slice_index c.args.walk.now.scan.words.now) c.args.walk.now.shard)
+          (slice_index c.args.walk.now.scan.words.now) c.args.walk.now.shard c.args.table c.in-Some.bucket
           c.loop-bucket-2.links c.pop_front.new.self.items (get nat_cmp c.loop-bucket-2.map) c.in-Null.ensures
-          (subst (λ bs. IsMapAlong (LeadsAlone (slice_index c.args.walk.now.scan.words.now) c.args.walk.now.shard) (slice_index c.args.walk.now.scan.words.now) c.args.walk.now.shard c.args.table
+          (subst (λ bs. IsMapAlong (LeadsAlone (slice_index c.args.walk.now.scan.words.now) c.args.walk.now.shard)
+          (slice_index c.args.walk.now.scan.words.now) c.args.walk.now.shard c.args.table
           c.loop-bucket-2.links bs (get nat_cmp c.loop-bucket-2.map)) items was.along);
       ordered = was.ordered;
       few = All-rest (λ k. k < buckets) c.in-Some.bucket c.pop_front.new.self.items c.loop-bucket-2.unread.items items was.few;
@@ -68,23 +74,31 @@ pub loop-bucket-2-preserved : goal.loop-bucket-2-preserved
 loop-bucket-2-preserved c =
     let was = c.loop-bucket-2.invariant in
     let items : c.loop-bucket-2.unread.items ≡ c.in-Some.bucket ∷ c.pop_front.new.self.items = c.in-Some.ensures.items in
-    let more : c.push_back_reserved-in-To.new.self.items ≡ c.pop_front.new.self.items ++ c.in-Some.bucket ∷ [] = c.push_back_reserved-in-To.ensures.items in
-    let below : c.in-Some.bucket < buckets = All-head (λ k. k < buckets) c.in-Some.bucket c.pop_front.new.self.items (subst (λ bs. All (λ k. k < buckets) bs) items was.few) in
+    let more : c.push_back_reserved-in-To.new.self.items ≡ c.pop_front.new.self.items ++ c.in-Some.bucket ∷ [] =
+    c.push_back_reserved-in-To.ensures.items in
+    let below : c.in-Some.bucket < buckets = All-head (λ k. k < buckets) c.in-Some.bucket c.pop_front.new.self.items
+    (subst (λ bs. All (λ k. k < buckets) bs) items was.few) in
     let long = was.long in
-    let lies = lies_in c.args.walk.now.scan.words.now c.args.walk.now.scan.directory.now c.args.walk.now.origins.now c.in-To.node c.requires.read c.in-To.ensures.0.0.0.names.block in
+    let lies = lies_in c.args.walk.now.scan.words.now c.args.walk.now.scan.directory.now c.args.walk.now.origins.now c.in-To.node
+    c.requires.read c.in-To.ensures.0.0.0.names.block in
     let fits = c.in-To.ensures.1.fits in
     record {
-      along = subst (λ bs. IsMapAlong (LeadsAlone (slice_index c.args.walk.now.scan.words.now) c.args.walk.now.shard) (slice_index c.args.walk.now.scan.words.now) c.args.walk.now.shard c.args.table
+      along = subst (λ bs. IsMapAlong (LeadsAlone (slice_index c.args.walk.now.scan.words.now) c.args.walk.now.shard)
+          (slice_index c.args.walk.now.scan.words.now) c.args.walk.now.shard c.args.table
           (set c.loop-bucket-2.links c.in-Some.bucket c.in-To.node.first_word) bs (get nat_cmp c.add.new.map)) (sym more)
-          (along_step (LeadsAlone (slice_index c.args.walk.now.scan.words.now) c.args.walk.now.shard) (slice_index c.args.walk.now.scan.words.now) c.args.walk.now.shard c.args.table c.in-Some.bucket
+          (along_step (LeadsAlone (slice_index c.args.walk.now.scan.words.now) c.args.walk.now.shard)
+          (slice_index c.args.walk.now.scan.words.now) c.args.walk.now.shard c.args.table c.in-Some.bucket
           c.loop-bucket-2.links c.pop_front.new.self.items c.loop-bucket-2.map c.add.new.map c.in-To.node
-          (subst (λ bs. IsMapAlong (LeadsAlone (slice_index c.args.walk.now.scan.words.now) c.args.walk.now.shard) (slice_index c.args.walk.now.scan.words.now) c.args.walk.now.shard c.args.table
+          (subst (λ bs. IsMapAlong (LeadsAlone (slice_index c.args.walk.now.scan.words.now) c.args.walk.now.shard)
+          (slice_index c.args.walk.now.scan.words.now) c.args.walk.now.shard c.args.table
           c.loop-bucket-2.links bs (get nat_cmp c.loop-bucket-2.map)) items was.along)
           below (omega arith) c.in-To.ensures.0 c.in-To.ensures.1 (c.in_ok-add-in-To.ensures.new c.if-not-branch.false));
       ordered = c.in_ok-add-in-To.ensures.ordered;
       few = All-same (λ k. k < buckets) c.push_back_reserved-in-To.new.self.items (c.pop_front.new.self.items ++ c.in-Some.bucket ∷ []) more
-          (All-push (λ k. k < buckets) c.pop_front.new.self.items c.in-Some.bucket (All-rest (λ k. k < buckets) c.in-Some.bucket c.pop_front.new.self.items c.loop-bucket-2.unread.items items was.few) below);
-      inside = links_inside c.loop-bucket-2.links c.in-Some.bucket c.in-To.node.first_word (length c.args.walk.now.scan.words.now) (omega arith) (omega arith) was.inside;
+          (All-push (λ k. k < buckets) c.pop_front.new.self.items c.in-Some.bucket
+          (All-rest (λ k. k < buckets) c.in-Some.bucket c.pop_front.new.self.items c.loop-bucket-2.unread.items items was.few) below);
+      inside = links_inside c.loop-bucket-2.links c.in-Some.bucket c.in-To.node.first_word (length c.args.walk.now.scan.words.now) (omega arith)
+          (omega arith) was.inside;
       long = length-set c.loop-bucket-2.links c.in-Some.bucket c.in-To.node.first_word ∙ long;
       count = let fewer = c.in-Some.ensures.cases in let one = c.push_back_reserved-in-To.ensures.len in let count = was.count in omega arith;
       room = let same = c.in-Some.ensures.capacity in let again = c.push_back_reserved-in-To.ensures.capacity in let room = was.room in omega arith;
@@ -92,10 +106,13 @@ loop-bucket-2-preserved c =
 
 pub returns-clause-map : goal.returns-clause-map
 returns-clause-map c =
-    let items : c.loop-bucket-2.unread.items ≡ [] = c.in_default.ensures.items ∙ nil_from_length c.pop_front.new.self.items (let ok = c.pop_front.new.self.ok in let none = c.in_default.ensures.cases.1 in omega arith) in
-    along_ends (LeadsAlone (slice_index c.args.walk.now.scan.words.now) c.args.walk.now.shard) (slice_index c.args.walk.now.scan.words.now) c.args.walk.now.shard c.args.table
+    let items : c.loop-bucket-2.unread.items ≡ [] = c.in_default.ensures.items
+    ∙ nil_from_length c.pop_front.new.self.items (let ok = c.pop_front.new.self.ok in let none = c.in_default.ensures.cases.1 in omega arith) in
+    along_ends (LeadsAlone (slice_index c.args.walk.now.scan.words.now) c.args.walk.now.shard)
+    (slice_index c.args.walk.now.scan.words.now) c.args.walk.now.shard c.args.table
     c.loop-bucket-2.links (get nat_cmp c.loop-bucket-2.map) c.requires.table
-    (subst (λ bs. IsMapAlong (LeadsAlone (slice_index c.args.walk.now.scan.words.now) c.args.walk.now.shard) (slice_index c.args.walk.now.scan.words.now) c.args.walk.now.shard c.args.table
+    (subst (λ bs. IsMapAlong (LeadsAlone (slice_index c.args.walk.now.scan.words.now) c.args.walk.now.shard)
+    (slice_index c.args.walk.now.scan.words.now) c.args.walk.now.shard c.args.table
     c.loop-bucket-2.links bs (get nat_cmp c.loop-bucket-2.map)) items c.loop-bucket-2.invariant.along)
 
 pub returns-in-Astray-clause-none : goal.returns-in-Astray-clause-none
@@ -104,8 +121,10 @@ returns-in-Astray-clause-none c = λ none map is.
     let image = slice_index c.args.walk.now.scan.words.now in
     let shard = c.args.walk.now.shard in
     let items : c.loop-bucket-2.unread.items ≡ c.in-Some.bucket ∷ c.pop_front.new.self.items = c.in-Some.ensures.items in
-    let below : c.in-Some.bucket < buckets = All-head (λ k. k < buckets) c.in-Some.bucket c.pop_front.new.self.items (subst (λ bs. All (λ k. k < buckets) bs) items was.few) in
-    astray_no_map (LeadsAlone image shard) image shard c.args.table (alone_once image shard) c.in-Some.bucket c.loop-bucket-2.links c.loop-bucket-2.unread.items (get nat_cmp c.loop-bucket-2.map)
+    let below : c.in-Some.bucket < buckets = All-head (λ k. k < buckets) c.in-Some.bucket c.pop_front.new.self.items
+    (subst (λ bs. All (λ k. k < buckets) bs) items was.few) in
+    astray_no_map (LeadsAlone image shard) image shard c.args.table
+    (alone_once image shard) c.in-Some.bucket c.loop-bucket-2.links c.loop-bucket-2.unread.items (get nat_cmp c.loop-bucket-2.map)
     c.requires.table below was.along c.in-Astray.ensures map is
 
 pub returns-then-not-branch-clause-none : goal.returns-then-not-branch-clause-none
@@ -114,6 +133,8 @@ returns-then-not-branch-clause-none c = λ none map is.
     let image = slice_index c.args.walk.now.scan.words.now in
     let shard = c.args.walk.now.shard in
     let items : c.loop-bucket-2.unread.items ≡ c.in-Some.bucket ∷ c.pop_front.new.self.items = c.in-Some.ensures.items in
-    let below : c.in-Some.bucket < buckets = All-head (λ k. k < buckets) c.in-Some.bucket c.pop_front.new.self.items (subst (λ bs. All (λ k. k < buckets) bs) items was.few) in
-    met_no_map (LeadsAlone image shard) image shard c.args.table (alone_once image shard) c.in-Some.bucket c.loop-bucket-2.links c.loop-bucket-2.unread.items (get nat_cmp c.loop-bucket-2.map)
+    let below : c.in-Some.bucket < buckets = All-head (λ k. k < buckets) c.in-Some.bucket c.pop_front.new.self.items
+    (subst (λ bs. All (λ k. k < buckets) bs) items was.few) in
+    met_no_map (LeadsAlone image shard) image shard c.args.table (alone_once image shard)
+    c.in-Some.bucket c.loop-bucket-2.links c.loop-bucket-2.unread.items (get nat_cmp c.loop-bucket-2.map)
     c.requires.table below was.along c.in-To.node c.in-To.ensures.0 c.in-To.ensures.1 (c.in_ok-add-in-To.ensures.known c.if-not-branch.true) map is

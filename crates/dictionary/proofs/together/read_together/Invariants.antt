@@ -21,7 +21,8 @@ invariant-loop-bucket l = record {
 
 abbrev pub invariant-loop-bucket-2 : goal.invariant-loop-bucket-2
 invariant-loop-bucket-2 l = record {
-  along : IsMapAlong (LeadsAlone (slice_index l.walk.scan.words.now) l.walk.shard) (slice_index l.walk.scan.words.now) l.walk.shard l.table l.links l.unread.items (get nat_cmp l.map);
+  along : IsMapAlong (LeadsAlone (slice_index l.walk.scan.words.now) l.walk.shard)
+      (slice_index l.walk.scan.words.now) l.walk.shard l.table l.links l.unread.items (get nat_cmp l.map);
   ordered : IsOrdered nat_cmp l.map;
   few : All (λ k. k < buckets) l.unread.items;
   inside : (k : ℕ) → k < buckets → slice_index l.links k < length l.walk.scan.words.now;

@@ -11,7 +11,8 @@ pub returns-clause-maps : goal.returns-clause-maps
 returns-clause-maps g c =
     let found = c.in_ok-found.found in
     let is = c.in_ok-found.ensures.ok in
-    opened_maps found.heap.words found.heap.held c.args.budget c.in_ok-new.field-0 c.in_ok-new.ensures is.dictionary (current_image c.args.image.now) is.recovers
+    opened_maps found.heap.words found.heap.held c.args.budget c.in_ok-new.field-0 c.in_ok-new.ensures is.dictionary
+    (current_image c.args.image.now) is.recovers
 
 pub returns-clause-exact : goal.returns-clause-exact
 returns-clause-exact g c =

@@ -24,7 +24,8 @@ work_off-stopped-requires g c κs within =
     let opened = c.in_ok-seat.ensures in
     let maps = c.requires.dictionary.maps in
     let same : slice_index s.parts.words.volatile ≡ slice_index words = ap (λ (m : View). slice_index m.volatile) opened.opens.words_are in
-    let begun = subst (λ image. HasAnswered image [] (seat_of s)) (sym same) (run_begins words c.args.heap.held c.args.budget s opened c.requires.dictionary) in
+    let begun = subst (λ image. HasAnswered image [] (seat_of s)) (sym same)
+    (run_begins words c.args.heap.held c.args.budget s opened c.requires.dictionary) in
     let read = subst (AreMaps (slice_index words) shards) (sym c.deref.ensures.value) c.in_ok-maps.ensures.ok in
     let rooms = c.in_ok-rooms.ensures (slice_index words) maps read c.in_ok-longest.ensures in
     let exact = c.in_ok-replies.ensures.exact in
@@ -33,7 +34,8 @@ work_off-stopped-requires g c κs within =
     let none = ⊑_static κs.1.1.1.1.1.1.0 in
     let one = ⊑_meet κs.1.1.1.1.1.1.0 g.row.C-One.lives [] within.0 none in
     let lives = ⊑_meet κs.1.1.1.1.1.1.0 _ _ one (⊑_meet κs.1.1.1.1.1.1.0 _ _ (⊑_meet κs.1.1.1.1.1.1.0 _ _ one
-    (⊑_meet κs.1.1.1.1.1.1.0 _ _ (⊑_meet κs.1.1.1.1.1.1.0 _ _ one (⊑_meet κs.1.1.1.1.1.1.0 _ _ (⊑_meet κs.1.1.1.1.1.1.0 _ _ one one) none)) none)) none) in (
+    (⊑_meet κs.1.1.1.1.1.1.0 _ _ (⊑_meet κs.1.1.1.1.1.1.0 _ _ one (⊑_meet κs.1.1.1.1.1.1.0 _ _ (⊑_meet κs.1.1.1.1.1.1.0 _ _ one one) none))
+    none)) none) in (
       lives,
       (
         within.1,
@@ -63,12 +65,14 @@ work_off-stopped-requires g c κs within =
 pub image_left-image-requires-clause-whole : goal.image_left-image-requires-clause-whole
 image_left-image-requires-clause-whole g c = λ lifetimes bounds.
     subst AreWholeImage (sym c.finish.ensures.volatile)
-    (whole_seen c.args.heap.words c.args.heap.held c.args.budget c.in_ok-seat.seat c.work_off-stopped.new.seat c.maps_of.ensures.ready.formed c.in_ok-seat.ensures c.work_off-stopped.ensures.goes_on)
+    (whole_seen c.args.heap.words c.args.heap.held c.args.budget c.in_ok-seat.seat c.work_off-stopped.new.seat c.maps_of.ensures.ready.formed
+    c.in_ok-seat.ensures c.work_off-stopped.ensures.goes_on)
 
 pub image_left-image-requires-clause-layout : goal.image_left-image-requires-clause-layout
 image_left-image-requires-clause-layout g c = λ lifetimes bounds.
     c.geometry-geometry.ensures ∙ sym (ap (λ ws. capacity_of (slice_index ws)) c.finish.ensures.volatile
-    ∙ capacity_seen c.args.heap.words c.args.heap.held c.args.budget c.in_ok-seat.seat c.work_off-stopped.new.seat c.maps_of.ensures.ready.formed c.in_ok-seat.ensures c.work_off-stopped.ensures.goes_on)
+    ∙ capacity_seen c.args.heap.words c.args.heap.held c.args.budget c.in_ok-seat.seat c.work_off-stopped.new.seat
+    c.maps_of.ensures.ready.formed c.in_ok-seat.ensures c.work_off-stopped.ensures.goes_on)
 
 pub image_left-image-requires-clause-same : goal.image_left-image-requires-clause-same
 image_left-image-requires-clause-same g c = λ lifetimes bounds.
@@ -76,5 +80,7 @@ image_left-image-requires-clause-same g c = λ lifetimes bounds.
     let s = c.in_ok-seat.seat in
     let t = c.work_off-stopped.new.seat in
     let kept = c.work_off-stopped.ensures.goes_on in
-    ap (λ ws. capacity_of (slice_index ws)) c.finish.ensures.durable ∙ capacity_durable c.args.heap.words c.args.heap.held c.args.budget s t formed c.in_ok-seat.ensures kept
-    ∙ sym (ap (λ ws. capacity_of (slice_index ws)) c.finish.ensures.volatile ∙ capacity_seen c.args.heap.words c.args.heap.held c.args.budget s t formed c.in_ok-seat.ensures kept)
+    ap (λ ws. capacity_of (slice_index ws)) c.finish.ensures.durable
+    ∙ capacity_durable c.args.heap.words c.args.heap.held c.args.budget s t formed c.in_ok-seat.ensures kept
+    ∙ sym (ap (λ ws. capacity_of (slice_index ws)) c.finish.ensures.volatile
+    ∙ capacity_seen c.args.heap.words c.args.heap.held c.args.budget s t formed c.in_ok-seat.ensures kept)

@@ -11,12 +11,14 @@ follow_roots-requires-clause-marked g c =
     let room : HasMarks (length c.args.words.now) g.F.Filter.KINDS c.in_ok-found.found.marks
     = subst (λ n. HasMarks (length c.args.words.now) n c.in_ok-found.found.marks) c.KINDS.ensures c.in_ok-found.ensures.room in
     rw (c.in_ok-found.ensures.kinds, c.KINDS.ensures, c.in_ok-found.ensures.empty)
-    (nothing_marked (slice_index c.args.words.now) (length c.args.words.now) g.F.Filter.KINDS c.in_ok-found.found.marks c.requires.formed room c.in_ok-found.ensures.clear)
+    (nothing_marked (slice_index c.args.words.now) (length c.args.words.now)
+    g.F.Filter.KINDS c.in_ok-found.found.marks c.requires.formed room c.in_ok-found.ensures.clear)
 
 pub returns-in_err-follow_roots-clause-err : goal.returns-in_err-follow_roots-clause-err
 returns-in_err-follow_roots-clause-err g c =
     let p = err_from_is_err_and c.from_residual-in_err-follow_roots.result c.from_residual-in_err-follow_roots.ensures.1 in
-    rw (p.1, p.2) (tells_root (slice_index c.args.words.now) (slice_index c.args.kinds.now) (g.F.Filter.links_of c.args.filter.now) c.in_err-follow_roots.field-0.0 c.in_err-follow_roots.ensures.err)
+    rw (p.1, p.2) (tells_root (slice_index c.args.words.now) (slice_index c.args.kinds.now)
+    (g.F.Filter.links_of c.args.filter.now) c.in_err-follow_roots.field-0.0 c.in_err-follow_roots.ensures.err)
 
 pub loop-next-init : goal.loop-next-init
 loop-next-init g c =
@@ -25,7 +27,8 @@ loop-next-init g c =
       same = c.follow_roots.ensures.kinds ∙ count;
       work = work_begins (slice_index c.args.words.now) (slice_index c.args.kinds.now) (g.F.Filter.links_of c.args.filter.now) g.F.Filter.KINDS
           c.follow_roots.new.found.pairs.items c.follow_roots.new.found.marks
-          (subst (λ n. FollowsRoots (slice_index c.args.words.now) (slice_index c.args.kinds.now) n roots c.follow_roots.new.found.pairs.items c.follow_roots.new.found.marks) count c.in_ok-follow_roots.ensures.ok);
+          (subst (λ n. FollowsRoots (slice_index c.args.words.now) (slice_index c.args.kinds.now)
+          n roots c.follow_roots.new.found.pairs.items c.follow_roots.new.found.marks) count c.in_ok-follow_roots.ensures.ok);
       long = refl;
     }
 
@@ -34,8 +37,10 @@ loop-next-preserved g c =
     let len = c.loop-next.found.pairs.ok.0 in
     record {
       same = c.follow_links.ensures.kinds ∙ c.loop-next.invariant.same;
-      work = work_step (slice_index c.args.words.now) (slice_index c.args.kinds.now) (g.F.Filter.links_of c.args.filter.now) g.F.Filter.KINDS c.loop-next.next
-          c.index.result.now.0 c.index.result.now.1 c.loop-next.found.pairs.items c.follow_links.new.found.pairs.items c.loop-next.found.marks c.follow_links.new.found.marks
+      work = work_step (slice_index c.args.words.now) (slice_index c.args.kinds.now)
+          (g.F.Filter.links_of c.args.filter.now) g.F.Filter.KINDS c.loop-next.next
+          c.index.result.now.0 c.index.result.now.1 c.loop-next.found.pairs.items c.follow_links.new.found.pairs.items c.loop-next.found.marks
+          c.follow_links.new.found.marks
           c.loop-next.invariant.work (omega arith) (sym c.index.ensures) c.in_ok-follow_links.ensures.ok;
       long = c.in_ok-follow_links.ensures.ok.long ∙ c.loop-next.invariant.long;
     }

@@ -7,4 +7,5 @@ load-requires c = (c.requires, ((c.a_seat_of_the_core_is_a_seat_of_a_heap.ensure
 
 pub returns-in-Ok-clause-read : goal.returns-in-Ok-clause-read
 returns-in-Ok-clause-read c = λ value has. loads_it value c.in-Ok.value c.args.block (heap_view c.args.seat.now.state) (heap_view c.load.new.self.state)
-    ((c.a_seat_of_the_core_is_a_seat_of_a_heap.ensures.seat c.args.seat.now.state).placed c.args.block c.requires).some c.requires c.load.ensures.unchanged c.in-Ok.ensures.ok has
+    ((c.a_seat_of_the_core_is_a_seat_of_a_heap.ensures.seat c.args.seat.now.state).placed c.args.block c.requires).some c.requires
+    c.load.ensures.unchanged c.in-Ok.ensures.ok has

@@ -22,9 +22,11 @@ returns-in-Ok c =
     let roles = kept.2 ∙ c.in-Ok.ensures.accepted in record {
       same = record { table = kept.0 ∙ c.accept.ensures.table; setup = kept.1.setup ∙ c.accept.ensures.costs.setup };
       received = λ value brings. c.read.ensures.read value
-          (subst (λ (b : Block). HasValue value b at) (sym is) (comes_with value carrier at (seat.placed carrier.block adds.has).some c.in-Ok.ensures.brought brings));
+          (subst (λ (b : Block). HasValue value b at) (sym is) (comes_with value carrier at
+          (seat.placed carrier.block adds.has).some c.in-Ok.ensures.brought brings));
       gets = if_some (λ (r : Received). r.block ≡ c.in-Ok.block) (λ r. Contains now.held r.block) c.read.result
-          (λ r same. subst (λ (b : Block). Contains now.held b) (sym (same ∙ is)) (held_in at now carrier.block c.read.ensures.held adds.has)) c.read.ensures.block;
+          (λ r same. subst (λ (b : Block). Contains now.held b) (sym (same ∙ is)) (held_in at now carrier.block c.read.ensures.held adds.has))
+          c.read.ensures.block;
       apart = if_some (λ (r : Received). r.block ≡ c.in-Ok.block) (λ r. (a : Block) → Contains old.held a → AreApart a r.block) c.read.result
           (λ r same a held. subst (AreApart a) (sym (same ∙ is)) (apart_from_new a carrier.block old at seat adds held)) c.read.ensures.block;
       held = λ a there. held_in at now a c.read.ensures.held (adds.keeps a there);

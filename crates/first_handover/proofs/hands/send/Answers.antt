@@ -11,11 +11,13 @@ persist-requires c =
     (has, ((c.a_seat_of_the_core_is_a_seat_of_a_heap.ensures.seat c.alloc-2.new.self.state).placed c.in_ok-gift.gift has).some)
 
 pub returns-in_err-persist-clause-none_offered : goal.returns-in_err-persist-clause-none_offered
-returns-in_err-persist-clause-none_offered c = on_err (role c.persist.new.heap.state.view ≡ role c.args.seat.now.state.view) c.from_residual-in_err-persist.result
+returns-in_err-persist-clause-none_offered c = on_err (role c.persist.new.heap.state.view ≡ role c.args.seat.now.state.view)
+    c.from_residual-in_err-persist.result
     (c.persist.ensures.kept.heap.2 ∙ c.alloc-2.ensures.kept.heap.2 ∙ c.alloc.ensures.kept.heap.2)
 
 pub returns-in_err-carrier-clause-none_offered : goal.returns-in_err-carrier-clause-none_offered
-returns-in_err-carrier-clause-none_offered c = on_err (role c.offer.new.self.state.view ≡ role c.args.seat.now.state.view) c.from_residual-in_err-carrier.result
+returns-in_err-carrier-clause-none_offered c = on_err (role c.offer.new.self.state.view ≡ role c.args.seat.now.state.view)
+    c.from_residual-in_err-carrier.result
     (c.in_err-carrier.ensures.none_offered ∙ c.persist.ensures.kept.heap.2 ∙ c.alloc-2.ensures.kept.heap.2 ∙ c.alloc.ensures.kept.heap.2)
 
 pub returns-clause-kept : goal.returns-clause-kept

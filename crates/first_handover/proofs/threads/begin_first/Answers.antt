@@ -12,7 +12,10 @@ returns-in-Ok c =
     let same = c.send.ensures.same in
     let sent = c.in-Ok.ensures in
     let back = c.into_seat.ensures in record {
-      at = record { of = seat_of c.args.shared.now c.args.seat first at seat c.requires.of new same.table same.setup back.table back.view; between = between_at at seat.view back.view };
+      at = record {
+        of = seat_of c.args.shared.now c.args.seat first at seat c.requires.of new same.table same.setup back.table back.view;
+        between = between_at at seat.view back.view;
+      };
       kept = held_at seat.view at.view c.in-Ok.kept back.view sent.kept;
       table = sent.table ∙ new.table ∙ c.requires.of.table;
       brings = sent.brings;
@@ -27,7 +30,10 @@ returns-in-Err c =
     let new = c.new-seat.ensures.state in
     let same = c.send.ensures.same in
     let back = c.into_seat-in-Err.ensures in record {
-      at = record { of = seat_of c.args.shared.now c.args.seat first at seat c.requires.of new same.table same.setup back.table back.view; between = between_at at seat.view back.view };
+      at = record {
+        of = seat_of c.args.shared.now c.args.seat first at seat c.requires.of new same.table same.setup back.table back.view;
+        between = between_at at seat.view back.view;
+      };
       kept = tt;
       table = tt;
       brings = tt;

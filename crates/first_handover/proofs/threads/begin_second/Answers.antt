@@ -14,7 +14,11 @@ returns c =
     let new = c.new-seat.ensures.state in
     let kept = c.alloc-own.ensures.kept.heap in
     let back = c.into_seat.ensures in record {
-      at = record { of = seat_of c.args.shared.now c.args.seat first at seat c.requires.of new kept.0 kept.1.setup back.table back.view; between = between_at at seat.view back.view };
-      own = if_ok (λ b. Allocates 100 b (heap_view first) (heap_view at)) (Contains (held_blocks seat.view)) c.alloc-own.result (λ b got. held_at seat.view at.view b back.view got.blocks.has) c.alloc-own.ensures.ok;
+      at = record {
+        of = seat_of c.args.shared.now c.args.seat first at seat c.requires.of new kept.0 kept.1.setup back.table back.view;
+        between = between_at at seat.view back.view;
+      };
+      own = if_ok (λ b. Allocates 100 b (heap_view first) (heap_view at)) (Contains (held_blocks seat.view)) c.alloc-own.result
+          (λ b got. held_at seat.view at.view b back.view got.blocks.has) c.alloc-own.ensures.ok;
       role_is = ap role back.view ∙ kept.2 ∙ ap role new.view ∙ c.requires.role_is;
     }

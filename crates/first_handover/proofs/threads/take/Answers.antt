@@ -28,12 +28,14 @@ returns c =
           (λ r got. record { state = at; view = back.view; has = got }) (took.received value brings);
       gets = if_some (λ (r : Received). Contains (held_blocks at.view) r.block) (λ r. IsHeld seat.view r.block) taken.received
           (λ r there. held_is seat.view c.recall_soundness.ensures r.block (held_at seat.view at.view r.block back.view there)) took.gets;
-      apart = if_some (λ (r : Received). (a : Block) → Contains (held_blocks first.view) a → AreApart a r.block) (λ r. (a : Block) → Contains (held_blocks v) a → AreApart a r.block) taken.received
+      apart = if_some (λ (r : Received). (a : Block) → Contains (held_blocks first.view) a → AreApart a r.block) (λ r. (a : Block)
+          → Contains (held_blocks v) a → AreApart a r.block) taken.received
           (λ r apart a there. apart a (held_at first.view v a new.view there)) took.apart;
       table = if_some (λ (x : CarrierView). x.table ≡ first.table) (λ x. x.table ≡ c.args.shared.now.table) taken.left
           (λ x same. same ∙ new.table ∙ c.requires.at.of.table) took.table;
       accepted = record {
-        accepts = let e = ap (λ (x : View). x.accepts) back.view in let n = ap (λ (x : View). x.accepts) new.view in let t = took.accepted.accepts in omega (arith, e, n, t);
+        accepts = let e = ap (λ (x : View). x.accepts) back.view in let n = ap (λ (x : View). x.accepts) new.view in
+            let t = took.accepted.accepts in omega (arith, e, n, t);
         offers = ap (λ (x : View). x.offers) back.view ∙ took.accepted.offers ∙ ap (λ (x : View). x.offers) new.view;
         carries = ap (λ (x : View). x.carries) back.view ∙ took.accepted.carries ∙ ap (λ (x : View). x.carries) new.view;
       };

@@ -18,7 +18,8 @@ returns-clause-one c =
     let at = ap (λ (l : List SeatView). get_or l 0 one) both in
     let less : 0 < length seats = omega (arith, two) in
     fresh_of setup heap.held owners.held owners.roots shared seats 0 0 one opened less at
-    (c.an_opened_seat_is_idle.ensures setup heap.held owners.held owners.roots shared seats opened 0 one less at) (omega arith) c.in_ok-owners.ensures.one
+    (c.an_opened_seat_is_idle.ensures setup heap.held owners.held owners.roots shared seats opened 0 one less at)
+    (omega arith) c.in_ok-owners.ensures.one
 
 pub returns-clause-other : goal.returns-clause-other
 returns-clause-other c =
@@ -30,8 +31,10 @@ returns-clause-other c =
     let setup = setup_of heap.words 1000000 2 in
     let opened = c.in_ok-shared.ensures.seats in
     let two = opened.count ∙ c.in_ok-shared.ensures.count in
-    let both = both_are seats c.pop.new.self.items c.pop-2.new.self.items c.in-Some-pop.one other c.in-Some.ensures.items c.in-Some-pop.ensures.items two in
+    let both = both_are seats c.pop.new.self.items c.pop-2.new.self.items c.in-Some-pop.one other c.in-Some.ensures.items
+    c.in-Some-pop.ensures.items two in
     let at = ap (λ (l : List SeatView). get_or l 1 other) both in
     let less : 1 < length seats = omega (arith, two) in
     fresh_of setup heap.held owners.held owners.roots shared seats 1 512 other opened less at
-    (c.an_opened_seat_is_idle.ensures setup heap.held owners.held owners.roots shared seats opened 1 other less at) (omega arith) c.in_ok-owners.ensures.other
+    (c.an_opened_seat_is_idle.ensures setup heap.held owners.held owners.roots shared seats opened 1 other less at)
+    (omega arith) c.in_ok-owners.ensures.other

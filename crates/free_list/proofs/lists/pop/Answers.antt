@@ -5,7 +5,8 @@ use Rattle.free_list.proofs.lists.pop.Goals as goal
 
 pub returns-clause-alone : goal.returns-clause-alone
 returns-clause-alone g c =
-    ok_then c.pop_from.result (λ pop is. alone c.a_claimed_superblock_is_in_one_hand.ensures 0 c.args.seat.now.view c.pop_from.new.seat.view pop is) c.pop_from.ensures.done
+    ok_then c.pop_from.result (λ pop is. alone c.a_claimed_superblock_is_in_one_hand.ensures 0 c.args.seat.now.view c.pop_from.new.seat.view pop
+    is) c.pop_from.ensures.done
 
 pub returns-clause-draws : goal.returns-clause-draws
 returns-clause-draws g c = let most = c.a_row_bounds_its_draws.ensures.exact _ c.args.seat.now c.pop_from.new.seat c.pop_from.ensures.row in omega arith

@@ -10,5 +10,6 @@ loop-carrier-preserved c =
     let carrier = c.in-Some.carrier in let split = c.in-Some.ensures.items in
     let first = first_at table all rest carrier split c.loop-carrier.invariant.left in record {
       left = rest_at table all rest carrier split c.loop-carrier.invariant.left;
-      list = All-same (λ (x : CarrierView). x.table ≡ table) c.push.new.self.items _ c.in_ok-push.ensures.items (All-push (λ (x : CarrierView). x.table ≡ table) c.loop-carrier.list.items carrier c.loop-carrier.invariant.list first);
+      list = All-same (λ (x : CarrierView). x.table ≡ table) c.push.new.self.items _ c.in_ok-push.ensures.items
+          (All-push (λ (x : CarrierView). x.table ≡ table) c.loop-carrier.list.items carrier c.loop-carrier.invariant.list first);
     }

@@ -10,5 +10,6 @@ loop-carrier-preserved g c =
     let carrier = c.in-Some.carrier in let split = c.in-Some.ensures.items in
     let first = first_at table all rest carrier split c.loop-carrier.invariant.left in record {
       left = rest_at table all rest carrier split c.loop-carrier.invariant.left;
-      moved = All-same (λ (x : CarrierView). x.table ≡ table) c.push_back.new.self.items _ c.in_ok-push_back.ensures.items (All-push (λ (x : CarrierView). x.table ≡ table) c.loop-carrier.carriers.items carrier c.loop-carrier.invariant.moved first);
+      moved = All-same (λ (x : CarrierView). x.table ≡ table) c.push_back.new.self.items _ c.in_ok-push_back.ensures.items
+          (All-push (λ (x : CarrierView). x.table ≡ table) c.loop-carrier.carriers.items carrier c.loop-carrier.invariant.moved first);
     }

@@ -20,5 +20,6 @@ returns c =
     let all : c.loop-i.i ≡ length ds = omega arith in
     let written = subst (λ n. AreWritten (λ j. link_word (slice_index ds j)) (λ j. number_at ds (suc j)) old c.loop-i.words n) all c.loop-i.invariant in
     let head : link_of c.member_at.result + 16777216 * 0 ≡ number_at ds 0 = omega (arith, c.member_at.ensures.number) in
-    subst (λ x. IsLinked (slice_index old) (slice_index (set c.loop-i.words (16 + c.args.list) x)) c.args.geometry.now.capacity c.args.list ds) (sym (c.pack-2.ensures ∙ head))
+    subst (λ x. IsLinked (slice_index old) (slice_index (set c.loop-i.words (16 + c.args.list) x)) c.args.geometry.now.capacity c.args.list ds)
+    (sym (c.pack-2.ensures ∙ head))
     (linked old c.loop-i.words c.args.geometry.now.capacity c.args.list ds c.requires.list c.requires.long c.requires.inside written)

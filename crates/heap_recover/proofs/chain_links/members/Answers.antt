@@ -11,13 +11,18 @@ loop-d-preserved c =
     let old = c.loop-d.members.items in
     elim c.if-eq.branch [
       | then-eq+in_ok-push w ↦
-          let here = member_here roles c.args.list c.loop-d.d _ c.loop-d-test.true (ap list_of (sym c.index-roles-d.is) ∙ sym c.list_of.ensures ∙ option_is c.list_of.result c.args.list (sym c.eq.ensures ∙ w.if-eq.true)) in
+          let here = member_here roles c.args.list c.loop-d.d _ c.loop-d-test.true (ap list_of (sym c.index-roles-d.is) ∙ sym c.list_of.ensures
+          ∙ option_is c.list_of.result c.args.list (sym c.eq.ensures ∙ w.if-eq.true)) in
           let items = ap (λ v. v.items) w.members-is ∙ w.in_ok-push.ensures.items in
-          subst (λ xs. AreAscending (λ d. d) (IsMemberAmong roles c.args.list (c.loop-d.d + 1)) xs) (sym items) (members_push roles c.args.list old c.loop-d.d here c.loop-d.invariant)
+          subst (λ xs. AreAscending (λ d. d) (IsMemberAmong roles c.args.list (c.loop-d.d + 1)) xs) (sym items)
+          (members_push roles c.args.list old c.loop-d.d here c.loop-d.invariant)
       | else-eq w ↦
-          let away = no_member roles c.args.list c.loop-d.d _ c.loop-d-test.true (λ same. option_not c.list_of.result c.args.list (sym c.eq.ensures ∙ w.if-eq.false) (c.list_of.ensures ∙ ap list_of c.index-roles-d.is ∙ same)) in
+          let away = no_member roles c.args.list c.loop-d.d _ c.loop-d-test.true
+          (λ same. option_not c.list_of.result c.args.list (sym c.eq.ensures ∙ w.if-eq.false) (c.list_of.ensures
+          ∙ ap list_of c.index-roles-d.is ∙ same)) in
           let items = ap (λ v. v.items) w.members-is in
-          subst (λ xs. AreAscending (λ d. d) (IsMemberAmong roles c.args.list (c.loop-d.d + 1)) xs) (sym items) (members_skip roles c.args.list old c.loop-d.d away c.loop-d.invariant)
+          subst (λ xs. AreAscending (λ d. d) (IsMemberAmong roles c.args.list (c.loop-d.d + 1)) xs) (sym items)
+          (members_skip roles c.args.list old c.loop-d.d away c.loop-d.invariant)
     ]
 
 pub returns : goal.returns

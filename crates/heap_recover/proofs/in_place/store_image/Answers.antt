@@ -15,7 +15,8 @@ returns-clause-ok g c =
     let view = g.M.LineMemory.view in
     let u = view c.store_differences.new.memory in
     let w = view c.fence.new.self in
-    on_ok_weaker c.fence.result (fence_stores c.args.old.now c.args.new.now (length c.args.old.now) (length c.args.old.now) u c.in_ok-store_differences.ensures.ok w
+    on_ok_weaker c.fence.result (fence_stores c.args.old.now c.args.new.now (length c.args.old.now)
+    (length c.args.old.now) u c.in_ok-store_differences.ensures.ok w
     refl refl c.requires.lengths (g.met.M.LineMemory.sound c.fence.new.self)) c.fence.ensures.ok
 
 pub returns-clause-between : goal.returns-clause-between
@@ -24,7 +25,8 @@ returns-clause-between g c =
     let u = view c.store_differences.new.memory in
     let w = view c.fence.new.self in
     let adds : AddsNothing u w = at_both c.fence.result (AddsNothing u w) (on_ok_weaker c.fence.result (fence_adds _ u w) c.fence.ensures.ok)
-    (IfErr-weaker c.fence.result (λ (e : Stopped). RefusesBy (g.M.LineMemory.draws c.store_differences.new.memory c.fence.new.self) e.step u w) (λ _. AddsNothing u w) (λ e refuses. refused_adds _ e.step u w refuses) c.fence.ensures.stopped) in
+    (IfErr-weaker c.fence.result (λ (e : Stopped). RefusesBy (g.M.LineMemory.draws c.store_differences.new.memory c.fence.new.self) e.step u w)
+    (λ _. AddsNothing u w) (λ e refuses. refused_adds _ e.step u w refuses) c.fence.ensures.stopped) in
     adds_between c.args.old.now c.args.new.now (length c.args.old.now) (length c.args.old.now) u c.in_ok-store_differences.ensures.ok w adds
 
 pub returns-clause-drew : goal.returns-clause-drew
@@ -32,7 +34,8 @@ returns-clause-drew g c =
     let view = g.M.LineMemory.view in
     let u = view c.store_differences.new.memory in
     let w = view c.fence.new.self in
-    on_ok_weaker c.fence.result (fence_drew (steps_between (slice_index c.args.old.now) (slice_index c.args.new.now) (length c.args.old.now)) (view c.args.memory.now) u w
+    on_ok_weaker c.fence.result (fence_drew (steps_between (slice_index c.args.old.now) (slice_index c.args.new.now) (length c.args.old.now))
+    (view c.args.memory.now) u w
     c.in_ok-store_differences.ensures.drawn) c.fence.ensures.ok
 
 pub returns-clause-within : goal.returns-clause-within
@@ -49,16 +52,20 @@ returns-clause-stopped g c =
     let u = view c.store_differences.new.memory in
     let w = view c.fence.new.self in
     let steps = steps_between (slice_index c.args.old.now) (slice_index c.args.new.now) (length c.args.old.now) in
-    IfErr-weaker c.fence.result (λ (e : Stopped). RefusesBy (g.M.LineMemory.draws c.store_differences.new.memory c.fence.new.self) e.step u w) (λ (e : Stopped). IsStoppedAt c.args.old.now c.args.new.now steps e.step v w)
-    (λ e refuses. fence_cut c.args.old.now c.args.new.now e.step v u w c.in_ok-store_differences.ensures.ok refuses c.store_differences.ensures.budget c.in_ok-store_differences.ensures.going
-    (g.met.M.LineMemory.sound c.store_differences.new.memory) (g.met.M.LineMemory.sound c.fence.new.self) c.in_ok-store_differences.ensures.drawn) c.fence.ensures.stopped
+    IfErr-weaker c.fence.result (λ (e : Stopped). RefusesBy (g.M.LineMemory.draws c.store_differences.new.memory c.fence.new.self) e.step u w)
+    (λ (e : Stopped). IsStoppedAt c.args.old.now c.args.new.now steps e.step v w)
+    (λ e refuses. fence_cut c.args.old.now c.args.new.now e.step v u w c.in_ok-store_differences.ensures.ok refuses
+    c.store_differences.ensures.budget c.in_ok-store_differences.ensures.going
+    (g.met.M.LineMemory.sound c.store_differences.new.memory) (g.met.M.LineMemory.sound c.fence.new.self)
+    c.in_ok-store_differences.ensures.drawn) c.fence.ensures.stopped
 
 pub returns-clause-steps : goal.returns-clause-steps
 returns-clause-steps g c =
     let view = g.M.LineMemory.view in
     let numbers = g.M.LineMemory.draws in
     let steps = steps_in (slice_index c.args.old.now) (slice_index c.args.new.now) (length c.args.old.now / 8) in
-    on_ok_weaker c.fence.result (fence_behind view numbers steps c.args.memory.now c.store_differences.new.memory c.fence.new.self c.in_ok-store_differences.ensures.steps)
+    on_ok_weaker c.fence.result (fence_behind view numbers steps c.args.memory.now c.store_differences.new.memory c.fence.new.self
+    c.in_ok-store_differences.ensures.steps)
     c.fence.ensures.ok
 
 pub returns-clause-first_steps : goal.returns-clause-first_steps
@@ -68,5 +75,6 @@ returns-clause-first_steps g c =
     let u = c.store_differences.new.memory in
     let w = c.fence.new.self in
     let steps = steps_in (slice_index c.args.old.now) (slice_index c.args.new.now) (length c.args.old.now / 8) in
-    IfErr-weaker c.fence.result (λ (e : Stopped). RefusesBy (numbers u w) e.step (view u) (view w)) (λ (e : Stopped). IsCutOffIn view numbers steps e.step c.args.memory.now w)
+    IfErr-weaker c.fence.result (λ (e : Stopped). RefusesBy (numbers u w) e.step (view u) (view w))
+    (λ (e : Stopped). IsCutOffIn view numbers steps e.step c.args.memory.now w)
     (λ e refuses. fence_refused view numbers steps e.step c.args.memory.now u w c.in_ok-store_differences.ensures.steps refuses) c.fence.ensures.stopped

@@ -12,6 +12,7 @@ returns c = record {
       (λ b reached. record { kind = reached.kind; reach = (alike.reach b reached.kind).1 reached.reach })
       (λ b reached. record { kind = reached.kind; reach = (alike.reach b reached.kind).0 reached.reach }) b a;
   free = λ limit bytes image other links alike free again a b.
-      ascending_one (λ d. d) (IsFreeSuperblock (layout_of other) (IsReachedIn other links)) (IsFreeSuperblock (layout_of image) (IsReachedIn image links))
+      ascending_one (λ d. d) (IsFreeSuperblock (layout_of other) (IsReachedIn other links))
+      (IsFreeSuperblock (layout_of image) (IsReachedIn image links))
       again free (λ d. (alike.free d).1) (λ d. (alike.free d).0) b a;
 }

@@ -20,14 +20,17 @@ loop-index-preserved g c =
     elim c.if-holds.branch [
       | then-holds+in_ok-push w ↦
           let here = marked_if g.layout marks c.args.d c.loop-index.index block c.holds.result indexed says w.if-holds.true in
-          let one = parted_held kept c.args.geometry.now.capacity c.args.class.number c.args.d c.args.class.is c.loop-index.index c.loop-index.held.items c.loop-index.spares.items block c.block_at-block.ensures here c.loop-index.invariant in
+          let one = parted_held kept c.args.geometry.now.capacity c.args.class.number c.args.d c.args.class.is c.loop-index.index
+          c.loop-index.held.items c.loop-index.spares.items block c.block_at-block.ensures here c.loop-index.invariant in
           let held = ap (λ v. v.items) w.held-is ∙ w.in_ok-push.ensures.items in
           let spares = ap (λ v. v.items) w.spares-is in
           subst (λ xs. AreParted kept c.args.geometry.now.capacity c.args.class.number c.args.d next xs c.if-holds.spares.items) (sym held)
-          (subst (λ xs. AreParted kept c.args.geometry.now.capacity c.args.class.number c.args.d next (c.loop-index.held.items ++ block ∷ []) xs) (sym spares) one)
+          (subst (λ xs. AreParted kept c.args.geometry.now.capacity c.args.class.number c.args.d next
+          (c.loop-index.held.items ++ block ∷ []) xs) (sym spares) one)
       | else-holds+in_ok-push-2 w ↦
           let unkept = unmarked_if g.layout marks c.args.d c.loop-index.index block c.holds.result indexed says w.if-holds.false in
-          let one = parted_spare kept c.args.geometry.now.capacity c.args.class.number c.args.d c.args.class.is c.loop-index.index c.loop-index.held.items c.loop-index.spares.items block c.block_at-block.ensures unkept c.loop-index.invariant in
+          let one = parted_spare kept c.args.geometry.now.capacity c.args.class.number c.args.d c.args.class.is c.loop-index.index
+          c.loop-index.held.items c.loop-index.spares.items block c.block_at-block.ensures unkept c.loop-index.invariant in
           let held = ap (λ v. v.items) w.held-is in
           let spares = ap (λ v. v.items) w.spares-is ∙ w.in_ok-push-2.ensures.items in
           subst (λ xs. AreParted kept c.args.geometry.now.capacity c.args.class.number c.args.d next xs c.if-holds.spares.items) (sym held)

@@ -12,7 +12,8 @@ pub clear_rest-requires-clause-capacity : goal.clear_rest-requires-clause-capaci
 clear_rest-requires-clause-capacity g c =
     let old = slice_index c.args.words.now in
     let found = c.in_ok-found.found in
-    done_capacity old (slice_index c.rebuild_taken.new.words) (IsMarked c.args.marks.now.pairs) (used_of old) found.held.items found.roles.items c.requires.formed.used c.in_ok-found.ensures.ok
+    done_capacity old (slice_index c.rebuild_taken.new.words) (IsMarked c.args.marks.now.pairs)
+    (used_of old) found.held.items found.roles.items c.requires.formed.used c.in_ok-found.ensures.ok
     ∙ sym c.new-geometry.ensures
 
 pub returns : goal.returns
@@ -26,7 +27,8 @@ returns g c =
     let are_listed = subst (λ n. AreListed cleared (slice_index words) n found.roles.items lists) c.new-geometry.ensures
     (subst (λ rs. AreListed cleared (slice_index words) c.new-geometry.result.capacity rs lists) c.deref.ensures.value c.in_ok-link_lists.ensures.ok) in
     record {
-      ok = rebuild old done cleared (slice_index words) (slice_index (set words 3 2)) (IsMarked c.args.marks.now.pairs) found.held.items found.roles.items
+      ok = rebuild old done cleared (slice_index words) (slice_index (set words 3 2))
+          (IsMarked c.args.marks.now.pairs) found.held.items found.roles.items
           c.requires.keeps c.requires.formed.used c.in_ok-found.ensures.ok are_cleared are_listed
           (get_or-set_same words 3 2 0 (let long = c.requires.formed.length_is in omega arith))
           (λ word other. get_or-set_other words 3 word 2 0 other);

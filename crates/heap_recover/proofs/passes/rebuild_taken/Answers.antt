@@ -27,7 +27,8 @@ rebuild_superblock-requires-clause-info g c =
     let kept = IsMarked c.args.marks.now.pairs in
     let survey = c.in_ok-survey.survey in
     subst (λ info. HasInfo info survey.role)
-    (sym (done_info old (slice_index c.loop-d.words) kept c.loop-d.d c.loop-d.held.items c.loop-d.roles.items (let used = c.requires.1.0.used in omega arith) c.loop-d.invariant.0))
+    (sym (done_info old (slice_index c.loop-d.words) kept c.loop-d.d c.loop-d.held.items c.loop-d.roles.items (let used = c.requires.1.0.used in
+    omega arith) c.loop-d.invariant.0))
     (role_spares old kept c.loop-d.d survey.role survey.spares.items c.in_ok-survey.ensures.ok.role).1
 
 pub rebuild_superblock-requires-clause-spares : goal.rebuild_superblock-requires-clause-spares
@@ -61,5 +62,20 @@ pub survey_superblock-requires : goal.survey_superblock-requires
 survey_superblock-requires g c =
     let kept = IsMarked c.args.marks.now.pairs in
     let info = done_info g.image (slice_index c.loop-d.words) kept c.loop-d.d c.loop-d.held.items c.loop-d.roles.items
-    (let used = c.requires.1.0.used in omega arith) c.loop-d.invariant.0 in
-    (c.requires.1.1.0, (ap (slice_index c.loop-d.words) c.info.ensures ∙ info, (c.requires.1.1.1.0, (omega arith, (omega (arith, c.requires.1.0.used), (c.requires.1.1.1.1.0, (c.loop-d.invariant.1, c.requires.1.1.1.1.1)))))))
+    (let used = c.requires.1.0.used in omega arith) c.loop-d.invariant.0 in (
+      c.requires.1.1.0,
+      (
+        ap (slice_index c.loop-d.words) c.info.ensures
+            ∙ info,
+        (
+          c.requires.1.1.1.0,
+          (
+            omega arith,
+            (
+              omega (arith, c.requires.1.0.used),
+              (c.requires.1.1.1.1.0, (c.loop-d.invariant.1, c.requires.1.1.1.1.1)),
+            ),
+          ),
+        ),
+      ),
+    )

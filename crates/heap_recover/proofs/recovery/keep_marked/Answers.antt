@@ -26,7 +26,8 @@ new-requires g c =
     let words = c.rebuild.new.words in
     let rebuilt = subst (λ (l : List ℕ). IsRebuild (slice_index l) (slice_index words) (IsMarked c.args.marks.now.pairs)
     c.in_ok-found.found.held.items c.in_ok-found.found.roles.items) c.deref_mut.ensures.value c.in_ok-found.ensures.ok in
-    let all : c.args.words.len ≡ length words = let long = c.args.words.ok.0 in let kept = c.rebuild.auto.words in omega (arith, ap length c.deref_mut.ensures.value) in
+    let all : c.args.words.len ≡ length words = let long = c.args.words.ok.0 in let kept = c.rebuild.auto.words in
+    omega (arith, ap length c.deref_mut.ensures.value) in
     let held = c.in_ok-found.found.held.items in
     let kept = c.rebuild.auto.words in
     subst (λ ws. IsReady ws held) (sym (written_back words c.args.words.items c.args.words.len all))
@@ -40,13 +41,16 @@ returns g c =
     let words = c.rebuild.new.words in
     let rebuilt = subst (λ (l : List ℕ). IsRebuild (slice_index l) (slice_index words) (IsMarked c.args.marks.now.pairs)
     c.in_ok-found.found.held.items c.in_ok-found.found.roles.items) c.deref_mut.ensures.value c.in_ok-found.ensures.ok in
-    let all : c.args.words.len ≡ length words = let long = c.args.words.ok.0 in let kept = c.rebuild.auto.words in omega (arith, ap length c.deref_mut.ensures.value) in
-    let same_length : length words ≡ length c.args.words.items = let kept = c.rebuild.auto.words in omega (arith, ap length c.deref_mut.ensures.value) in
+    let all : c.args.words.len ≡ length words = let long = c.args.words.ok.0 in let kept = c.rebuild.auto.words in
+    omega (arith, ap length c.deref_mut.ensures.value) in
+    let same_length : length words ≡ length c.args.words.items = let kept = c.rebuild.auto.words in
+    omega (arith, ap length c.deref_mut.ensures.value) in
     let left = c.new.ensures.words ∙ written_back words c.args.words.items c.args.words.len all in
     record {
       ok = record {
         held = subst (λ hs. AreAscending (λ (b : Block). b.first_word) (IsMarked c.args.marks.now.pairs) hs) (sym c.new.ensures.held) rebuilt.in_order;
-        free = ascending_same (λ d. d) (IsMember c.in_ok-found.found.roles.items 0) (IsFreeSuperblock (layout_of old) (IsMarked c.args.marks.now.pairs)) c.in_ok-free.free.items
+        free = ascending_same (λ d. d) (IsMember c.in_ok-found.found.roles.items 0)
+            (IsFreeSuperblock (layout_of old) (IsMarked c.args.marks.now.pairs)) c.in_ok-free.free.items
             (λ d. (rebuilt.free d).0) (λ d. (rebuilt.free d).1)
             (subst (λ rs. AreAscending (λ d. d) (IsMember rs 0) c.in_ok-free.free.items) c.deref.ensures.value c.in_ok-free.ensures.ok);
         was = (λ is. c.requires.closed.0 (c.was.ensures.0 is), λ is. c.was.ensures.1 (c.requires.closed.1 is));

@@ -10,9 +10,11 @@ recover_current-requires-clause-formed g c = subst (λ (l : List ℕ). IsWellFor
     (subst (λ k. HasGoodHeader (Some k) (8 * length c.args.words.now) (slice_index c.args.words.now)) c.KINDS.ensures c.in_ok-header.ensures.good))
 
 pub recover_current-requires-clause-below : goal.recover_current-requires-clause-below
-recover_current-requires-clause-below g c = subst (λ (l : List ℕ). HasKindsBelow (Some g.F.Filter.KINDS) (slice_index l)) (sym c.in_ok-current.ensures.ok)
+recover_current-requires-clause-below g c = subst (λ (l : List ℕ). HasKindsBelow (Some g.F.Filter.KINDS) (slice_index l))
+    (sym c.in_ok-current.ensures.ok)
     (current_below (Some g.F.Filter.KINDS) c.args.words.now c.args.kinds.now c.requires.roots
-    (subst (λ k. HasGoodHeader (Some k) (8 * length c.args.words.now) (slice_index c.args.words.now)) c.KINDS.ensures c.in_ok-header.ensures.good) c.requires.kinds)
+    (subst (λ k. HasGoodHeader (Some k) (8 * length c.args.words.now) (slice_index c.args.words.now))
+    c.KINDS.ensures c.in_ok-header.ensures.good) c.requires.kinds)
 
 pub returns-clause-formed : goal.returns-clause-formed
 returns-clause-formed g c =

@@ -15,7 +15,8 @@ kinds-stored-requires-clause-fit g c = subst (λ (l : List ℕ). (i : ℕ) → i
 
 pub trace-requires-clause-kinds : goal.trace-requires-clause-kinds
 trace-requires-clause-kinds g c =
-    let same = subst (λ (l : List ℕ). (i : ℕ) → i < roots → slice_index c.kinds-stored.result i ≡ kinds_of (slice_index l) i) c.deref.ensures.value c.kinds-stored.ensures in
+    let same = subst (λ (l : List ℕ). (i : ℕ) → i < roots → slice_index c.kinds-stored.result i ≡ kinds_of (slice_index l) i)
+    c.deref.ensures.value c.kinds-stored.ensures in
     below_stored (Some g.F.Filter.KINDS) (slice_index c.args.words.items) c.kinds-stored.result (omega arith) same c.requires.below
 
 pub returns-in_err-marks-clause-cause : goal.returns-in_err-marks-clause-cause
@@ -23,7 +24,8 @@ returns-in_err-marks-clause-cause g c =
     let image = slice_index c.args.words.items in
     let kinds = slice_index c.kinds-stored.result in
     let links = g.F.Filter.links_of c.args.filter.now in
-    let same = subst (λ (l : List ℕ). (i : ℕ) → i < roots → slice_index c.kinds-stored.result i ≡ kinds_of (slice_index l) i) c.deref.ensures.value c.kinds-stored.ensures in
+    let same = subst (λ (l : List ℕ). (i : ℕ) → i < roots → slice_index c.kinds-stored.result i ≡ kinds_of (slice_index l) i)
+    c.deref.ensures.value c.kinds-stored.ensures in
     let told = tells_stored image kinds links same c.in_err-marks.field-0.0
     (subst (λ (l : List ℕ). TellsOutside (slice_index l) kinds links c.in_err-marks.field-0.0) c.deref-2.ensures.value c.in_err-marks.ensures.err) in
     let p = err_from_is_err_and c.from_residual.result c.from_residual.ensures.1 in
@@ -34,7 +36,8 @@ keep_marked-requires-clause-keeps g c =
     let image = slice_index c.args.words.items in
     let kinds = slice_index c.kinds-stored.result in
     let links = g.F.Filter.links_of c.args.filter.now in
-    let same = subst (λ (l : List ℕ). (i : ℕ) → i < roots → slice_index c.kinds-stored.result i ≡ kinds_of (slice_index l) i) c.deref.ensures.value c.kinds-stored.ensures in
+    let same = subst (λ (l : List ℕ). (i : ℕ) → i < roots → slice_index c.kinds-stored.result i ≡ kinds_of (slice_index l) i)
+    c.deref.ensures.value c.kinds-stored.ensures in
     let are = reached_stored image kinds links same c.in_ok-marks.marks.pairs
     (subst (λ (l : List ℕ). AreReached (slice_index l) kinds links c.in_ok-marks.marks.pairs) c.deref-2.ensures.value c.in_ok-marks.ensures.ok) in
     marked_blocks image (kinds_of image) links c.in_ok-marks.marks.pairs are
@@ -44,7 +47,8 @@ returns-clause-ok g c =
     let image = slice_index c.args.words.items in
     let kinds = slice_index c.kinds-stored.result in
     let links = g.F.Filter.links_of c.args.filter.now in
-    let same = subst (λ (l : List ℕ). (i : ℕ) → i < roots → slice_index c.kinds-stored.result i ≡ kinds_of (slice_index l) i) c.deref.ensures.value c.kinds-stored.ensures in
+    let same = subst (λ (l : List ℕ). (i : ℕ) → i < roots → slice_index c.kinds-stored.result i ≡ kinds_of (slice_index l) i)
+    c.deref.ensures.value c.kinds-stored.ensures in
     let are = reached_stored image kinds links same c.in_ok-marks.marks.pairs
     (subst (λ (l : List ℕ). AreReached (slice_index l) kinds links c.in_ok-marks.marks.pairs) c.deref-2.ensures.value c.in_ok-marks.ensures.ok) in
     made_of_reached c.args.words.items (kinds_of image) links c.in_ok-marks.marks.pairs c.in_ok-recovered.recovered are c.in_ok-recovered.ensures.ok
@@ -61,6 +65,7 @@ returns-clause-none g c at out =
     let image = slice_index c.args.words.items in
     let kinds = slice_index c.kinds-stored.result in
     let links = g.F.Filter.links_of c.args.filter.now in
-    let same = subst (λ (l : List ℕ). (i : ℕ) → i < roots → slice_index c.kinds-stored.result i ≡ kinds_of (slice_index l) i) c.deref.ensures.value c.kinds-stored.ensures in
+    let same = subst (λ (l : List ℕ). (i : ℕ) → i < roots → slice_index c.kinds-stored.result i ≡ kinds_of (slice_index l) i)
+    c.deref.ensures.value c.kinds-stored.ensures in
     c.in_ok-marks.ensures.none at
     (subst (λ (l : List ℕ). IsOutside (slice_index l) kinds links at) (sym c.deref-2.ensures.value) (outside_traced image kinds links same at out))

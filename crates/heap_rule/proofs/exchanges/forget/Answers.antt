@@ -13,4 +13,5 @@ pub returns-in-TakeFresh : goal.returns-in-TakeFresh
 returns-in-TakeFresh c = subst (λ e. record c.args.notes.now { seen_used = None } ≡ forgotten e c.args.notes.now) (sym c.in-TakeFresh.is) refl
 
 pub returns-in_default : goal.returns-in_default
-returns-in_default c = let n = c.in_default in nothing_forgotten c.args.event c.args.notes.now n.not-TakeFresh n.not-Pop n.not-Push n.not-TakeAll n.not-Give
+returns-in_default c = let n = c.in_default in nothing_forgotten c.args.event c.args.notes.now n.not-TakeFresh n.not-Pop n.not-Push
+    n.not-TakeAll n.not-Give

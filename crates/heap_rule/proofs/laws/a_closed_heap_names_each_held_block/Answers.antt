@@ -9,8 +9,10 @@ use Rattle.heap_rule.proofs.laws.a_closed_heap_names_each_held_block.Goals as go
 
 pub returns-clause-firm : goal.returns-clause-firm
 returns-clause-firm c k now kept views closed =
-    subst (λ (i : Image). NamesAreDurable i (slice_index kept) (IsHeldBy views)) (volatile_is k.capacity now kept closed.drawn closed.now_long closed.kept_long)
-    (subst (λ (i : Image). NamesAreDurable (volatile_image k.capacity (now ++ (kept ++ (closed.drawn ∷ [])))) i (IsHeldBy views)) (durable_is k.capacity now kept closed.drawn closed.now_long closed.kept_long)
+    subst (λ (i : Image). NamesAreDurable i (slice_index kept) (IsHeldBy views))
+    (volatile_is k.capacity now kept closed.drawn closed.now_long closed.kept_long)
+    (subst (λ (i : Image). NamesAreDurable (volatile_image k.capacity (now ++ (kept ++ (closed.drawn ∷ [])))) i (IsHeldBy views))
+    (durable_is k.capacity now kept closed.drawn closed.now_long closed.kept_long)
     (firm k (now ++ (kept ++ (closed.drawn ∷ []))) views closed.sound))
 
 pub returns-clause-crash : goal.returns-clause-crash
@@ -26,9 +28,11 @@ returns-clause-closed c k now kept views closed image is =
 pub returns-clause-header : goal.returns-clause-header
 returns-clause-header c k now kept views closed good limit below image crash =
     crash_header k (now ++ (kept ++ (closed.drawn ∷ []))) views closed.sound image
-    (subst (λ (i : Image). IsCrashImage i image) (sym (durable_is k.capacity now kept closed.drawn closed.now_long closed.kept_long)) crash) good limit below
+    (subst (λ (i : Image). IsCrashImage i image) (sym (durable_is k.capacity now kept closed.drawn closed.now_long closed.kept_long)) crash)
+    good limit below
 
 pub returns-clause-closed_header : goal.returns-clause-closed_header
 returns-clause-closed_header c k now kept views closed good limit below image is =
     closed_header k (now ++ (kept ++ (closed.drawn ∷ []))) views closed.sound image
-    (subst (λ (i : Image). IsClosedImage i image) (sym (volatile_is k.capacity now kept closed.drawn closed.now_long closed.kept_long)) is) good limit below
+    (subst (λ (i : Image). IsClosedImage i image) (sym (volatile_is k.capacity now kept closed.drawn closed.now_long closed.kept_long)) is)
+    good limit below

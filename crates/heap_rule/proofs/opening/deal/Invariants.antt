@@ -17,5 +17,6 @@ invariant-loop-i l = record {
   count : vec_len l.list ≡ l._i;
   room : vec_capacity l.list ≡ l.seats;
   left : deque_len l.rooms + l._i ≡ l.seats;
-  rooms : (k : ℕ) (room : Room) → k < length l.rooms.items → get_or l.rooms.items k room ≡ room → IsOpenedRoom room (parts_of (opened_view_of l.shared.opening (l._i + k)));
+  rooms : (k : ℕ) (room : Room) → k < length l.rooms.items → get_or l.rooms.items k room ≡ room
+      → IsOpenedRoom room (parts_of (opened_view_of l.shared.opening (l._i + k)));
 }

@@ -57,5 +57,6 @@ returns-clause-settled g c =
     let t = view c.write_back.new.self in
     let w = view c.fence.new.self in
     on_ok_weaker c.fence.result
-    (publish_settles c.args.s c.args.value v u t w c.requires c.store.ensures.crash c.in_ok-store.ensures.ok c.write_back.ensures.unchanged c.in_ok-write_back.ensures.ok)
+    (publish_settles c.args.s c.args.value v u t w c.requires c.store.ensures.crash c.in_ok-store.ensures.ok c.write_back.ensures.unchanged
+    c.in_ok-write_back.ensures.ok)
     c.fence.ensures.ok

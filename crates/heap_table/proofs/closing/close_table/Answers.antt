@@ -17,8 +17,10 @@ returns-clause-sound c =
     let n : ℕ = c.word_count-length.result / 2 in
     let half : n ≡ image_words (setup_for o).capacity = (let w = c.word_count-length.ensures in let i = c.shared.invariant in omega arith) in
     let count = subst (λ (h : Opening). AreAll h.seats c.args.last.me.0) (sym same) c.requires.all in
-    let closed = closed_sound o words (slots_items c.close_with-closed.result.slots) c.args.last.id n c.args.last.me.0 c.close_with-closed.ensures.values.2 count half in
-    IfOk-weaker _ _ _ (λ (r : ClosedWords) e. read_off (λ h now kept. IsClosedSound (setup_for h) now kept c.args.last.me.0) o c.args.shared.opening (take n words) r.now (take n (drop n words)) r.kept same e.0 e.1 closed) c.parts-left.ensures
+    let closed = closed_sound o words (slots_items c.close_with-closed.result.slots)
+    c.args.last.id n c.args.last.me.0 c.close_with-closed.ensures.values.2 count half in
+    IfOk-weaker _ _ _ (λ (r : ClosedWords) e. read_off (λ h now kept. IsClosedSound (setup_for h) now kept c.args.last.me.0)
+    o c.args.shared.opening (take n words) r.now (take n (drop n words)) r.kept same e.0 e.1 closed) c.parts-left.ensures
 
 pub returns-clause-reached : goal.returns-clause-reached
 returns-clause-reached c =
@@ -28,5 +30,7 @@ returns-clause-reached c =
     let n : ℕ = c.word_count-length.result / 2 in
     let half : n ≡ image_words (setup_for o).capacity = (let w = c.word_count-length.ensures in let i = c.shared.invariant in omega arith) in
     let count = subst (λ (h : Opening). AreAll h.seats c.args.last.me.0) (sym same) c.requires.all in
-    let closed = closed_reached o words (slots_items c.close_with-closed.result.slots) c.args.last.id n c.args.last.me.0 c.close_with-closed.ensures.values.2 count half in
-    IfOk-weaker _ _ _ (λ (r : ClosedWords) e. read_off (λ h now kept. IsClosedReached h now kept c.args.last.me.0) o c.args.shared.opening (take n words) r.now (take n (drop n words)) r.kept same e.0 e.1 closed) c.parts-left.ensures
+    let closed = closed_reached o words (slots_items c.close_with-closed.result.slots)
+    c.args.last.id n c.args.last.me.0 c.close_with-closed.ensures.values.2 count half in
+    IfOk-weaker _ _ _ (λ (r : ClosedWords) e. read_off (λ h now kept. IsClosedReached h now kept c.args.last.me.0) o c.args.shared.opening
+    (take n words) r.now (take n (drop n words)) r.kept same e.0 e.1 closed) c.parts-left.ensures

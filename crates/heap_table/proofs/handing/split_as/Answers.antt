@@ -13,7 +13,9 @@ pub split_seat-requires : goal.split_seat-requires
 split_seat-requires g c = let b = g.J.ProofBlock.block in let s = c.requires.single in (
   c.requires.table,
   c.requires.some,
-  subst (λ (v : View). Splits (Holds c.args.shared.now.key) c.args.seat.now.id c.args.seat.now.me.0 (offered v b.first_word ∷ []) (carrier_of v b.first_word ∷ []))
+  subst (λ (v : View). Splits (Holds c.args.shared.now.key) c.args.seat.now.id c.args.seat.now.me.0 (offered v b.first_word ∷ [])
+      (carrier_of v b.first_word ∷ []))
       (sym (the_view c.args.seat.now.me.0 s.0 s.1))
-      (offers c.args.shared.now.key c.args.seat.now.id c.args.seat.now.me.0 s.0 b s.1 s.2 (subst (λ (x : Block). IsHeld s.0 x) (sym c.requires.told) s.3)),
+      (offers c.args.shared.now.key c.args.seat.now.id c.args.seat.now.me.0 s.0 b s.1 s.2
+      (subst (λ (x : Block). IsHeld s.0 x) (sym c.requires.told) s.3)),
 )

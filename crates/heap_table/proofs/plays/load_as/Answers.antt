@@ -7,7 +7,8 @@ pub load-requires : goal.load-requires
 load-requires g c = (
   c.requires.table,
   c.requires.inside,
-  allowed c.args.shared.now.key c.args.shared.now.table_id.slots c.args.seat.now.id c.args.seat.now.me.0 c.args.seat.now.me.1 c.requires.step.0 g.J.ProofEvent.event
+  allowed c.args.shared.now.key c.args.shared.now.table_id.slots c.args.seat.now.id c.args.seat.now.me.0 c.args.seat.now.me.1 c.requires.step.0
+      g.J.ProofEvent.event
       c.args.place (λ n. n) c.requires.step.1
       (subst (λ e. IsStepAt c.args.shared.now.key c.requires.step.0 e c.args.place (λ n. n)) (sym c.requires.told) c.requires.step.2),
 )

@@ -10,19 +10,23 @@ use Rattle.heap_table.proofs.steps.exchange.Goals as goal
 pub exchange_as-requires-clause-inside : goal.exchange_as-requires-clause-inside
 exchange_as-requires-clause-inside c =
     let below = place_below (view_in c.args.seat.now.me.0) c.args.event c.args.place c.requires.at.has c.requires.may c.requires.place in
-    let same = ap (λ (k : Setup). table_length k.capacity) (c.requires.at.setup ∙ sym (ap (λ (s : SharedView). setup_for s.opening) c.shared.view_is)) in
+    let same = ap (λ (k : Setup). table_length k.capacity) (c.requires.at.setup
+    ∙ sym (ap (λ (s : SharedView). setup_for s.opening) c.shared.view_is)) in
     let long = c.shared.invariant in omega (arith, below, same, long)
 
 pub exchange_as-requires-clause-step : goal.exchange_as-requires-clause-step
 exchange_as-requires-clause-step c = (
   view_in c.args.seat.now.me.0,
   c.requires.at.single,
-  exchange_at c.shared.inside.table.shared.key (view_in c.args.seat.now.me.0) c.args.event c.args.place c.args.seen c.args.new (c.requires.at.setup ∙ sym (ap (λ (s : SharedView). setup_for s.opening) c.shared.view_is)) c.requires.at.has.is_seat
+  exchange_at c.shared.inside.table.shared.key (view_in c.args.seat.now.me.0) c.args.event c.args.place c.args.seen c.args.new
+      (c.requires.at.setup ∙ sym (ap (λ (s : SharedView). setup_for s.opening) c.shared.view_is)) c.requires.at.has.is_seat
       c.requires.may c.requires.place c.requires.exchange,
 )
 
 pub returns-clause-at : goal.returns-clause-at
-returns-clause-at c = (after_did c.args.shared.now c.args.seat.now.table_id c.exchange_as.new.seat.table_id c.args.event c.args.seat.now.me c.exchange_as.result c.exchange_as.new.seat.me c.requires.at c.exchange_as.ensures.table c.exchange_as.ensures.did).at
+returns-clause-at c = (after_did c.args.shared.now c.args.seat.now.table_id c.exchange_as.new.seat.table_id c.args.event c.args.seat.now.me
+    c.exchange_as.result c.exchange_as.new.seat.me c.requires.at c.exchange_as.ensures.table c.exchange_as.ensures.did).at
 
 pub returns-clause-event : goal.returns-clause-event
-returns-clause-event c = (after_did c.args.shared.now c.args.seat.now.table_id c.exchange_as.new.seat.table_id c.args.event c.args.seat.now.me c.exchange_as.result c.exchange_as.new.seat.me c.requires.at c.exchange_as.ensures.table c.exchange_as.ensures.did).event_is
+returns-clause-event c = (after_did c.args.shared.now c.args.seat.now.table_id c.exchange_as.new.seat.table_id c.args.event c.args.seat.now.me
+    c.exchange_as.result c.exchange_as.new.seat.me c.requires.at c.exchange_as.ensures.table c.exchange_as.ensures.did).event_is

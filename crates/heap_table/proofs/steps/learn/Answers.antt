@@ -6,4 +6,5 @@ use Rattle.heap_table.proofs.steps.learn.Goals as goal
 
 pub returns-clause-found : goal.returns-clause-found
 returns-clause-found c = let d = c.learn_as.ensures.did in
-    subst (λ (v : View). (s : HasSoundState v) × (c.learn_as.result ≡ get_or s.words c.args.word 0)) (sym (the_view c.args.seat.now.me.0 d.view d.single)) (d.before, d.found_is)
+    subst (λ (v : View). (s : HasSoundState v) × (c.learn_as.result ≡ get_or s.words c.args.word 0))
+    (sym (the_view c.args.seat.now.me.0 d.view d.single)) (d.before, d.found_is)

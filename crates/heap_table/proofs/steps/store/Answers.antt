@@ -10,19 +10,27 @@ use Rattle.heap_table.proofs.steps.store.Goals as goal
 pub store_as-requires-clause-inside : goal.store_as-requires-clause-inside
 store_as-requires-clause-inside c =
     let below = place_below (view_in c.args.seat.now.me.0) c.args.event c.args.place c.requires.at.has c.requires.may c.requires.place in
-    let same = ap (λ (k : Setup). table_length k.capacity) (c.requires.at.setup ∙ sym (ap (λ (s : SharedView). setup_for s.opening) c.shared.view_is)) in
+    let same = ap (λ (k : Setup). table_length k.capacity) (c.requires.at.setup
+    ∙ sym (ap (λ (s : SharedView). setup_for s.opening) c.shared.view_is)) in
     let long = c.shared.invariant in omega (arith, below, same, long)
 
 pub store_as-requires-clause-step : goal.store_as-requires-clause-step
 store_as-requires-clause-step c = (
   view_in c.args.seat.now.me.0,
   c.requires.at.single,
-  store_at c.shared.inside.table.shared.key (view_in c.args.seat.now.me.0) c.args.event c.args.place c.args.value (c.requires.at.setup ∙ sym (ap (λ (s : SharedView). setup_for s.opening) c.shared.view_is)) c.requires.at.has.is_seat
+  store_at c.shared.inside.table.shared.key (view_in c.args.seat.now.me.0) c.args.event c.args.place c.args.value (c.requires.at.setup
+      ∙ sym (ap (λ (s : SharedView). setup_for s.opening) c.shared.view_is)) c.requires.at.has.is_seat
       c.requires.may c.requires.place c.requires.store,
 )
 
 pub returns-clause-at : goal.returns-clause-at
-returns-clause-at c = (after_did c.args.shared.now c.args.seat.now.table_id c.store_as.new.seat.table_id c.args.event c.args.seat.now.me c.store_as.ensures.did.found c.store_as.new.seat.me c.requires.at c.store_as.ensures.table c.store_as.ensures.did.did).at
+returns-clause-at c = (after_did c.args.shared.now c.args.seat.now.table_id c.store_as.new.seat.table_id c.args.event c.args.seat.now.me
+    c.store_as.ensures.did.found c.store_as.new.seat.me c.requires.at c.store_as.ensures.table c.store_as.ensures.did.did).at
 
 pub returns-clause-event : goal.returns-clause-event
-returns-clause-event c = (c.store_as.ensures.did.found, (after_did c.args.shared.now c.args.seat.now.table_id c.store_as.new.seat.table_id c.args.event c.args.seat.now.me c.store_as.ensures.did.found c.store_as.new.seat.me c.requires.at c.store_as.ensures.table c.store_as.ensures.did.did).event_is)
+returns-clause-event c = (
+  c.store_as.ensures.did.found,
+  (after_did c.args.shared.now c.args.seat.now.table_id c.store_as.new.seat.table_id
+      c.args.event c.args.seat.now.me c.store_as.ensures.did.found c.store_as.new.seat.me c.requires.at c.store_as.ensures.table
+      c.store_as.ensures.did.did).event_is,
+)

@@ -13,7 +13,8 @@ returns-clause-ok c =
     let kinds = c.root_kinds.result in
     let made = c.in_ok-opened.ensures in
     subst (λ (ks : List ℕ). TellsOpened (current_words words ks) c.args.with_map c.in_ok-text.text) c.root_kinds.ensures.list
-    (tells_opened (current_words words kinds) c.in_ok-opened.opened c.args.with_map c.in_ok-text.text c.in_ok-text.ensures.ok made.path made.quick made.traced made.none)
+    (tells_opened (current_words words kinds) c.in_ok-opened.opened c.args.with_map c.in_ok-text.text c.in_ok-text.ensures.ok made.path
+    made.quick made.traced made.none)
 
 pub returns-in_err-opened-clause-cause : goal.returns-in_err-opened-clause-cause
 returns-in_err-opened-clause-cause c =

@@ -2,8 +2,10 @@ use Rattle.image_run.proofs.OutcomeLemmas.{one_answers, one_tickets, left_in_eac
 use Rattle.image_run.proofs.laws.a_replay_has_one_outcome.Goals as goal
 
 pub returns-clause-answers : goal.returns-clause-answers
-returns-clause-answers c words held seats lines answers again tickets drawn left other is too =
-    (one_answers words held seats lines answers again tickets drawn left other is too, one_tickets words held seats lines answers again tickets drawn left other is too)
+returns-clause-answers c words held seats lines answers again tickets drawn left other is too = (
+  one_answers words held seats lines answers again tickets drawn left other is too,
+  one_tickets words held seats lines answers again tickets drawn left other is too,
+)
 
 pub returns-clause-outside : goal.returns-clause-outside
 returns-clause-outside c = left_in_each

@@ -6,7 +6,8 @@ use Rattle.image_run.proofs.rebuilding.rebuild_image.Goals as goal
 
 pub recover_inside-requires-clause-good : goal.recover_inside-requires-clause-good
 recover_inside-requires-clause-good g c =
-    good_header (slice_index c.args.words.now) (length c.args.words.now) c.args.budget c.in_ok-rebuilt.rebuilt.stopped c.in_ok-rebuilt.rebuilt.words.items c.in_ok-rebuilt.ensures.ok
+    good_header (slice_index c.args.words.now) (length c.args.words.now)
+    c.args.budget c.in_ok-rebuilt.rebuilt.stopped c.in_ok-rebuilt.rebuilt.words.items c.in_ok-rebuilt.ensures.ok
 
 pub recover_inside-requires-clause-version : goal.recover_inside-requires-clause-version
 recover_inside-requires-clause-version g c = c.in_ok-rebuilt.ensures.ok.alike.formed.version_is

@@ -38,8 +38,10 @@ pub returns-in-Err-clause-ok : goal.returns-in-Err-clause-ok
 returns-in-Err-clause-ok g c =
     let v = view_of c.in_ok-memory.memory in
     let w = view_of c.rebuild-end.new.memory in
-    rebuilt_cut c.args.words.now c.args.heap.now.words c.args.heap.now.held c.requires c.args.budget c.in-Err.field-0.step c.now.inside.kept.items c.left_by_crash.result.items v w
-    (sym c.finish.ensures.durable ∙ sym (ap durable_words c.now.view_is)) c.in-Err.ensures.between (ap (λ (u : View). u.budget) c.in_ok-memory.ensures.ok)
+    rebuilt_cut c.args.words.now c.args.heap.now.words c.args.heap.now.held c.requires c.args.budget c.in-Err.field-0.step
+    c.now.inside.kept.items c.left_by_crash.result.items v w
+    (sym c.finish.ensures.durable ∙ sym (ap durable_words c.now.view_is)) c.in-Err.ensures.between
+    (ap (λ (u : View). u.budget) c.in_ok-memory.ensures.ok)
     (ap (λ (u : View). u.drawn) c.in_ok-memory.ensures.ok) (ap (λ (u : View). u.stopped) c.in_ok-memory.ensures.ok) c.in-Err.ensures.stopped
     c.in-Err.ensures.crash
     c.left_by_crash.ensures.image c.left_by_crash.ensures.long
@@ -66,7 +68,8 @@ returns-in-Ok-clause-asked g c =
       dealt = c.chance.new.self;
       given = c.chance.ensures;
       by_steps = left_done _ c.chance.result c.args.words.now c.args.heap.now.words c.now.inside.now.items c.args.heap.now.held c.args.budget
-          c.in_ok-memory.memory c.rebuild-end.new.memory c.requires (c.in_ok-memory.ensures.ok ∙ ap (λ (ws : List ℕ). opened ws c.args.budget) copied) c.in_ok-memory.ensures.chance c.in-Ok.ensures.steps c.in-Ok.ensures.ok
+          c.in_ok-memory.memory c.rebuild-end.new.memory c.requires (c.in_ok-memory.ensures.ok
+          ∙ ap (λ (ws : List ℕ). opened ws c.args.budget) copied) c.in_ok-memory.ensures.chance c.in-Ok.ensures.steps c.in-Ok.ensures.ok
           (ap volatile_words c.now.view_is ∙ c.finish.ensures.volatile);
       then_nothing = λ _. refl;
       then_words = λ e. absurd (cc);
@@ -79,12 +82,17 @@ returns-in-Err-clause-asked g c =
       chance = c.chance.result;
       dealt = c.chance.new.self;
       given = c.chance.ensures;
-      by_steps = left_cut _ c.chance.result c.args.words.now c.args.heap.now.words c.now.inside.kept.items c.left_by_crash.result.items c.args.heap.now.held
-          c.args.budget c.in-Err.field-0.step c.in_ok-memory.memory c.rebuild-end.new.memory c.requires (c.in_ok-memory.ensures.ok ∙ ap (λ (ws : List ℕ). opened ws c.args.budget) copied) c.in_ok-memory.ensures.chance c.in-Err.ensures.first_steps
+      by_steps = left_cut _ c.chance.result c.args.words.now c.args.heap.now.words c.now.inside.kept.items c.left_by_crash.result.items
+          c.args.heap.now.held
+          c.args.budget c.in-Err.field-0.step c.in_ok-memory.memory c.rebuild-end.new.memory c.requires (c.in_ok-memory.ensures.ok
+          ∙ ap (λ (ws : List ℕ). opened ws c.args.budget) copied) c.in_ok-memory.ensures.chance c.in-Err.ensures.first_steps
           (sym c.finish.ensures.durable ∙ sym (ap durable_words c.now.view_is))
-          (c.now.invariant ∙ ap (λ (ws : List ℕ). length ws) (ap volatile_words c.now.view_is ∙ c.finish.ensures.volatile) ∙ c.in-Err.ensures.between.count)
+          (c.now.invariant ∙ ap (λ (ws : List ℕ). length ws) (ap volatile_words c.now.view_is ∙ c.finish.ensures.volatile)
+          ∙ c.in-Err.ensures.between.count)
           c.left_by_crash.ensures.image c.left_by_crash.ensures.long;
       then_nothing = λ e. absurd (cc);
-      then_words = λ _. subst (λ n. GivesAll g.C.Chances.word_gives c.chance.new.self (map (slice_index c.left_by_crash.result.items) (transient_words n)) c.left_by_crash.new.chances)
-          (c.geometry-geometry.ensures ∙ capacity_new c.args.words.now c.args.heap.now.words c.args.heap.now.held c.requires) c.left_by_crash.ensures.drawn;
+      then_words = λ _. subst (λ n. GivesAll g.C.Chances.word_gives c.chance.new.self
+          (map (slice_index c.left_by_crash.result.items) (transient_words n)) c.left_by_crash.new.chances)
+          (c.geometry-geometry.ensures ∙ capacity_new c.args.words.now c.args.heap.now.words c.args.heap.now.held c.requires)
+          c.left_by_crash.ensures.drawn;
     }

@@ -12,5 +12,6 @@ returns-in-Ok-clause-inside c = none_outside c.args.words.items c.root_kinds.res
 
 pub returns-in-Err-Outside-clause-err : goal.returns-in-Err-Outside-clause-err
 returns-in-Err-Outside-clause-err c =
-    let outside = told_fault c.args.words.items c.root_kinds.result c.requires.version c.in-Err-Outside.field-0 _ _ c.in-Err-Outside.field-0-is c.in-Err-Outside.ensures.cause in
+    let outside = told_fault c.args.words.items c.root_kinds.result c.requires.version c.in-Err-Outside.field-0 _ _ c.in-Err-Outside.field-0-is
+    c.in-Err-Outside.ensures.cause in
     rw (c.in-Err-Outside.at-is, c.in-Err-Outside.value-is) outside

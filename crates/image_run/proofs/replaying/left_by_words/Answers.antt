@@ -12,11 +12,13 @@ returns-clause-same_reference g c =
 
 pub returns-clause-chances : goal.returns-clause-chances
 returns-clause-chances g c =
-    words_come (λ s. s.chances.now) (λ s. s.chances.ghost_name) g.C.Chances.chance_gives g.C.Chances.word_gives c.args.scramble.now.chances.now c.args.scramble.now c.image.new.scramble
+    words_come (λ s. s.chances.now) (λ s. s.chances.ghost_name) g.C.Chances.chance_gives g.C.Chances.word_gives c.args.scramble.now.chances.now
+    c.args.scramble.now c.image.new.scramble
     c.image.ensures.asked.0 unasked c.image.ensures.asked.1
 
 pub returns-clause-drawn : goal.returns-clause-drawn
 returns-clause-drawn g c =
     if_answer _ _ c.image.result c.image.ensures.drawn (λ left drawn k s stands.
-    words_given (λ s. s.chances.now) (λ s. s.chances.ghost_name) g.C.Chances.chance_gives g.C.Chances.word_gives c.args.scramble.now c.image.new.scramble
+    words_given (λ s. s.chances.now) (λ s. s.chances.ghost_name) g.C.Chances.chance_gives g.C.Chances.word_gives c.args.scramble.now
+    c.image.new.scramble
     (map (slice_index left.items) (transient_words k.capacity)) (drawn k s stands))

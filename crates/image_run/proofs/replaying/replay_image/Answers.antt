@@ -8,13 +8,15 @@ use Rattle.image_run.proofs.replaying.replay_image.Goals as goal
 pub last_answers-requires : goal.last_answers-requires
 last_answers-requires g c =
     let is = c.in_ok-replayed.ensures.replayed in
-    ap (λ (l : List _). length l) c.deref-2.ensures.value ∙ answered _ _ is.state _ _ is.runs ∙ ap (λ (l : List _). length (events_of l)) (sym c.deref.ensures.value)
+    ap (λ (l : List _). length l) c.deref-2.ensures.value ∙ answered _ _ is.state _ _ is.runs
+    ∙ ap (λ (l : List _). length (events_of l)) (sym c.deref.ensures.value)
 
 pub returns-clause-ok : goal.returns-clause-ok
 returns-clause-ok g c =
     let replayed = c.in_ok-replayed.replayed in
     let text_is : c.in_ok-text.text
-    ≡ answers_text_of (last_answers c.args.schedule.now.lines.items replayed.answers.items) ++ tickets_line_of replayed.tickets ++ c.in_ok-report.report = search rules in
+    ≡ answers_text_of (last_answers c.args.schedule.now.lines.items replayed.answers.items)
+    ++ tickets_line_of replayed.tickets ++ c.in_ok-report.report = search rules in
     record {
       answers = replayed.answers.items;
       tickets = replayed.tickets;

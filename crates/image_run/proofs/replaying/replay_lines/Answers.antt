@@ -16,7 +16,8 @@ of-requires-clause-owners g c =
     let seats = c.args.schedule.now.seats in
     let blocks_are = c.in_ok-owners.ensures.held ∙ ap (λ (bs : List _). replicate (length bs) 0) c.held.ensures.held in
     subst (λ (l : List ℕ). AreOwners held seats l c.in_ok-owners.owners.roots) (sym blocks_are)
-    (subst (λ (l : List ℕ). AreOwners held seats (replicate (length held) 0) l) (sym c.in_ok-owners.ensures.roots) (first_owns held seats c.requires.schedule.some))
+    (subst (λ (l : List ℕ). AreOwners held seats (replicate (length held) 0) l) (sym c.in_ok-owners.ensures.roots)
+    (first_owns held seats c.requires.schedule.some))
 
 pub replay-requires : goal.replay-requires
 replay-requires g c =
@@ -32,15 +33,18 @@ returns-clause-replayed g c =
     let lines = c.args.schedule.now.lines.items in
     let events_are : c.deref-2.result.now ≡ events_of lines = c.deref-2.ensures.value ∙ c.in_ok-events.ensures ∙ ap events_of c.deref.ensures.value in
     let blocks_are = c.in_ok-owners.ensures.held ∙ ap (λ (bs : List _). replicate (length bs) 0) c.held.ensures.held in
-    let end = ended c.args.heap.now.words c.args.heap.now.held c.args.schedule.now.seats lines _ _ c.deref-2.result.now _ _ _ blocks_are c.in_ok-owners.ensures.roots events_are c.in_ok-core.ensures.ok c.in_ok-answers.ensures.runs in
-    replayed c.args.heap.now.words c.args.heap.now.held c.args.schedule.now.seats lines _ _ _ _ end c.tickets-tickets.ensures c.in_ok-left.ensures.ok c.in_ok-left.ensures.length
+    let end = ended c.args.heap.now.words c.args.heap.now.held c.args.schedule.now.seats lines _ _ c.deref-2.result.now _ _ _ blocks_are
+    c.in_ok-owners.ensures.roots events_are c.in_ok-core.ensures.ok c.in_ok-answers.ensures.runs in
+    replayed c.args.heap.now.words c.args.heap.now.held c.args.schedule.now.seats lines _ _ _ _ end c.tickets-tickets.ensures
+    c.in_ok-left.ensures.ok c.in_ok-left.ensures.length
 
 pub returns-clause-drawn : goal.returns-clause-drawn
 returns-clause-drawn g c =
     let lines = c.args.schedule.now.lines.items in
     let events_are : c.deref-2.result.now ≡ events_of lines = c.deref-2.ensures.value ∙ c.in_ok-events.ensures ∙ ap events_of c.deref.ensures.value in
     let blocks_are = c.in_ok-owners.ensures.held ∙ ap (λ (bs : List _). replicate (length bs) 0) c.held.ensures.held in
-    let end = ended c.args.heap.now.words c.args.heap.now.held c.args.schedule.now.seats lines _ _ c.deref-2.result.now _ _ _ blocks_are c.in_ok-owners.ensures.roots events_are c.in_ok-core.ensures.ok c.in_ok-answers.ensures.runs in
+    let end = ended c.args.heap.now.words c.args.heap.now.held c.args.schedule.now.seats lines _ _ c.deref-2.result.now _ _ _ blocks_are
+    c.in_ok-owners.ensures.roots events_are c.in_ok-core.ensures.ok c.in_ok-answers.ensures.runs in
     let numbers = map (slice_index c.in_ok-left.left.items) (transient_words (capacity_of (slice_index c.args.heap.now.words))) in
     let drawn : GivesAll g.C.Chances.word_gives c.args.chances.now numbers c.left_by_words.new.scramble.chances.now =
     c.in_ok-left.ensures.drawn (replay_setup c.args.heap.now.words c.args.schedule.now.seats) end.0 end.2 in

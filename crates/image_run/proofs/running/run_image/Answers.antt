@@ -9,7 +9,8 @@ use Rattle.image_run.proofs.running.run_image.Goals as goal
 
 pub left_text-requires-clause-run : goal.left_text-requires-clause-run
 left_text-requires-clause-run g c =
-    can_be_run (slice_index c.args.mapped.words) (slice_index c.in_ok-outcome.outcome.image.items) _ _ _ _ _ c.requires.dictionary.maps c.in_ok-outcome.ensures.maps
+    can_be_run (slice_index c.args.mapped.words) (slice_index c.in_ok-outcome.outcome.image.items)
+    _ _ _ _ _ c.requires.dictionary.maps c.in_ok-outcome.ensures.maps
     c.in_ok-outcome.ensures.header c.in_ok-outcome.ensures.others
 
 pub returns-clause-ok : goal.returns-clause-ok

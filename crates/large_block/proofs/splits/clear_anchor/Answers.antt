@@ -8,7 +8,8 @@ use Rattle.large_block.proofs.SplitLemmas.{anchor_cleared, can_clear, clear_row,
 use Rattle.large_block.proofs.splits.clear_anchor.Goals as goal
 
 pub anchor-anchor-requires : goal.anchor-anchor-requires
-anchor-anchor-requires g c = subst (λ n. c.args.e < n) (sym (c.new.ensures ∙ c.capacity.ensures)) (split_inside c.args.seat.now.view c.recall_soundness.ensures c.args.e c.requires.split)
+anchor-anchor-requires g c = subst (λ n. c.args.e < n) (sym (c.new.ensures ∙ c.capacity.ensures))
+    (split_inside c.args.seat.now.view c.recall_soundness.ensures c.args.e c.requires.split)
 
 pub store_word-requires-clause-can : goal.store_word-requires-clause-can
 store_word-requires-clause-can g c =
@@ -17,18 +18,21 @@ store_word-requires-clause-can g c =
 
 pub returns-clause-cleared : goal.returns-clause-cleared
 returns-clause-cleared g c = let e = c.store_word.ensures.event in
-    anchor_cleared c.args.seat.now.view c.recall_soundness.ensures c.args.e c.requires.split c.draw.new.seat.view c.in_ok-draw.ensures.drawn c.store_word.new.self.view e.0
+    anchor_cleared c.args.seat.now.view c.recall_soundness.ensures c.args.e c.requires.split c.draw.new.seat.view c.in_ok-draw.ensures.drawn
+    c.store_word.new.self.view e.0
     (subst (λ (n : ℕ). IsEvent (Store n 0) c.draw.new.seat.view e.0 c.store_word.new.self.view) c.anchor-anchor.ensures e.1)
 
 pub returns-clause-row : goal.returns-clause-row
 returns-clause-row g c = let e = c.store_word.ensures.event in
-    clear_row c.args.seat.now c.draw.new.seat c.store_word.new.self c.recall_soundness.ensures c.args.e e.0 c.requires.split c.in_ok-draw.ensures.drawn c.draw.ensures.row
+    clear_row c.args.seat.now c.draw.new.seat c.store_word.new.self c.recall_soundness.ensures c.args.e e.0 c.requires.split
+    c.in_ok-draw.ensures.drawn c.draw.ensures.row
     (subst (λ (n : ℕ). IsEvent (Store n 0) c.draw.new.seat.view e.0 c.store_word.new.self.view) c.anchor-anchor.ensures e.1)
     (subst (λ (n : ℕ). HasNewStore n c.draw.new.seat c.store_word.new.self) c.anchor-anchor.ensures c.store_word.ensures.stores)
 
 pub returns-clause-losses : goal.returns-clause-losses
 returns-clause-losses g c = let e = c.store_word.ensures.event in
-    none_lost c.args.seat.now.view c.recall_soundness.ensures c.args.e c.requires.split c.draw.new.seat.view c.in_ok-draw.ensures.drawn c.store_word.new.self.view e.0
+    none_lost c.args.seat.now.view c.recall_soundness.ensures c.args.e c.requires.split c.draw.new.seat.view c.in_ok-draw.ensures.drawn
+    c.store_word.new.self.view e.0
     (subst (λ (n : ℕ). IsEvent (Store n 0) c.draw.new.seat.view e.0 c.store_word.new.self.view) c.anchor-anchor.ensures e.1)
 
 pub returns-clause-asked : goal.returns-clause-asked

@@ -18,13 +18,16 @@ block-held-requires-clause-held c = (
 pub returns-clause-count : goal.returns-clause-count
 returns-clause-count c =
     counted c.args.seat.now.view c.recall_soundness.ensures c.args.block c.requires.held c.block-held.result c.block-held.ensures.only
-    ∙ ap (λ (n : ℕ). span_count ((c.args.block - n) / 8192) c.args.seat.now.view.large) (sym (c.start-start.ensures ∙ ap (λ (n : ℕ). start_word n 0) (c.new.ensures ∙ c.capacity.ensures)))
+    ∙ ap (λ (n : ℕ). span_count ((c.args.block - n) / 8192) c.args.seat.now.view.large)
+    (sym (c.start-start.ensures ∙ ap (λ (n : ℕ). start_word n 0) (c.new.ensures ∙ c.capacity.ensures)))
 
 pub returns-clause-some : goal.returns-clause-some
-returns-clause-some c = let n = counted c.args.seat.now.view c.recall_soundness.ensures c.args.block c.requires.held c.block-held.result c.block-held.ensures.only in
+returns-clause-some c = let n = counted c.args.seat.now.view c.recall_soundness.ensures c.args.block c.requires.held c.block-held.result
+    c.block-held.ensures.only in
     let some = c.requires.held.held in omega arith
 
 pub returns-clause-inside : goal.returns-clause-inside
-returns-clause-inside c = let n = counted c.args.seat.now.view c.recall_soundness.ensures c.args.block c.requires.held c.block-held.result c.block-held.ensures.only in
+returns-clause-inside c = let n = counted c.args.seat.now.view c.recall_soundness.ensures c.args.block c.requires.held c.block-held.result
+    c.block-held.ensures.only in
     let inside = large_inside c.args.seat.now.view c.recall_soundness.ensures c.args.block c.requires.held in
     let start = c.start-start.ensures in let of = c.new.ensures in let at = c.capacity.ensures in omega arith

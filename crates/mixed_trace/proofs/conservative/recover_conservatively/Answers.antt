@@ -15,7 +15,8 @@ pub returns-clause-ok : goal.returns-clause-ok
 returns-clause-ok c =
     let words = current_without_kinds c.args.words.now in
     let modes = modes_of (replicate roots All) in
-    IfOk-weaker c.recover_mixed.result (IsMadeOf words (IsReachedMixed (slice_index words) modes no_links)) (IsMadeOf words (IsReachedByWords (slice_index words)))
+    IfOk-weaker c.recover_mixed.result (IsMadeOf words (IsReachedMixed (slice_index words) modes no_links))
+    (IsMadeOf words (IsReachedByWords (slice_index words)))
     (λ answer made. made_with words (IsReachedMixed (slice_index words) modes no_links) (IsReachedByWords (slice_index words)) answer
     (reached_alike (slice_index words) modes (λ root. All) no_links no_links none_has_filter (record { each = λ root below. refl }))
     (reached_alike (slice_index words) (λ root. All) modes no_links no_links (record { each = λ root below. refl }) none_has_filter) made)

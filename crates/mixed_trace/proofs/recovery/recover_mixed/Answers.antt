@@ -14,7 +14,8 @@ recover_current-requires-clause-formed g c =
     let count : length kinds ≡ roots = length-map c.args.modes.now stored_kind ∙ c.requires.roots in
     let is : c.in_ok-current.current.items ≡ words_by_modes c.args.words.now c.args.modes.now
     = c.in_ok-current.ensures.ok ∙ ap (λ ks. current_words c.args.words.now ks) (c.deref.ensures.value ∙ c.in_ok-kinds.ensures.ok) in
-    subst (λ (l : List ℕ). IsWellFormed (8 * length l) (slice_index l)) (sym is) (current_formed None c.args.words.now kinds count c.in_ok-header.ensures.good)
+    subst (λ (l : List ℕ). IsWellFormed (8 * length l) (slice_index l)) (sym is)
+    (current_formed None c.args.words.now kinds count c.in_ok-header.ensures.good)
 
 pub returns-clause-formed : goal.returns-clause-formed
 returns-clause-formed g c =

@@ -22,5 +22,6 @@ returns g c =
     let chain = rw (c.map.ensures.base, c.map.ensures.f, c.with_min_len.ensures.base) at given.1 in
     let places = chain.1 ∙ (λ i. nat_range (ends.0 i) (ends.1 i)) ∙ ap (range_with_len 0) whole in
     record {
-      ok = all_given (layout_of (slice_index c.args.words.now)) c.args.marks.now.pairs c.args.used chain.0 places given.0 chain.2 c.in_ok-collect.field-0 given.2;
+      ok = all_given (layout_of (slice_index c.args.words.now)) c.args.marks.now.pairs c.args.used chain.0 places given.0 chain.2
+          c.in_ok-collect.field-0 given.2;
     }

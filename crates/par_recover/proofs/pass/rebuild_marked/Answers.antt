@@ -30,7 +30,8 @@ rebuild_superblock-requires-clause-info g c =
     let kept = IsMarked c.args.marks.now.pairs in
     let survey = c.in_ok-survey.survey in
     subst (λ info. HasInfo info survey.role)
-    (sym (done_info old (slice_index c.loop-d.words) kept c.loop-d.d c.loop-d.held.items c.loop-d.roles.items (let used = c.requires.1.0.used in omega arith) c.loop-d.invariant.0))
+    (sym (done_info old (slice_index c.loop-d.words) kept c.loop-d.d c.loop-d.held.items c.loop-d.roles.items (let used = c.requires.1.0.used in
+    omega arith) c.loop-d.invariant.0))
     (role_spares old kept c.loop-d.d survey.role survey.spares.items c.in_ok-survey.ensures.ok.role).1
 
 pub rebuild_superblock-requires-clause-spares : goal.rebuild_superblock-requires-clause-spares
@@ -51,7 +52,8 @@ loop-d-preserved g c =
     let survey = c.in_ok-survey.survey in
     let found = c.in_ok-survey.ensures.ok in
     let rebuilt = subst (λ n. IsRebuiltAs mid new n c.loop-d.d survey.role survey.spares.items) c.requires.1.1.0
-    (subst (λ xs. IsRebuiltAs mid new c.args.geometry.now.capacity c.loop-d.d survey.role xs) c.deref-in-loop-d.ensures.value c.rebuild_superblock.ensures) in
+    (subst (λ xs. IsRebuiltAs mid new c.args.geometry.now.capacity c.loop-d.d survey.role xs)
+    c.deref-in-loop-d.ensures.value c.rebuild_superblock.ensures) in
     let next = done_next old mid new kept c.loop-d.d c.loop-d.held.items survey.held.items c.loop-d.roles.items survey.role survey.spares.items
     (let used = c.requires.1.0.used in omega arith) c.loop-d.invariant.0 found.role found.in_order rebuilt in
     let held = c.in_ok-extend_from_slice.ensures.items ∙ ap (λ xs. c.loop-d.held.items ++ xs) c.deref-in-loop-d-2.ensures.value in (
@@ -67,12 +69,29 @@ survey_marked-requires g c =
     let info = done_info g.image (slice_index c.loop-d.words) (IsMarked pairs) c.loop-d.d c.loop-d.held.items c.loop-d.roles.items
     (let used = c.requires.1.0.used in omega arith) c.loop-d.invariant.0 in
     let tells = subst (TellsMarked l pairs c.loop-d.d) (sym c.deref.ensures.value)
-    (subst (λ (v : Vec Bool Global). TellsMarked l pairs c.loop-d.d v.items) (sym c.index-marked-d.is) (c.requires.1.1.1.1.1.1.0.each c.loop-d.d c.index-marked-d.result (omega arith))) in
-    (c.requires.1.1.0, (ap (slice_index c.loop-d.words) c.info.ensures ∙ info, (c.requires.1.1.1.0, (omega arith, (omega (arith, c.requires.1.0.used), (c.requires.1.1.1.1.0, (c.loop-d.invariant.1, (c.requires.1.1.1.1.1.0, tells))))))))
+    (subst (λ (v : Vec Bool Global). TellsMarked l pairs c.loop-d.d v.items) (sym c.index-marked-d.is)
+    (c.requires.1.1.1.1.1.1.0.each c.loop-d.d c.index-marked-d.result (omega arith))) in (
+      c.requires.1.1.0,
+      (
+        ap (slice_index c.loop-d.words) c.info.ensures
+            ∙ info,
+        (
+          c.requires.1.1.1.0,
+          (
+            omega arith,
+            (
+              omega (arith, c.requires.1.0.used),
+              (c.requires.1.1.1.1.0, (c.loop-d.invariant.1, (c.requires.1.1.1.1.1.0, tells))),
+            ),
+          ),
+        ),
+      ),
+    )
 
 pub returns : goal.returns
 returns g c =
     let all : c.loop-d.d ≡ c.args.used = omega arith in
     record {
-      ok = subst (λ n. AreDone g.image (slice_index c.loop-d.words) (IsMarked c.args.marks.now.pairs) n c.loop-d.held.items c.loop-d.roles.items) all c.loop-d.invariant.0;
+      ok = subst (λ n. AreDone g.image (slice_index c.loop-d.words) (IsMarked c.args.marks.now.pairs)
+          n c.loop-d.held.items c.loop-d.roles.items) all c.loop-d.invariant.0;
     }

@@ -13,7 +13,8 @@ trace-requires-clause-kinds g c =
 
 pub returns-in_err-marks-clause-cause : goal.returns-in_err-marks-clause-cause
 returns-in_err-marks-clause-cause g c =
-    let told = tells_stored (slice_index c.args.words.now) (slice_index c.kinds-stored.result) (g.F.Filter.links_of c.args.filter.now) c.kinds-stored.ensures
+    let told = tells_stored (slice_index c.args.words.now) (slice_index c.kinds-stored.result)
+    (g.F.Filter.links_of c.args.filter.now) c.kinds-stored.ensures
     c.in_err-marks.field-0.0 c.in_err-marks.ensures.err in
     let p = err_from_is_err_and c.from_residual.result c.from_residual.ensures.1 in
     rw (p.1, p.2) told
@@ -26,4 +27,5 @@ returns-clause-ok g c =
 pub returns-clause-none : goal.returns-clause-none
 returns-clause-none g c at out =
     c.in_ok-marks.ensures.none at
-    (outside_traced (slice_index c.args.words.now) (slice_index c.kinds-stored.result) (g.F.Filter.links_of c.args.filter.now) c.kinds-stored.ensures at out)
+    (outside_traced (slice_index c.args.words.now) (slice_index c.kinds-stored.result)
+    (g.F.Filter.links_of c.args.filter.now) c.kinds-stored.ensures at out)

@@ -22,14 +22,16 @@ loop-index-preserved g c =
     elim c.if-marked-index.branch [
       | then-marked-index+in_ok-push w ↦
           let here = marked_if g.layout pairs d at block _ indexed says w.if-marked-index.true in
-          let one = parted_held kept capacity class d c.args.class.is at c.loop-index.held.items c.loop-index.spares.items block c.block_at-block.ensures here c.loop-index.invariant in
+          let one = parted_held kept capacity class d c.args.class.is at c.loop-index.held.items c.loop-index.spares.items block
+          c.block_at-block.ensures here c.loop-index.invariant in
           let held = ap (λ v. v.items) w.held-is ∙ w.in_ok-push.ensures.items in
           let spares = ap (λ v. v.items) w.spares-is in
           subst (λ xs. AreParted kept capacity class d (at + 1) xs c.if-marked-index.spares.items) (sym held)
           (subst (λ xs. AreParted kept capacity class d (at + 1) (c.loop-index.held.items ++ block ∷ []) xs) (sym spares) one)
       | else-marked-index+in_ok-push-2 w ↦
           let unkept = unmarked_if g.layout pairs d at block _ indexed says w.if-marked-index.false in
-          let one = parted_spare kept capacity class d c.args.class.is at c.loop-index.held.items c.loop-index.spares.items block c.block_at-block.ensures unkept c.loop-index.invariant in
+          let one = parted_spare kept capacity class d c.args.class.is at c.loop-index.held.items c.loop-index.spares.items block
+          c.block_at-block.ensures unkept c.loop-index.invariant in
           let held = ap (λ v. v.items) w.held-is in
           let spares = ap (λ v. v.items) w.spares-is ∙ w.in_ok-push-2.ensures.items in
           subst (λ xs. AreParted kept capacity class d (at + 1) xs c.if-marked-index.spares.items) (sym held)
@@ -40,5 +42,6 @@ pub returns : goal.returns
 returns g c =
     let all : c.loop-index.index ≡ blocks_of c.args.class.number = omega (arith, c.blocks_of-index-end.ensures) in
     record {
-      ok = subst (λ n. AreParted (IsMarked c.args.marks.now.pairs) c.args.geometry.now.capacity c.args.class.number c.args.d n c.loop-index.held.items c.loop-index.spares.items) all c.loop-index.invariant;
+      ok = subst (λ n. AreParted (IsMarked c.args.marks.now.pairs) c.args.geometry.now.capacity c.args.class.number c.args.d n
+          c.loop-index.held.items c.loop-index.spares.items) all c.loop-index.invariant;
     }

@@ -17,7 +17,8 @@ loop-at-preserved g c =
     let count = c.loop-at.invariant.2 in let long = c.push_reserved.ensures.len in
     let room = c.loop-at.invariant.3 in let kept = c.push_reserved.ensures.capacity in (
       more_given c.args.owners.now.items c.loop-at.at inside c.loop-at.invariant.0 c.another_at-pass.ensures.changed,
-      more_handed c.args.owners.now.items c.loop-at.at c.another_at-pass.result {next = c.push_reserved.new.self.items} inside c.loop-at.invariant.0 c.loop-at.invariant.1
+      more_handed c.args.owners.now.items c.loop-at.at c.another_at-pass.result {next =
+          c.push_reserved.new.self.items} inside c.loop-at.invariant.0 c.loop-at.invariant.1
           c.another_at-pass.ensures.pass c.push_reserved.ensures.items,
       omega (arith, count, long),
       omega (arith, room, kept),

@@ -42,7 +42,8 @@ returns-in_default c =
     let class = c.args.class.number in
     let from = block_word c.args.geometry.now.capacity class c.args.d c.args.anchor.now.first in
     record {
-      ok = chain_never (slice_index c.args.words.now) c.args.geometry.now.capacity class c.args.d from c.args.class.is c.args.anchor.now.first c.loop-count._count c.loop-count.next c.args.anchor.now.count c.loop-count.marks
+      ok = chain_never (slice_index c.args.words.now) c.args.geometry.now.capacity class c.args.d from c.args.class.is c.args.anchor.now.first
+          c.loop-count._count c.loop-count.next c.args.anchor.now.count c.loop-count.marks
           refl c.loop-count.invariant c.loop-count-test.true (λ index below at unmarked. c.in_default.ensures.none index below at);
     }
 
@@ -53,7 +54,8 @@ returns-then-get c =
     let from = block_word capacity class c.args.d c.args.anchor.now.first in
     let here = c.in-Some.ensures.some in
     record {
-      ok = chain_never (slice_index c.args.words.now) capacity class c.args.d from c.args.class.is c.args.anchor.now.first c.loop-count._count c.loop-count.next c.args.anchor.now.count c.loop-count.marks
+      ok = chain_never (slice_index c.args.words.now) capacity class c.args.d from c.args.class.is c.args.anchor.now.first c.loop-count._count
+          c.loop-count.next c.args.anchor.now.count c.loop-count.marks
           refl c.loop-count.invariant c.loop-count-test.true (λ index below at unmarked.
           let same = one_index capacity class c.args.d index c.in-Some.index c.args.class.is (sym at ∙ here.1) in
           false≢true (sym unmarked ∙ ap (λ k. get_or c.loop-count.marks k false) same ∙ sym c.get.ensures ∙ c.if-get.true));
@@ -62,7 +64,9 @@ returns-then-get c =
 pub bounds-words-next : goal.bounds-words-next
 bounds-words-next c =
     let here = c.in-Some.ensures.some in
-    let inside = block_inside c.args.words.now c.args.geometry.now.capacity (used_of (slice_index c.args.words.now)) c.args.class.number c.args.d c.in-Some.index c.requires.readable c.args.class.is c.requires.superblock here.0 in
+    let inside = block_inside c.args.words.now c.args.geometry.now.capacity
+    (used_of (slice_index c.args.words.now)) c.args.class.number c.args.d c.in-Some.index c.requires.readable c.args.class.is
+    c.requires.superblock here.0 in
     let at = here.1 in
     let low = inside.0 in
     omega arith
@@ -70,7 +74,9 @@ bounds-words-next c =
 pub offset_bounds-words-next : goal.offset_bounds-words-next
 offset_bounds-words-next c =
     let here = c.in-Some.ensures.some in
-    let inside = block_inside c.args.words.now c.args.geometry.now.capacity (used_of (slice_index c.args.words.now)) c.args.class.number c.args.d c.in-Some.index c.requires.readable c.args.class.is c.requires.superblock here.0 in
+    let inside = block_inside c.args.words.now c.args.geometry.now.capacity
+    (used_of (slice_index c.args.words.now)) c.args.class.number c.args.d c.in-Some.index c.requires.readable c.args.class.is
+    c.requires.superblock here.0 in
     let at = here.1 in
     let low = inside.1 in
     omega arith
@@ -80,8 +86,10 @@ loop-count-preserved c =
     let class = c.args.class.number in
     let from = block_word c.args.geometry.now.capacity class c.args.d c.args.anchor.now.first in
     let here = c.in-Some.ensures.some in
-    chain_push (slice_index c.args.words.now) c.args.geometry.now.capacity class c.args.d from c.args.class.is c.loop-count._count c.loop-count.next c.in-Some.index
-    (slice_index c.args.words.now c.loop-count.next) c.loop-count.marks c.set.new.self c.loop-count.invariant here.0 here.1 (sym c.get.ensures ∙ c.if-get.false) c.set.ensures refl
+    chain_push (slice_index c.args.words.now) c.args.geometry.now.capacity class c.args.d from c.args.class.is c.loop-count._count
+    c.loop-count.next c.in-Some.index
+    (slice_index c.args.words.now c.loop-count.next) c.loop-count.marks c.set.new.self c.loop-count.invariant here.0 here.1 (sym c.get.ensures
+    ∙ c.if-get.false) c.set.ensures refl
 
 pub returns : goal.returns
 returns c =
@@ -91,6 +99,7 @@ returns c =
     let fewer = c.if-anchor-blocks.false in
     let blocks = c.blocks_of-blocks.ensures in
     record {
-      ok = chain_end (slice_index c.args.words.now) c.args.geometry.now.capacity class c.args.d from c.args.class.is c.args.anchor.now.first c.loop-count._count c.loop-count.next c.args.anchor.now.count c.loop-count.marks
+      ok = chain_end (slice_index c.args.words.now) c.args.geometry.now.capacity class c.args.d from c.args.class.is c.args.anchor.now.first
+          c.loop-count._count c.loop-count.next c.args.anchor.now.count c.loop-count.marks
           refl c.loop-count.invariant (omega arith) (omega arith) (omega arith);
     }

@@ -20,7 +20,8 @@ returns-in-None c =
     } in
     record {
       ok = no_anchor image capacity class c.args.d anchor.first anchor.count c.requires.readable.capacity_is word
-          (subst (λ o. MatchOption o (HasNoChain image capacity class c.args.d anchor.first anchor.count) (HasChain image capacity class c.args.d anchor.first anchor.count)) c.in-None.is c.in_ok-marks-in-Partial.ensures.ok);
+          (subst (λ o. MatchOption o (HasNoChain image capacity class c.args.d anchor.first anchor.count)
+          (HasChain image capacity class c.args.d anchor.first anchor.count)) c.in-None.is c.in_ok-marks-in-Partial.ensures.ok);
     }
 
 pub returns-in-Some-2 : goal.returns-in-Some-2
@@ -37,5 +38,6 @@ returns-in-Some-2 c =
     } in
     record {
       ok = told_by_chain image capacity class c.args.d anchor.first anchor.count c.requires.readable.capacity_is word c.in-Some-2.marks
-          (subst (λ o. MatchOption o (HasNoChain image capacity class c.args.d anchor.first anchor.count) (HasChain image capacity class c.args.d anchor.first anchor.count)) c.in-Some-2.is c.in_ok-marks-in-Partial.ensures.ok);
+          (subst (λ o. MatchOption o (HasNoChain image capacity class c.args.d anchor.first anchor.count)
+          (HasChain image capacity class c.args.d anchor.first anchor.count)) c.in-Some-2.is c.in_ok-marks-in-Partial.ensures.ok);
     }

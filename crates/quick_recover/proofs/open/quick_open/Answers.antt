@@ -14,7 +14,8 @@ open_current-requires-clause-formed g c = subst (λ (l : List ℕ). IsWellFormed
 pub open_current-requires-clause-below : goal.open_current-requires-clause-below
 open_current-requires-clause-below g c = subst (λ (l : List ℕ). HasKindsBelow (Some g.F.Filter.KINDS) (slice_index l)) (sym c.in_ok-current.ensures.ok)
     (current_below (Some g.F.Filter.KINDS) c.args.words.now c.args.kinds.now c.requires.roots
-    (subst (λ k. HasGoodHeader (Some k) (8 * length c.args.words.now) (slice_index c.args.words.now)) c.KINDS.ensures c.in_ok-header.ensures.good) c.requires.kinds)
+    (subst (λ k. HasGoodHeader (Some k) (8 * length c.args.words.now) (slice_index c.args.words.now))
+    c.KINDS.ensures c.in_ok-header.ensures.good) c.requires.kinds)
 
 pub returns-clause-formed : goal.returns-clause-formed
 returns-clause-formed g c =
@@ -23,5 +24,6 @@ returns-clause-formed g c =
     grind (arith, common_steps, formed)
 
 pub returns-in_err-header-clause-sure : goal.returns-in_err-header-clause-sure
-returns-in_err-header-clause-sure g c = λ good orderly. absurd (not_refused c.in_err-header.field-0.0 (Some g.F.Filter.KINDS) (8 * length c.args.words.now) (slice_index c.args.words.now) good
+returns-in_err-header-clause-sure g c = λ good orderly. absurd (not_refused c.in_err-header.field-0.0 (Some g.F.Filter.KINDS)
+    (8 * length c.args.words.now) (slice_index c.args.words.now) good
     (c.in_err-header.ensures.cause ∙ ap (λ k. header_fault (Some k) (8 * length c.args.words.now) (slice_index c.args.words.now)) c.KINDS.ensures))

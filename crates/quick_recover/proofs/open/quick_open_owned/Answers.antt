@@ -16,16 +16,19 @@ pub open_current-requires-clause-below : goal.open_current-requires-clause-below
 open_current-requires-clause-below g c = subst (λ (l : List ℕ). HasKindsBelow (Some g.F.Filter.KINDS) (slice_index l)) (sym c.in_ok-current.ensures.ok)
     (current_below (Some g.F.Filter.KINDS) c.args.words.items c.args.kinds.now c.requires.roots
     (subst (λ (l : List ℕ). HasGoodHeader (Some g.F.Filter.KINDS) (8 * length l) (slice_index l)) c.deref.ensures.value
-    (subst (λ k. HasGoodHeader (Some k) (8 * length c.deref.result.now) (slice_index c.deref.result.now)) c.KINDS.ensures c.in_ok-header.ensures.good)) c.requires.kinds)
+    (subst (λ k. HasGoodHeader (Some k) (8 * length c.deref.result.now) (slice_index c.deref.result.now))
+    c.KINDS.ensures c.in_ok-header.ensures.good)) c.requires.kinds)
 
 pub returns-clause-formed : goal.returns-clause-formed
 returns-clause-formed g c =
     let formed = current_formed (Some g.F.Filter.KINDS) c.args.words.items c.args.kinds.now c.requires.roots
     (subst (λ (l : List ℕ). HasGoodHeader (Some g.F.Filter.KINDS) (8 * length l) (slice_index l)) c.deref.ensures.value
-    (subst (λ k. HasGoodHeader (Some k) (8 * length c.deref.result.now) (slice_index c.deref.result.now)) c.KINDS.ensures c.in_ok-header.ensures.good)) in
+    (subst (λ k. HasGoodHeader (Some k) (8 * length c.deref.result.now) (slice_index c.deref.result.now))
+    c.KINDS.ensures c.in_ok-header.ensures.good)) in
     grind (arith, common_steps, formed)
 
 pub returns-in_err-header-clause-sure : goal.returns-in_err-header-clause-sure
-returns-in_err-header-clause-sure g c = λ good orderly. absurd (not_refused c.in_err-header.field-0.0 (Some g.F.Filter.KINDS) (8 * length c.args.words.items) (slice_index c.args.words.items) good
+returns-in_err-header-clause-sure g c = λ good orderly. absurd (not_refused c.in_err-header.field-0.0 (Some g.F.Filter.KINDS)
+    (8 * length c.args.words.items) (slice_index c.args.words.items) good
     (c.in_err-header.ensures.cause ∙ ap (λ k. header_fault (Some k) (8 * length c.deref.result.now) (slice_index c.deref.result.now)) c.KINDS.ensures
     ∙ ap (λ (l : List ℕ). header_fault (Some g.F.Filter.KINDS) (8 * length l) (slice_index l)) c.deref.ensures.value))

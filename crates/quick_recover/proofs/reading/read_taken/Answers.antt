@@ -5,7 +5,8 @@ use Rattle.quick_recover.proofs.TakenLemmas.{read_none, read_next, read_all}
 use Rattle.quick_recover.proofs.reading.read_taken.Goals as goal
 
 pub loop-d-init : goal.loop-d-init
-loop-d-init c = read_none (slice_index c.args.words.now) c.new-held.result.items c.new-roles.result.items c.new-held.ensures.items c.new-roles.ensures.items
+loop-d-init c = read_none (slice_index c.args.words.now) c.new-held.result.items c.new-roles.result.items c.new-held.ensures.items
+    c.new-roles.ensures.items
 
 pub loop-d-preserved : goal.loop-d-preserved
 loop-d-preserved c =
@@ -20,5 +21,6 @@ loop-d-preserved c =
 pub returns : goal.returns
 returns c = record {
   ok = read_all (slice_index c.args.words.now) c.loop-d.d c.loop-d.end c.loop-d.held.items c.loop-d.roles.items c.args.free.now
-      (let past = c.loop-d-test.false in let used = c.requires.readable.used_is in omega arith) c.requires.listed c.requires.untouched c.loop-d.invariant;
+      (let past = c.loop-d-test.false in let used = c.requires.readable.used_is in
+      omega arith) c.requires.listed c.requires.untouched c.loop-d.invariant;
 }

@@ -23,19 +23,22 @@ members-requires c =
 pub new-requires : goal.new-requires
 new-requires c =
     let words = c.write_words.new.words in
-    let left = subst (λ (l : List ℕ). IsReopened (slice_index l) (slice_index words) (IsHeldByAnchors (slice_index l))) c.deref_mut.ensures.value c.in_ok-write_words.ensures.ok in
+    let left = subst (λ (l : List ℕ). IsReopened (slice_index l) (slice_index words) (IsHeldByAnchors (slice_index l)))
+    c.deref_mut.ensures.value c.in_ok-write_words.ensures.ok in
     let kept = c.write_words.auto.words in
     let all : c.args.words.len ≡ length words = let long = c.args.words.ok.0 in omega (arith, ap length c.deref_mut.ensures.value) in
     let held = c.args.found.held.items in
     subst (λ ws. IsReady ws held) (sym (written_back words c.args.words.items c.args.words.len all))
-    (reopened_ready c.args.words.items words held c.args.found.roles.items c.requires.formed (omega (arith, ap length c.deref_mut.ensures.value)) c.requires.told.have c.requires.told.in_order left)
+    (reopened_ready c.args.words.items words held c.args.found.roles.items c.requires.formed
+    (omega (arith, ap length c.deref_mut.ensures.value)) c.requires.told.have c.requires.told.in_order left)
 
 pub returns : goal.returns
 returns c =
     let old = slice_index c.args.words.items in
     let words = c.write_words.new.words in
     let roles = c.args.found.roles.items in
-    let reopened = subst (λ (l : List ℕ). IsReopened (slice_index l) (slice_index words) (IsHeldByAnchors (slice_index l))) c.deref_mut.ensures.value c.in_ok-write_words.ensures.ok in
+    let reopened = subst (λ (l : List ℕ). IsReopened (slice_index l) (slice_index words) (IsHeldByAnchors (slice_index l)))
+    c.deref_mut.ensures.value c.in_ok-write_words.ensures.ok in
     let kept = c.write_words.auto.words in
     let all : c.args.words.len ≡ length words = let long = c.args.words.ok.0 in omega (arith, ap length c.deref_mut.ensures.value) in
     let same_length : length words ≡ length c.args.words.items = omega (arith, ap length c.deref_mut.ensures.value) in

@@ -16,6 +16,7 @@ returns c =
     let are_listed = subst (λ n. AreListed written (slice_index words) n roles lists) c.new-geometry.ensures c.in_ok-link_lists.ensures.ok in
     record {
       ok = reopened old written (slice_index words) (slice_index (set words 3 2)) roles c.requires.formed.used c.requires.roles are_written are_listed
-          (get_or-set_same words 3 2 0 (let long = c.requires.formed.length_is in let first = c.write_descriptors.auto.words in let second = c.link_lists.auto.words in omega arith))
+          (get_or-set_same words 3 2 0 (let long = c.requires.formed.length_is in let first = c.write_descriptors.auto.words in
+          let second = c.link_lists.auto.words in omega arith))
           (λ word other. get_or-set_other words 3 word 2 0 other);
     }

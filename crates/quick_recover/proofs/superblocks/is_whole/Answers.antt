@@ -4,13 +4,14 @@ use Rattle.heap_model.specs.Geometry.{info_word}
 use Rattle.quick_recover.proofs.superblocks.is_whole.Goals as goal
 
 pub loop-e-preserved : goal.loop-e-preserved
-loop-e-preserved c = λ i low high. elim (cases_lt i c.loop-e.e) as (λ _. (slice_index c.args.words.now (info_word i) ≡ 0) × (get_or c.args.free.now i false ≡ false)) [
-  | inl before ↦ c.loop-e.invariant i low before
-  | inr past ↦
-      let same : c.loop-e.e ≡ i = omega arith in
-      subst (λ k. (slice_index c.args.words.now (info_word k) ≡ 0) × (get_or c.args.free.now k false ≡ false)) same
-      (ap (slice_index c.args.words.now) (sym c.info.ensures) ∙ c.if-words-info-ne0.false, sym c.get.ensures ∙ c.if-get.false)
-]
+loop-e-preserved c = λ i low high. elim (cases_lt i c.loop-e.e) as (λ _. (slice_index c.args.words.now (info_word i) ≡ 0)
+    × (get_or c.args.free.now i false ≡ false)) [
+      | inl before ↦ c.loop-e.invariant i low before
+      | inr past ↦
+          let same : c.loop-e.e ≡ i = omega arith in
+          subst (λ k. (slice_index c.args.words.now (info_word k) ≡ 0) × (get_or c.args.free.now k false ≡ false)) same
+          (ap (slice_index c.args.words.now) (sym c.info.ensures) ∙ c.if-words-info-ne0.false, sym c.get.ensures ∙ c.if-get.false)
+    ]
 
 pub returns : goal.returns
 returns c = (

@@ -17,17 +17,22 @@ loop-index-preserved g c =
     let next = c.loop-index.index + 1 in
     elim c.if-get.branch [
       | then-get+in_ok-push w ↦
-          let away = marked_free g.image out.free class.number c.args.d c.args.free.now out.is class.is c.requires.1.1.1.0 c.loop-index.index block of c.requires.1.1.1.1 (sym c.get.ensures ∙ w.if-get.true) in
-          let one = parted_spare kept c.args.geometry.now.capacity class.number c.args.d class.is c.loop-index.index c.loop-index.held.items c.loop-index.spares.items block c.block_at-block.ensures away c.loop-index.invariant in
+          let away = marked_free g.image out.free class.number c.args.d c.args.free.now out.is class.is c.requires.1.1.1.0 c.loop-index.index
+          block of c.requires.1.1.1.1 (sym c.get.ensures ∙ w.if-get.true) in
+          let one = parted_spare kept c.args.geometry.now.capacity class.number c.args.d class.is c.loop-index.index c.loop-index.held.items
+          c.loop-index.spares.items block c.block_at-block.ensures away c.loop-index.invariant in
           let held = ap (λ v. v.items) w.held-is in
           let spares = ap (λ v. v.items) w.spares-is ∙ w.in_ok-push.ensures.items in
           subst (λ xs. AreParted kept c.args.geometry.now.capacity class.number c.args.d next xs c.if-get.spares.items) (sym held)
           (subst (λ xs. AreParted kept c.args.geometry.now.capacity class.number c.args.d next c.loop-index.held.items xs) (sym spares) one)
       | else-get+in_ok-push-2 w ↦
-          let here = unmarked_held g.image out.free class.number c.args.d c.args.free.now out.is class.is c.requires.1.1.1.0 c.loop-index.index block of c.requires.1.1.1.1 (sym c.get.ensures ∙ w.if-get.false) in
-          let one = parted_held kept c.args.geometry.now.capacity class.number c.args.d class.is c.loop-index.index c.loop-index.held.items c.loop-index.spares.items block c.block_at-block.ensures here c.loop-index.invariant in
+          let here = unmarked_held g.image out.free class.number c.args.d c.args.free.now out.is class.is c.requires.1.1.1.0 c.loop-index.index
+          block of c.requires.1.1.1.1 (sym c.get.ensures ∙ w.if-get.false) in
+          let one = parted_held kept c.args.geometry.now.capacity class.number c.args.d class.is c.loop-index.index c.loop-index.held.items
+          c.loop-index.spares.items block c.block_at-block.ensures here c.loop-index.invariant in
           let held = ap (λ v. v.items) w.held-is ∙ w.in_ok-push-2.ensures.items in
           let spares = ap (λ v. v.items) w.spares-is in
           subst (λ xs. AreParted kept c.args.geometry.now.capacity class.number c.args.d next xs c.if-get.spares.items) (sym held)
-          (subst (λ xs. AreParted kept c.args.geometry.now.capacity class.number c.args.d next (c.loop-index.held.items ++ block ∷ []) xs) (sym spares) one)
+          (subst (λ xs. AreParted kept c.args.geometry.now.capacity class.number c.args.d next (c.loop-index.held.items ++ block ∷ []) xs)
+          (sym spares) one)
     ]

@@ -17,7 +17,8 @@ returns-in-None g c =
     let class = c.args.class.number in
     record {
       ok = subst (λ (i : Image). HasOrderlyAnchor i class c.args.d → ⊥) c.requires.0
-          (subst (λ o. MatchOption o (HasOrderlyAnchor image class c.args.d → ⊥) (TellsFree image class c.args.d)) c.in-None.is c.in_ok-free_blocks.ensures.ok);
+          (subst (λ o. MatchOption o (HasOrderlyAnchor image class c.args.d → ⊥) (TellsFree image class c.args.d))
+          c.in-None.is c.in_ok-free_blocks.ensures.ok);
     }
 
 pub returns-in-Some-All : goal.returns-in-Some-All
@@ -26,7 +27,8 @@ returns-in-Some-All g c =
     let class = c.args.class.number in
     let survey = c.without_blocks in
     let empty = subst (λ (i : Image). anchor_state (i (anchor_word c.args.d)) ≡ empty_state) c.requires.0
-    (subst (λ o. MatchOption o (HasOrderlyAnchor image class c.args.d → ⊥) (TellsFree image class c.args.d)) (c.in-Some-All.is ∙ ap Some c.in-Some-All.field-0-is) c.in_ok-free_blocks.ensures.ok) in
+    (subst (λ o. MatchOption o (HasOrderlyAnchor image class c.args.d → ⊥) (TellsFree image class c.args.d)) (c.in-Some-All.is
+    ∙ ap Some c.in-Some-All.field-0-is) c.in_ok-free_blocks.ensures.ok) in
     record {
       ok = read_empty g.image c.args.d c.args.end c.requires.1.1.1.1 c.args.class survey.result c.requires.1.1.0.is.taken c.requires.1.1.1.0 empty
           survey.ensures.role survey.ensures.held survey.ensures.spares survey.ensures.end;
@@ -39,10 +41,13 @@ returns-in_ok-parts-in-Some-Marked g c =
     let parts = c.in_ok-parts-in-Some-Marked.parts in
     let survey = c.survey_parts in
     let told = subst (λ (i : Image). IsToldBy i class.number c.args.d c.in-Some-Marked.marks) c.requires.0
-    (subst (λ o. MatchOption o (HasOrderlyAnchor image class.number c.args.d → ⊥) (TellsFree image class.number c.args.d)) (c.in-Some-Marked.is ∙ ap Some c.in-Some-Marked.field-0-is) c.in_ok-free_blocks.ensures.ok) in
+    (subst (λ o. MatchOption o (HasOrderlyAnchor image class.number c.args.d → ⊥) (TellsFree image class.number c.args.d)) (c.in-Some-Marked.is
+    ∙ ap Some c.in-Some-Marked.field-0-is) c.in_ok-free_blocks.ensures.ok) in
     let capacity = c.requires.1.0.capacity_is ∙ ap capacity_of c.requires.0 in
     record {
-      ok = read_parts g.image c.args.d c.args.end c.requires.1.1.1.1 class c.in-Some-Marked.marks parts.held.items parts.spares.items survey.result c.requires.1.1.0 c.requires.1.1.1.0 told
-          (subst (λ n. AreParted (IsHeldByAnchors g.image) n class.number c.args.d (blocks_of class.number) parts.held.items parts.spares.items) capacity c.in_ok-parts-in-Some-Marked.ensures.ok)
+      ok = read_parts g.image c.args.d c.args.end c.requires.1.1.1.1 class c.in-Some-Marked.marks parts.held.items parts.spares.items
+          survey.result c.requires.1.1.0 c.requires.1.1.1.0 told
+          (subst (λ n. AreParted (IsHeldByAnchors g.image) n class.number c.args.d (blocks_of class.number) parts.held.items parts.spares.items)
+          capacity c.in_ok-parts-in-Some-Marked.ensures.ok)
           survey.ensures.role survey.ensures.held survey.ensures.end;
     }

@@ -23,33 +23,41 @@ returns-in_err-header-clause-cause c =
 
 pub returns-then-header-eq-OLD_VERSION-clause-cause : goal.returns-then-header-eq-OLD_VERSION-clause-cause
 returns-then-header-eq-OLD_VERSION-clause-cause c =
-    let told = told_of_bytes c.args.bytes.now c.read_u64_into.new.dst c.in_ok-header.header (omega arith) c.read_u64_into.ensures c.in_ok-header.ensures.cause c.in_ok-header.ensures.ok in
+    let told = told_of_bytes c.args.bytes.now c.read_u64_into.new.dst c.in_ok-header.header
+    (omega arith) c.read_u64_into.ensures c.in_ok-header.ensures.cause c.in_ok-header.ensures.ok in
     sym (old_told c.args.kinds c.in_ok-header.header _ _ told.0 told.1 c.if-header-eq-OLD_VERSION.true)
 
 pub returns-then-header-eq-OLD_VERSION-clause-good : goal.returns-then-header-eq-OLD_VERSION-clause-good
 returns-then-header-eq-OLD_VERSION-clause-good c =
-    let told = told_of_bytes c.args.bytes.now c.read_u64_into.new.dst c.in_ok-header.header (omega arith) c.read_u64_into.ensures c.in_ok-header.ensures.cause c.in_ok-header.ensures.ok in
+    let told = told_of_bytes c.args.bytes.now c.read_u64_into.new.dst c.in_ok-header.header
+    (omega arith) c.read_u64_into.ensures c.in_ok-header.ensures.cause c.in_ok-header.ensures.ok in
     old_good c.args.kinds c.in_ok-header.header _ _ told.0 told.1 c.if-header-eq-OLD_VERSION.true
 
 pub returns-then-header-eq-OLD_VERSION-clause-ok : goal.returns-then-header-eq-OLD_VERSION-clause-ok
 returns-then-header-eq-OLD_VERSION-clause-ok c =
-    (told_of_bytes c.args.bytes.now c.read_u64_into.new.dst c.in_ok-header.header (omega arith) c.read_u64_into.ensures c.in_ok-header.ensures.cause c.in_ok-header.ensures.ok).1
+    (told_of_bytes c.args.bytes.now c.read_u64_into.new.dst c.in_ok-header.header
+    (omega arith) c.read_u64_into.ensures c.in_ok-header.ensures.cause c.in_ok-header.ensures.ok).1
 
 pub returns-clause-cause : goal.returns-clause-cause
 returns-clause-cause c =
-    let told = told_of_bytes c.args.bytes.now c.read_u64_into.new.dst c.in_ok-header.header (omega arith) c.read_u64_into.ensures c.in_ok-header.ensures.cause c.in_ok-header.ensures.ok in
+    let told = told_of_bytes c.args.bytes.now c.read_u64_into.new.dst c.in_ok-header.header
+    (omega arith) c.read_u64_into.ensures c.in_ok-header.ensures.cause c.in_ok-header.ensures.ok in
     c.check_kinds.ensures.cause _ _
-    (stored_bytes c.args.bytes.now c.read_u64_into-2.new.dst (8 * c.kind-from.result) c.in_ok-header.header (ap (λ n. 8 * n) c.kind-from.ensures ∙ ap (λ n. 8 * kind_word n 0) c.new.ensures)
+    (stored_bytes c.args.bytes.now c.read_u64_into-2.new.dst (8 * c.kind-from.result) c.in_ok-header.header (ap (λ n. 8 * n) c.kind-from.ensures
+    ∙ ap (λ n. 8 * kind_word n 0) c.new.ensures)
     told.0 told.1 (λ one. let other = c.if-header-eq-OLD_VERSION.false in omega arith) (omega arith) c.read_u64_into-2.ensures)
 
 pub returns-clause-good : goal.returns-clause-good
 returns-clause-good c =
-    let told = told_of_bytes c.args.bytes.now c.read_u64_into.new.dst c.in_ok-header.header (omega arith) c.read_u64_into.ensures c.in_ok-header.ensures.cause c.in_ok-header.ensures.ok in
+    let told = told_of_bytes c.args.bytes.now c.read_u64_into.new.dst c.in_ok-header.header
+    (omega arith) c.read_u64_into.ensures c.in_ok-header.ensures.cause c.in_ok-header.ensures.ok in
     c.check_kinds.ensures.good _ _
-    (stored_bytes c.args.bytes.now c.read_u64_into-2.new.dst (8 * c.kind-from.result) c.in_ok-header.header (ap (λ n. 8 * n) c.kind-from.ensures ∙ ap (λ n. 8 * kind_word n 0) c.new.ensures)
+    (stored_bytes c.args.bytes.now c.read_u64_into-2.new.dst (8 * c.kind-from.result) c.in_ok-header.header (ap (λ n. 8 * n) c.kind-from.ensures
+    ∙ ap (λ n. 8 * kind_word n 0) c.new.ensures)
     told.0 told.1 (λ one. let other = c.if-header-eq-OLD_VERSION.false in omega arith) (omega arith) c.read_u64_into-2.ensures)
 
 pub returns-clause-ok : goal.returns-clause-ok
 returns-clause-ok c =
-    let told = told_of_bytes c.args.bytes.now c.read_u64_into.new.dst c.in_ok-header.header (omega arith) c.read_u64_into.ensures c.in_ok-header.ensures.cause c.in_ok-header.ensures.ok in
+    let told = told_of_bytes c.args.bytes.now c.read_u64_into.new.dst c.in_ok-header.header
+    (omega arith) c.read_u64_into.ensures c.in_ok-header.ensures.cause c.in_ok-header.ensures.ok in
     grind (arith, common_steps, told.1)

@@ -15,7 +15,8 @@ loop-i-preserved c =
     let rest : List ℕ = drop (8 * c.loop-i.i) c.args.bytes.now in
     let whole : take (length c.args.bytes.now - 8 * c.loop-i.i) rest ≡ rest =
     take_all (length c.args.bytes.now - 8 * c.loop-i.i) rest (let long = length-drop (8 * c.loop-i.i) c.args.bytes.now in omega arith) in
-    let more = one_word_more c.args.bytes.now c.loop-i.words.items c.loop-i.i c.read_u64.result c.loop-i.invariant.0 (c.read_u64.ensures ∙ ap (little_number 8) whole) in
+    let more = one_word_more c.args.bytes.now c.loop-i.words.items c.loop-i.i c.read_u64.result c.loop-i.invariant.0 (c.read_u64.ensures
+    ∙ ap (little_number 8) whole) in
     let same = c.push_reserved.ensures.capacity in
     let room = c.loop-i.invariant.1 in
     (subst (λ words. AreFirstWords c.args.bytes.now words (c.loop-i.i + 1)) (sym c.push_reserved.ensures.items) more, omega arith)

@@ -17,7 +17,8 @@ pub follow_roots-requires-clause-so_far : goal.follow_roots-requires-clause-so_f
 follow_roots-requires-clause-so_far g c =
     let long : length c.in_ok-found.found.origins.labels.items ≡ c.words_of_taken.result * c.in_ok-found.found.origins.kinds =
     c.in_ok-found.ensures.long ∙ ap (λ n. c.words_of_taken.result * n) (sym c.in_ok-found.ensures.kinds) in
-    rw (c.in_ok-found.ensures.empty) (nothing_found (slice_index c.args.scan.now.words.now) (slice_index c.args.kinds.now) (g.F.Filter.links_of c.args.filter.now) c.in_ok-found.found.origins.kinds
+    rw (c.in_ok-found.ensures.empty) (nothing_found (slice_index c.args.scan.now.words.now) (slice_index c.args.kinds.now)
+    (g.F.Filter.links_of c.args.filter.now) c.in_ok-found.found.origins.kinds
     c.words_of_taken.result c.in_ok-found.found.origins.labels.items c.words_of_taken.ensures long c.in_ok-found.ensures.clear)
 
 pub follow_links-requires-clause-tells : goal.follow_links-requires-clause-tells
@@ -33,7 +34,8 @@ loop-next-init g c =
       same = c.follow_roots.ensures.kinds ∙ count;
       work = work_begins (slice_index c.args.scan.now.words.now) (slice_index c.args.kinds.now) (g.F.Filter.links_of c.args.filter.now) g.F.Filter.KINDS
           c.follow_roots.new.found.list.items c.follow_roots.new.found.origins.labels.items
-          (subst (λ n. PropagatesRoots (slice_index c.args.scan.now.words.now) (slice_index c.args.kinds.now) (g.F.Filter.links_of c.args.filter.now) n roots c.follow_roots.new.found.list.items c.follow_roots.new.found.origins.labels.items)
+          (subst (λ n. PropagatesRoots (slice_index c.args.scan.now.words.now) (slice_index c.args.kinds.now)
+          (g.F.Filter.links_of c.args.filter.now) n roots c.follow_roots.new.found.list.items c.follow_roots.new.found.origins.labels.items)
           count c.in_ok-follow_roots.ensures.ok);
       long = refl;
     }
@@ -51,8 +53,10 @@ loop-next-preserved g c =
     let len = c.len.ensures in
     record {
       same = c.follow_links.ensures.kinds ∙ c.loop-next.invariant.same;
-      work = work_step (slice_index c.args.scan.now.words.now) (slice_index c.args.kinds.now) (g.F.Filter.links_of c.args.filter.now) g.F.Filter.KINDS c.loop-next.next
-          c.index-finding.result.now c.loop-next.found.list.items c.follow_links.new.found.list.items c.loop-next.found.origins.labels.items c.follow_links.new.found.origins.labels.items
+      work = work_step (slice_index c.args.scan.now.words.now) (slice_index c.args.kinds.now)
+          (g.F.Filter.links_of c.args.filter.now) g.F.Filter.KINDS c.loop-next.next
+          c.index-finding.result.now c.loop-next.found.list.items c.follow_links.new.found.list.items c.loop-next.found.origins.labels.items
+          c.follow_links.new.found.origins.labels.items
           c.loop-next.invariant.work (omega arith) (sym c.index-finding.ensures) c.in_ok-follow_links.ensures.ok;
       long = c.in_ok-follow_links.ensures.ok.grown.long ∙ c.loop-next.invariant.long;
     }
@@ -61,7 +65,8 @@ pub returns : goal.returns
 returns g c =
     let len = c.len.ensures in
     record {
-      ok = work_ends (slice_index c.args.scan.now.words.now) (slice_index c.args.kinds.now) (g.F.Filter.links_of c.args.filter.now) g.F.Filter.KINDS c.loop-next.next
+      ok = work_ends (slice_index c.args.scan.now.words.now) (slice_index c.args.kinds.now)
+          (g.F.Filter.links_of c.args.filter.now) g.F.Filter.KINDS c.loop-next.next
           c.loop-next.found.list.items c.loop-next.found.origins c.loop-next.invariant.same c.loop-next.invariant.work (omega arith);
       kinds = c.loop-next.invariant.same;
     }

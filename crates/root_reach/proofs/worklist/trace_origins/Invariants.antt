@@ -5,7 +5,8 @@ use Rattle.root_reach.proofs.worklist.trace_origins.Given as goal
 abbrev pub invariant-loop-next : goal.invariant-loop-next
 invariant-loop-next g l = record {
   same : l.found.origins.kinds ≡ g.F.Filter.KINDS;
-  work : IsWorklist (slice_index l.scan.words.now) (slice_index l.kinds) (g.F.Filter.links_of l.filter) g.F.Filter.KINDS l.next l.found.list.items l.found.origins.labels.items;
+  work : IsWorklist (slice_index l.scan.words.now) (slice_index l.kinds)
+      (g.F.Filter.links_of l.filter) g.F.Filter.KINDS l.next l.found.list.items l.found.origins.labels.items;
   long : length l.found.origins.labels.items ≡ length l.initial.found.origins.labels.items;
 }
 

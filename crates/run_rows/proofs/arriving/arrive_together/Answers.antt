@@ -14,7 +14,8 @@ map_vec-requires-after_bounds g c = λ κs lives i x below is.
       omega (arith, number, count),
       (
         c.requires.arriving.0,
-        subst (IsArrivingOf c.args.shared.now (requests_of c.args.requests.now) (is_flagged c.args.tables.now) c.args.queues.now c.requires.arriving.0) (sym is)
+        subst (IsArrivingOf c.args.shared.now (requests_of c.args.requests.now)
+            (is_flagged c.args.tables.now) c.args.queues.now c.requires.arriving.0) (sym is)
             (c.requires.arriving.1 i x below),
       ),
     )
@@ -22,17 +23,23 @@ map_vec-requires-after_bounds g c = λ κs lives i x below is.
 pub returns-clause-ended : goal.returns-clause-ended
 returns-clause-ended g c =
     let count : length c.in_ok-all.all.items ≡ length c.args.arriving.items = let l = c.in_ok-all.ensures.len in omega (arith, l) in
-    all_finished c.args.shared.now (requests_of c.args.requests.now) (is_flagged c.args.tables.now) c.args.queues.now (λ v. v.items) c.args.arriving.items c.in_ok-all.all.items
-    (λ i d below. let one = (c.in_ok-all.ensures.each i d below).1 in (one.job, one.job_is, (one.call.met.0, one.call.met.1))) count c.all_of.result c.all_of.ensures
+    all_finished c.args.shared.now (requests_of c.args.requests.now) (is_flagged c.args.tables.now) c.args.queues.now
+    (λ v. v.items) c.args.arriving.items c.in_ok-all.all.items
+    (λ i d below. let one = (c.in_ok-all.ensures.each i d below).1 in
+    (one.job, one.job_is, (one.call.met.0, one.call.met.1))) count c.all_of.result c.all_of.ensures
 
 pub returns-clause-turns : goal.returns-clause-turns
 returns-clause-turns g c =
     let count : length c.in_ok-all.all.items ≡ length c.args.arriving.items = let l = c.in_ok-all.ensures.len in omega (arith, l) in
-    all_in_turn c.args.shared.now (requests_of c.args.requests.now) (is_flagged c.args.tables.now) c.args.queues.now (λ v. v.items) c.args.arriving.items c.in_ok-all.all.items
-    (λ i d below. let one = (c.in_ok-all.ensures.each i d below).1 in (one.job, one.job_is, (one.call.met.0, one.call.met.1))) count c.requires.turns c.all_of.result c.all_of.ensures
+    all_in_turn c.args.shared.now (requests_of c.args.requests.now) (is_flagged c.args.tables.now) c.args.queues.now
+    (λ v. v.items) c.args.arriving.items c.in_ok-all.all.items
+    (λ i d below. let one = (c.in_ok-all.ensures.each i d below).1 in
+    (one.job, one.job_is, (one.call.met.0, one.call.met.1))) count c.requires.turns c.all_of.result c.all_of.ensures
 
 pub returns-clause-count : goal.returns-clause-count
 returns-clause-count g c =
     let count : length c.in_ok-all.all.items ≡ length c.args.arriving.items = let l = c.in_ok-all.ensures.len in omega (arith, l) in
-    all_counted c.args.shared.now (requests_of c.args.requests.now) (is_flagged c.args.tables.now) c.args.queues.now (λ v. v.items) c.args.arriving.items c.in_ok-all.all.items
-    (λ i d below. let one = (c.in_ok-all.ensures.each i d below).1 in (one.job, one.job_is, (one.call.met.0, one.call.met.1))) count c.all_of.result c.all_of.ensures
+    all_counted c.args.shared.now (requests_of c.args.requests.now) (is_flagged c.args.tables.now) c.args.queues.now
+    (λ v. v.items) c.args.arriving.items c.in_ok-all.all.items
+    (λ i d below. let one = (c.in_ok-all.ensures.each i d below).1 in
+    (one.job, one.job_is, (one.call.met.0, one.call.met.1))) count c.all_of.result c.all_of.ensures

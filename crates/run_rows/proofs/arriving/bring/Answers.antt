@@ -12,8 +12,10 @@ pub returns-clause-ended : goal.returns-clause-ended
 returns-clause-ended g c =
     let w = c.take_in-worked.result in
     subst (λ (came : List Parcel). (brought : List Sent) × (length brought ≤ w.seat.view.accepts) × (w.seat.view.accepts ≤ length brought + 1)
-    × IsWorkedOf c.args.shared.now (requests_of c.args.requests.now) (is_flagged c.args.tables.now) (all_sent_of came) brought false w) c.new-inbox.ensures
+    × IsWorkedOf c.args.shared.now (requests_of c.args.requests.now) (is_flagged c.args.tables.now) (all_sent_of came) brought false w)
+    c.new-inbox.ensures
     c.take_in-worked.ensures.worked
 
 pub returns-clause-at_table : goal.returns-clause-at_table
-returns-clause-at_table g c = carriers_at c.args.shared.now c.take_in-worked.new.inbox c.in_ok-into_carriers.field-0.items c.in_ok-into_carriers.ensures c.take_in-worked.ensures.each
+returns-clause-at_table g c = carriers_at c.args.shared.now c.take_in-worked.new.inbox c.in_ok-into_carriers.field-0.items
+    c.in_ok-into_carriers.ensures c.take_in-worked.ensures.each

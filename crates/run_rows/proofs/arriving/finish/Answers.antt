@@ -28,5 +28,6 @@ bring-requires-clause-with_table g c =
 pub returns-clause-ended : goal.returns-clause-ended
 returns-clause-ended g c =
     let e = c.bring.ensures in
-    finished c.args.shared.now (requests_of c.args.requests.now) (is_flagged c.args.tables.now) c.args.queues.now c.args.one c.in_ok-came.came.items c.bring.result
+    finished c.args.shared.now (requests_of c.args.requests.now) (is_flagged c.args.tables.now)
+    c.args.queues.now c.args.one c.in_ok-came.came.items c.bring.result
     c.in_ok-came.ensures.all c.in_ok-came.ensures.order e.ended e.worker e.replies e.offers e.remain e.at_table e.none_left

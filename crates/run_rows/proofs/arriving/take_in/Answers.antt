@@ -20,7 +20,8 @@ arrive-requires g c κs =
             takes_goes g.C.Chance.draw_gives,
             (
               in_step shared c.args.inbox.now g.K.ArrivalsOf.came asked.seat.state at c.requires.none c.requires.count c.requires.each,
-              sent_tables (is_flagged c.args.tables.now) (requests_of c.args.requests.now) asked.worker.workers asked.worker.number c.args.inbox.now c.requires.with_table,
+              sent_tables (is_flagged c.args.tables.now) (requests_of c.args.requests.now)
+                  asked.worker.workers asked.worker.number c.args.inbox.now c.requires.with_table,
             ),
           ),
         ),
@@ -40,7 +41,8 @@ returns-else-asked-clause-worked g c =
     sym (ap (λ (v : View). v.accepts) ends.5) ∙ kept_accepts ends.0.state ends.1.state ends.4.heap.2 in
     let step : ends.0.state.view.accepts + length c.arrive.new.inbox ≡ g.K.ArrivalsOf.came = ends.3.counted in
     let count : g.K.ArrivalsOf.came ≡ length c.args.inbox.now = c.requires.count in
-    let bounds = brought_counted c.args.inbox.now all.0 all.1 c.arrive.new.inbox c.arrive.result.seat.view.accepts all.2 all.3 (omega (arith, same, step, count)) in
+    let bounds = brought_counted c.args.inbox.now all.0 all.1 c.arrive.new.inbox c.arrive.result.seat.view.accepts all.2 all.3
+    (omega (arith, same, step, count)) in
     (all.0, bounds.0, bounds.1, all.4)
 
 pub returns-else-asked-clause-each : goal.returns-else-asked-clause-each

@@ -33,13 +33,15 @@ loop-one-init g c =
 
 pub absorb_each-requires-clause-others : goal.absorb_each-requires-clause-others
 absorb_each-requires-clause-others g c =
-    (so_of_next c.args.all.items c.loop-one.yielded c.loop-one.one-iterator.rest.items c.loop-one.invariant.all_are (λ one. ArePassesTo 1 c.args.queues.now one.passes.items)
+    (so_of_next c.args.all.items c.loop-one.yielded c.loop-one.one-iterator.rest.items c.loop-one.invariant.all_are
+    (λ one. ArePassesTo 1 c.args.queues.now one.passes.items)
     c.in-Some.one c.next.new.self.rest.items c.in-Some.ensures.steps.0 c.requires.passes).passes_are
 
 pub push_reserved-requires : goal.push_reserved-requires
 push_reserved-requires g c =
     let inv = c.loop-one.invariant in
-    let more = so_many_done c.args.all.items c.loop-one.yielded c.loop-one.one-iterator.rest.items inv.all_are c.in-Some.one c.next.new.self.rest.items c.in-Some.ensures.steps.0 in
+    let more = so_many_done c.args.all.items c.loop-one.yielded c.loop-one.one-iterator.rest.items inv.all_are c.in-Some.one
+    c.next.new.self.rest.items c.in-Some.ensures.steps.0 in
     let count = inv.count in
     let room = inv.room in
     omega (arith, more, count, room)
@@ -67,12 +69,15 @@ loop-one-preserved g c =
       finite = tt;
       all_are = one_done all done left inv.all_are one later first;
       owners = subst (λ n. ArePassesTo n c.args.queues.now c.absorb_each.new.owners.items) parts
-          (absorbed (all_parts - length all + length done) c.args.queues.now c.loop-one.owners.items one.passes.items c.absorb_each.new.owners.items inv.owners passes
+          (absorbed (all_parts - length all + length done) c.args.queues.now c.loop-one.owners.items one.passes.items
+          c.absorb_each.new.owners.items inv.owners passes
           c.absorb_each.ensures.owners c.absorb_each.ensures.joined);
       kept = All-same (IsParcelOf g.J.HeapOf.table) c.append.new.self.items (c.loop-one.kept.items ++ one.kept.items) c.in_ok-append.ensures.items
           (All-append (IsParcelOf g.J.HeapOf.table) c.loop-one.kept.items one.kept.items inv.kept kept);
-      parcels = from more (absorbed_parcels (flat_map (λ x. parcels_by x) done) c.loop-one.owners.items one.passes.items c.absorb_each.new.owners.items c.loop-one.kept.items one.kept.items
-          c.append.new.self.items inv.parcels (as_many c.args.queues.now one.passes.items passes.passes_are ∙ sym (as_many c.args.queues.now c.loop-one.owners.items inv.owners.passes_are))
+      parcels = from more (absorbed_parcels (flat_map (λ x. parcels_by x) done)
+          c.loop-one.owners.items one.passes.items c.absorb_each.new.owners.items c.loop-one.kept.items one.kept.items
+          c.append.new.self.items inv.parcels (as_many c.args.queues.now one.passes.items passes.passes_are
+          ∙ sym (as_many c.args.queues.now c.loop-one.owners.items inv.owners.passes_are))
           c.absorb_each.ensures.joined c.in_ok-append.ensures.items);
       asked_are = mapped_more (λ x. x.asked) done one c.loop-one.asked.items c.push_reserved.new.self.items inv.asked_are c.push_reserved.ensures.items;
       count = omega (arith, count, long, pushed);

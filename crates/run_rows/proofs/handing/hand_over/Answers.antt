@@ -14,7 +14,8 @@ use Rattle.run_rows.proofs.HandLemmas.{all_arrive, arrive_in_turn, count_arrivin
 use Rattle.run_rows.proofs.handing.hand_over.Goals as goal
 
 pub absorb_all-requires-clause-kept : goal.absorb_all-requires-clause-kept
-absorb_all-requires-clause-kept g c = subst (λ t. All (λ one. All (IsParcelOf t) one.kept.items) c.args.all.items) (sym c.requires.heap) (λ k d below. (c.requires.answered k d below).kept)
+absorb_all-requires-clause-kept g c = subst (λ t. All (λ one. All (IsParcelOf t) one.kept.items) c.args.all.items) (sym c.requires.heap)
+    (λ k d below. (c.requires.answered k d below).kept)
 
 pub deal_out-requires-clause-owners : goal.deal_out-requires-clause-owners
 deal_out-requires-clause-owners g c =
@@ -23,10 +24,12 @@ deal_out-requires-clause-owners g c =
 
 pub deal_out-requires-clause-pieces : goal.deal_out-requires-clause-pieces
 deal_out-requires-clause-pieces g c =
-    let made : pieces_of c.in_ok-pieces.pieces.items ≡ map (λ worker. parcels_for (length c.args.queues.now) worker c.in_ok-asked.field-0.kept.items) (worker_numbers (length c.args.queues.now)) =
+    let made : pieces_of c.in_ok-pieces.pieces.items ≡ map (λ worker. parcels_for
+    (length c.args.queues.now) worker c.in_ok-asked.field-0.kept.items) (worker_numbers (length c.args.queues.now)) =
     c.in_ok-pieces.ensures in
     sym (length-map c.in_ok-pieces.pieces.items (λ v. v.items)) ∙ ap length made
-    ∙ length-map (worker_numbers (length c.args.queues.now)) (λ worker. parcels_for (length c.args.queues.now) worker c.in_ok-asked.field-0.kept.items) ∙ length-words_from (λ i. i) 0 (length c.args.queues.now)
+    ∙ length-map (worker_numbers (length c.args.queues.now)) (λ worker. parcels_for
+    (length c.args.queues.now) worker c.in_ok-asked.field-0.kept.items) ∙ length-words_from (λ i. i) 0 (length c.args.queues.now)
     ∙ c.requires.each ∙ sym (ap length c.in_ok-asked.ensures.asked ∙ length-map c.args.all.items (λ one. one.asked))
 
 pub returns : goal.returns
@@ -50,15 +53,18 @@ returns g c =
           (λ arriving. (told : ℕ → Replies) × All (IsArrivingOf shared requests tables queues told) arriving.items)
           (λ arriving is. (
             told shared requests tables queues workers all c.requires.answered refl c.requires.turns,
-            all_arrive shared requests tables queues workers all c.requires.answered refl c.requires.turns owners kept c.requires.each c.in_ok-asked.ensures.owners kept_are
+            all_arrive shared requests tables queues workers all c.requires.answered refl c.requires.turns owners kept c.requires.each
+                c.in_ok-asked.ensures.owners kept_are
                 c.in_ok-asked.ensures.parcels asked pieces arriving.items c.in_ok-asked.ensures.asked pieces_are is,
           )) dealt;
       turns = IfOk-weaker c.deal_out.result (λ arriving. AreDealtOut owners pieces asked arriving.items)
           (λ arriving. AreInTurn (λ one. one.asked.worker) workers arriving.items)
-          (λ arriving is. arrive_in_turn shared requests tables queues workers all c.requires.answered refl c.requires.turns owners kept c.requires.each c.in_ok-asked.ensures.owners kept_are
+          (λ arriving is. arrive_in_turn shared requests tables queues workers all c.requires.answered refl c.requires.turns owners kept
+          c.requires.each c.in_ok-asked.ensures.owners kept_are
           c.in_ok-asked.ensures.parcels asked pieces arriving.items c.in_ok-asked.ensures.asked pieces_are is) dealt;
       count = IfOk-weaker c.deal_out.result (λ arriving. AreDealtOut owners pieces asked arriving.items)
           (λ arriving. length arriving.items ≡ workers)
-          (λ arriving is. count_arriving shared requests tables queues workers all c.requires.answered refl c.requires.turns owners kept c.requires.each c.in_ok-asked.ensures.owners kept_are
+          (λ arriving is. count_arriving shared requests tables queues workers all c.requires.answered refl c.requires.turns owners kept
+          c.requires.each c.in_ok-asked.ensures.owners kept_are
           c.in_ok-asked.ensures.parcels asked pieces arriving.items c.in_ok-asked.ensures.asked pieces_are is) dealt;
     }

@@ -13,7 +13,8 @@ loop-worker-preserved g c =
     let queues_is = c.push_reserved.ensures.items in
     let owners_is = c.push_reserved-in-loop-worker.ensures.items in
     record {
-      opened = opened_more queues c.push_reserved.new.self.items owners c.push_reserved-in-loop-worker.new.self.items queue owner was.opened c.in_ok-queue.ensures.queue c.in_ok-queue.ensures.account
+      opened = opened_more queues c.push_reserved.new.self.items owners c.push_reserved-in-loop-worker.new.self.items queue owner was.opened
+          c.in_ok-queue.ensures.queue c.in_ok-queue.ensures.account
           queues_is owners_is;
       queues_long = let long = ap length queues_is ∙ length-append queues (queue ∷ []) in let n = was.queues_long in omega (arith, long, n);
       owners_long = let long = ap length owners_is ∙ length-append owners (owner ∷ []) in let n = was.owners_long in omega (arith, long, n);

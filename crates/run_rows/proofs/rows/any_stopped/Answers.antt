@@ -9,5 +9,6 @@ use Rattle.run_rows.proofs.rows.any_stopped.Goals as goal
 pub returns-clause-some : goal.returns-clause-some
 returns-clause-some g c = λ is.
     let answered : c.any.result ≡ list_any (λ (one : Begun g.row.C.Denot). one.stopped) c.args.all.now =
-    any_from_yields_List (λ (one : Begun g.row.C.Denot). one.stopped) _ _ c.any.result c.any.ensures.ran (YieldsList-from_slice c.args.all.now cc) (λ x b q k. search (rules, tests)) in
+    any_from_yields_List (λ (one : Begun g.row.C.Denot). one.stopped) _ _ c.any.result c.any.ensures.ran
+    (YieldsList-from_slice c.args.all.now cc) (λ x b q k. search (rules, tests)) in
     passes_at (λ (one : Begun g.row.C.Denot). one.stopped) c.args.all.now (sym answered ∙ is)

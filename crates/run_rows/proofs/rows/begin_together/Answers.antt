@@ -10,6 +10,7 @@ returns-clause-turns g c = record {
       let count = c.in_ok-all.ensures.len in
       let inside : i < length c.args.jobs.items = omega (arith, below, count) in
       let one = (c.in_ok-all.ensures.each i any inside).1 in
-      let turn = subst (λ job. (job.worker.workers ≡ length c.args.jobs.items) × (job.worker.number + i + 1 ≡ length c.args.jobs.items)) (one.job_is one.job) (c.requires.turns.each i one.job inside) in
+      let turn = subst (λ job. (job.worker.workers ≡ length c.args.jobs.items) × (job.worker.number + i + 1 ≡ length c.args.jobs.items))
+      (one.job_is one.job) (c.requires.turns.each i one.job inside) in
       subst (λ w. (w.workers ≡ length c.args.jobs.items) × (w.number + i + 1 ≡ length c.args.jobs.items)) (sym one.call.met.0) turn;
 }

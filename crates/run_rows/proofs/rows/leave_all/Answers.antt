@@ -10,7 +10,8 @@ use Rattle.run_rows.proofs.rows.leave_all.Goals as goal
 
 pub leave_begun-requires : goal.leave_begun-requires
 leave_begun-requires g c = record {
-  begun = next_of_all (IsBegunOf c.args.shared.now (requests_of c.args.requests.now)) c.args.all.items c.loop-begun.yielded (into_iter_items c.loop-begun.begun-iterator)
+  begun = next_of_all (IsBegunOf c.args.shared.now (requests_of c.args.requests.now)) c.args.all.items c.loop-begun.yielded
+      (into_iter_items c.loop-begun.begun-iterator)
       (into_iter_items c.next.new.self) c.in-Some.begun c.requires.begun c.loop-begun.invariant.whole c.in-Some.ensures.steps.0;
 }
 
@@ -20,7 +21,8 @@ push_reserved-requires g c =
     let left = left_count c.args.shared.now (requests_of c.args.requests.now) c.loop-begun.yielded c.loop-begun.ended.items was.left in
     let whole : length c.loop-begun.yielded + length (into_iter_items c.loop-begun.begun-iterator) ≡ length c.args.all.items =
     sym (length-append c.loop-begun.yielded (into_iter_items c.loop-begun.begun-iterator)) ∙ ap length was.whole in
-    let more : length (into_iter_items c.loop-begun.begun-iterator) ≡ suc (length (into_iter_items c.next.new.self)) = ap length c.in-Some.ensures.steps.0 in
+    let more : length (into_iter_items c.loop-begun.begun-iterator) ≡ suc (length (into_iter_items c.next.new.self)) =
+    ap length c.in-Some.ensures.steps.0 in
     let room = was.room in
     let long = c.loop-begun.ended.ok.0 in
     omega (arith, left, whole, more, room, long)
@@ -38,7 +40,8 @@ loop-begun-preserved g c =
       finite = was.finite;
       left = subst (AllZip (IsLeftOf shared qs) (c.loop-begun.yielded ++ (c.in-Some.begun ∷ []))) (sym c.push_reserved.ensures.items)
           (all_zipped_more (IsLeftOf shared qs) c.loop-begun.yielded c.loop-begun.ended.items c.in-Some.begun one was.left (record {
-            is_begun = next_of_all (IsBegunOf shared qs) c.args.all.items c.loop-begun.yielded (into_iter_items c.loop-begun.begun-iterator) (into_iter_items c.next.new.self) c.in-Some.begun
+            is_begun = next_of_all (IsBegunOf shared qs) c.args.all.items c.loop-begun.yielded (into_iter_items c.loop-begun.begun-iterator)
+                (into_iter_items c.next.new.self) c.in-Some.begun
                 c.requires.begun was.whole steps.0;
             worker = left.worker;
             replies = left.replies;
@@ -47,7 +50,8 @@ loop-begun-preserved g c =
             stopped = left.stopped;
             empty = c.new.ensures.items;
           }));
-      whole = whole_more c.args.all.items c.loop-begun.yielded (into_iter_items c.loop-begun.begun-iterator) (into_iter_items c.next.new.self) c.in-Some.begun was.whole steps.0;
+      whole = whole_more c.args.all.items c.loop-begun.yielded (into_iter_items c.loop-begun.begun-iterator)
+          (into_iter_items c.next.new.self) c.in-Some.begun was.whole steps.0;
       count =
           let more : length (into_iter_items c.loop-begun.begun-iterator) ≡ suc (length (into_iter_items c.next.new.self)) = ap length steps.0 in
           let count = was.count in
@@ -64,5 +68,6 @@ returns g c =
     let none : length (into_iter_items c.loop-begun.begun-iterator) ≡ 0 = sym was.count ∙ c.in-None.ensures.steps.0 in
     let done = whole_done c.args.all.items c.loop-begun.yielded (into_iter_items c.loop-begun.begun-iterator) was.whole none in
     record {
-      ended = all_left shared qs c.args.all.items c.loop-begun.ended.items (subst (λ xs. AllZip (IsLeftOf shared qs) xs c.loop-begun.ended.items) done was.left) c.requires.turns c.requires.stopped;
+      ended = all_left shared qs c.args.all.items c.loop-begun.ended.items
+          (subst (λ xs. AllZip (IsLeftOf shared qs) xs c.loop-begun.ended.items) done was.left) c.requires.turns c.requires.stopped;
     }

@@ -43,8 +43,10 @@ ask-asked-requires g c =
               (
                 (λ s t on. goes_offering g.C.Chance.draw_gives s t on),
                 (
-                  begun_in_step c.args.shared.now w.workers w.number _ (is_flagged begun.tables) begun.stopped is.begun.first begun.seat.state is.begun.is_first is.begun.part _ box c.requires.heap
-                      (none_sent box c.args.sender.passes.items c.args.sender.kept.items c.new-outbox.ensures.passes c.new-outbox.ensures.kept is.nothing is.empty),
+                  begun_in_step c.args.shared.now w.workers w.number _ (is_flagged begun.tables)
+                      begun.stopped is.begun.first begun.seat.state is.begun.is_first is.begun.part _ box c.requires.heap
+                      (none_sent box c.args.sender.passes.items c.args.sender.kept.items c.new-outbox.ensures.passes c.new-outbox.ensures.kept
+                      is.nothing is.empty),
                   omega (arith, spare, long, none, room),
                 ),
               ),
@@ -63,9 +65,15 @@ returns-clause-answered g c =
     let shared = c.args.shared.now in
     let parts = c.into_parts-passes.ensures in
     let asked = c.ask-asked.ensures in
-    let one : Answered g.row.C.Denot = record { asked = c.ask-asked.result; passes = c.into_parts-passes.result.0; kept = c.into_parts-passes.result.1 } in
-    answered_of shared (requests_of c.args.requests.now) (is_flagged c.args.tables.now) c.args.queues.now _ w box c.ask-asked.new.outbox one asked.worker parts.passes parts.kept
+    let one : Answered g.row.C.Denot = record {
+      asked = c.ask-asked.result;
+      passes = c.into_parts-passes.result.0;
+      kept = c.into_parts-passes.result.1;
+    } in
+    answered_of shared (requests_of c.args.requests.now) (is_flagged c.args.tables.now)
+    c.args.queues.now _ w box c.ask-asked.new.outbox one asked.worker parts.passes parts.kept
     _ c.requires.heap c.requires.queues asked.asked parts.queues parts.parts parts.rightly parts.each asked.sent
-    (none_sent box c.args.sender.passes.items c.args.sender.kept.items c.new-outbox.ensures.passes c.new-outbox.ensures.kept is.nothing is.empty) asked.ready_on
+    (none_sent box c.args.sender.passes.items c.args.sender.kept.items c.new-outbox.ensures.passes c.new-outbox.ensures.kept is.nothing
+    is.empty) asked.ready_on
     (asked.goes_on.accepts
     ∙ none_accepted shared w.workers w.number _ (is_flagged begun.tables) begun.stopped is.begun.first begun.seat.state is.begun.is_first is.begun.part)

@@ -2,7 +2,8 @@ use Rattle.std.proofs.Common.{◌≡◌, ◌+◌, ◌<◌, length, subst, sym, a
 use Rattle.run_rows.proofs.sending.answer_together.Goals as goal
 
 pub returns-clause-answered : goal.returns-clause-answered
-returns-clause-answered g c = λ k d less. (c.in_ok-all.ensures.each k d (let count = c.in_ok-all.ensures.len in omega (arith, less, count))).1.call.met.1
+returns-clause-answered g c = λ k d less. (c.in_ok-all.ensures.each k d (let count = c.in_ok-all.ensures.len in
+    omega (arith, less, count))).1.call.met.1
 
 pub returns-clause-turns : goal.returns-clause-turns
 returns-clause-turns g c = record {
@@ -10,6 +11,7 @@ returns-clause-turns g c = record {
       let count = c.in_ok-all.ensures.len in
       let inside : i < length c.args.senders.items = omega (arith, below, count) in
       let one = (c.in_ok-all.ensures.each i any inside).1 in
-      let turn = subst (λ job. (job.begun.worker.workers ≡ length c.args.senders.items) × (job.begun.worker.number + i + 1 ≡ length c.args.senders.items)) (one.job_is one.job) (c.requires.turns.each i one.job inside) in
+      let turn = subst (λ job. (job.begun.worker.workers ≡ length c.args.senders.items)
+      × (job.begun.worker.number + i + 1 ≡ length c.args.senders.items)) (one.job_is one.job) (c.requires.turns.each i one.job inside) in
       subst (λ w. (w.workers ≡ length c.args.senders.items) × (w.number + i + 1 ≡ length c.args.senders.items)) (sym one.call.met.0) turn;
 }

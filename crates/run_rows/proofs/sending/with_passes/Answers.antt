@@ -15,7 +15,8 @@ use Rattle.run_rows.proofs.SendLemmas.{given_none, in_turn, may_give, one_given,
 use Rattle.run_rows.proofs.sending.with_passes.Goals as goal
 
 -- so many have their passes, of eight at most
-so_many : {C : Type 0} (senders : List (Sender C)) (yielded : List (Begun C)) → map (λ (s : Sender C). s.begun) senders ≡ yielded → length senders ≡ length yielded
+so_many : {C : Type 0} (senders : List (Sender C)) (yielded : List (Begun C)) → map (λ (s : Sender C). s.begun) senders ≡ yielded
+    → length senders ≡ length yielded
 so_many {C} senders yielded are = sym (length-map senders (λ (s : Sender C). s.begun)) ∙ ap length are
 
 -- it hasn't stopped, as the one that it is
@@ -24,15 +25,22 @@ still_going {C} begun same is going = ap (λ (b : Begun C). b.stopped) is ∙ go
 
 pub a_pass_to_each-requires : goal.a_pass_to_each-requires
 a_pass_to_each-requires g c =
-    let t = YieldsList-turn (YieldsList-from_vec {s = c.into_iter-begun-iterator.result} c.args.all.items c.into_iter-begun-iterator.ensures.into_iter_gives.0 (c.into_iter-begun-iterator.ensures.into_iter_gives.1 ∙ c.args.all.ok.0)) c.loop-begun.yielded c.loop-begun.begun-iterator c.loop-begun.yielded_by _ c.next.new.self c.in-Some.begun c.in-Some.is c.next.ensures.steps in
+    let t = YieldsList-turn (YieldsList-from_vec {s = c.into_iter-begun-iterator.result} c.args.all.items
+    c.into_iter-begun-iterator.ensures.into_iter_gives.0 (c.into_iter-begun-iterator.ensures.into_iter_gives.1 ∙ c.args.all.ok.0))
+    c.loop-begun.yielded c.loop-begun.begun-iterator c.loop-begun.yielded_by _ c.next.new.self c.in-Some.begun c.in-Some.is c.next.ensures.steps in
     let n = so_many c.loop-begun.senders.items c.loop-begun.yielded c.loop-begun.invariant.begun in
     let few = c.requires.few in
     let inside = t.0 in
-    record { owners = may_give (length c.loop-begun.senders.items) (omega (arith, n, few, inside)) c.args.queues.now c.loop-begun.owners.items c.loop-begun.invariant.owners }
+    record {
+      owners = may_give (length c.loop-begun.senders.items)
+          (omega (arith, n, few, inside)) c.args.queues.now c.loop-begun.owners.items c.loop-begun.invariant.owners;
+    }
 
 pub push_reserved-requires : goal.push_reserved-requires
 push_reserved-requires g c =
-    let t = YieldsList-turn (YieldsList-from_vec {s = c.into_iter-begun-iterator.result} c.args.all.items c.into_iter-begun-iterator.ensures.into_iter_gives.0 (c.into_iter-begun-iterator.ensures.into_iter_gives.1 ∙ c.args.all.ok.0)) c.loop-begun.yielded c.loop-begun.begun-iterator c.loop-begun.yielded_by _ c.next.new.self c.in-Some.begun c.in-Some.is c.next.ensures.steps in
+    let t = YieldsList-turn (YieldsList-from_vec {s = c.into_iter-begun-iterator.result} c.args.all.items
+    c.into_iter-begun-iterator.ensures.into_iter_gives.0 (c.into_iter-begun-iterator.ensures.into_iter_gives.1 ∙ c.args.all.ok.0))
+    c.loop-begun.yielded c.loop-begun.begun-iterator c.loop-begun.yielded_by _ c.next.new.self c.in-Some.begun c.in-Some.is c.next.ensures.steps in
     let n = so_many c.loop-begun.senders.items c.loop-begun.yielded c.loop-begun.invariant.begun in
     let room = c.loop-begun.invariant.room in
     let inside = t.0 in
@@ -41,7 +49,9 @@ push_reserved-requires g c =
 
 pub loop-begun-preserved : goal.loop-begun-preserved
 loop-begun-preserved g c =
-    let t = YieldsList-turn (YieldsList-from_vec {s = c.into_iter-begun-iterator.result} c.args.all.items c.into_iter-begun-iterator.ensures.into_iter_gives.0 (c.into_iter-begun-iterator.ensures.into_iter_gives.1 ∙ c.args.all.ok.0)) c.loop-begun.yielded c.loop-begun.begun-iterator c.loop-begun.yielded_by _ c.next.new.self c.in-Some.begun c.in-Some.is c.next.ensures.steps in
+    let t = YieldsList-turn (YieldsList-from_vec {s = c.into_iter-begun-iterator.result} c.args.all.items
+    c.into_iter-begun-iterator.ensures.into_iter_gives.0 (c.into_iter-begun-iterator.ensures.into_iter_gives.1 ∙ c.args.all.ok.0))
+    c.loop-begun.yielded c.loop-begun.begun-iterator c.loop-begun.yielded_by _ c.next.new.self c.in-Some.begun c.in-Some.is c.next.ensures.steps in
     let was = c.loop-begun.invariant in
     let shared = c.args._shared.now in
     let requests = requests_of c.args.requests.now in
@@ -64,25 +74,31 @@ loop-begun-preserved g c =
       owners = subst (λ m. ArePassesTo (all_parts - m) queues c.a_pass_to_each.new.owners.items) (sym more)
           (one_given (length senders) below queues owners was.owners c.a_pass_to_each.new.owners.items c.in_ok-passes.ensures.given);
       nothing = given_none owners c.a_pass_to_each.new.owners.items c.in_ok-passes.ensures.given was.nothing;
-      senders = All-same (IsSenderOf shared requests queues) now (senders ++ sender ∷ []) c.push_reserved.ensures.items (All-push (IsSenderOf shared requests queues) senders sender was.senders (record {
-        begun = is_begun;
-        going = still_going begun _ t.1 (c.requires.going at begun inside);
-        passes = made.0;
-        nothing = made.1;
-        empty = c.in_ok-kept.ensures.items;
-        room = let has = c.in_ok-kept.ensures.capacity in let need = c.moves_of.ensures in omega (arith, has, need);
-      }));
-      begun = ap (map (λ (s : Sender _). s.begun)) c.push_reserved.ensures.items ∙ map_push (λ (s : Sender _). s.begun) senders sender ∙ ap (λ (l : List (Begun _)). l ++ begun ∷ []) was.begun;
+      senders = All-same (IsSenderOf shared requests queues) now (senders ++ sender ∷ []) c.push_reserved.ensures.items
+          (All-push (IsSenderOf shared requests queues) senders sender was.senders (record {
+            begun = is_begun;
+            going = still_going begun _ t.1 (c.requires.going at begun inside);
+            passes = made.0;
+            nothing = made.1;
+            empty = c.in_ok-kept.ensures.items;
+            room = let has = c.in_ok-kept.ensures.capacity in let need = c.moves_of.ensures in omega (arith, has, need);
+          }));
+      begun = ap (map (λ (s : Sender _). s.begun)) c.push_reserved.ensures.items ∙ map_push (λ (s : Sender _). s.begun) senders sender
+          ∙ ap (λ (l : List (Begun _)). l ++ begun ∷ []) was.begun;
       room = let same = c.push_reserved.ensures.capacity in let room = was.room in omega (arith, same, room);
     }
 
 pub returns-clause-turns : goal.returns-clause-turns
 returns-clause-turns g c =
-    let e = YieldsList-end (YieldsList-from_vec {s = c.into_iter-begun-iterator.result} c.args.all.items c.into_iter-begun-iterator.ensures.into_iter_gives.0 (c.into_iter-begun-iterator.ensures.into_iter_gives.1 ∙ c.args.all.ok.0)) c.loop-begun.yielded c.loop-begun.begun-iterator c.loop-begun.yielded_by _ c.next.new.self c.in-None.is c.next.ensures.steps in
+    let e = YieldsList-end (YieldsList-from_vec {s = c.into_iter-begun-iterator.result} c.args.all.items
+    c.into_iter-begun-iterator.ensures.into_iter_gives.0 (c.into_iter-begun-iterator.ensures.into_iter_gives.1 ∙ c.args.all.ok.0))
+    c.loop-begun.yielded c.loop-begun.begun-iterator c.loop-begun.yielded_by _ c.next.new.self c.in-None.is c.next.ensures.steps in
     let same : c.loop-begun.yielded ≡ c.args.all.items = sym (map-id c.loop-begun.yielded) ∙ e.0 in
     in_turn c.args.all.items c.loop-begun.senders.items (c.loop-begun.invariant.begun ∙ same) c.requires.turns
 
 pub returns-clause-begun : goal.returns-clause-begun
 returns-clause-begun g c =
-    let e = YieldsList-end (YieldsList-from_vec {s = c.into_iter-begun-iterator.result} c.args.all.items c.into_iter-begun-iterator.ensures.into_iter_gives.0 (c.into_iter-begun-iterator.ensures.into_iter_gives.1 ∙ c.args.all.ok.0)) c.loop-begun.yielded c.loop-begun.begun-iterator c.loop-begun.yielded_by _ c.next.new.self c.in-None.is c.next.ensures.steps in
+    let e = YieldsList-end (YieldsList-from_vec {s = c.into_iter-begun-iterator.result} c.args.all.items
+    c.into_iter-begun-iterator.ensures.into_iter_gives.0 (c.into_iter-begun-iterator.ensures.into_iter_gives.1 ∙ c.args.all.ok.0))
+    c.loop-begun.yielded c.loop-begun.begun-iterator c.loop-begun.yielded_by _ c.next.new.self c.in-None.is c.next.ensures.steps in
     c.loop-begun.invariant.begun ∙ sym (map-id c.loop-begun.yielded) ∙ e.0

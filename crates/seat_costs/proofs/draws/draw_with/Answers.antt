@@ -13,7 +13,8 @@ returns-clause-drew g c = λ going. let e = returns-clause-event g c going in
 
 pub returns-clause-losses : goal.returns-clause-losses
 returns-clause-losses g c =
-    told_losses c.args.shift c.args.seat.now.view c.draw.new.self.view (returns-clause-event g c) (λ step stop. ap (λ (x : SeatView). x.view) (c.draw.ensures.had_stopped step stop).0)
+    told_losses c.args.shift c.args.seat.now.view c.draw.new.self.view (returns-clause-event g c)
+    (λ step stop. ap (λ (x : SeatView). x.view) (c.draw.ensures.had_stopped step stop).0)
 
 pub returns-clause-asked : goal.returns-clause-asked
 returns-clause-asked g c = c.draw.ensures.event
@@ -22,4 +23,5 @@ pub returns-clause-not_asked : goal.returns-clause-not_asked
 returns-clause-not_asked g c = λ step stop. (c.draw.ensures.had_stopped step stop).1
 
 pub returns-clause-numbers : goal.returns-clause-numbers
-returns-clause-numbers g c = asked_once g.C.Chance.draw_gives c.args.shift c.args.seat.now c.draw.new.self c.args.chance.now c.draw.new.chance c.draw.ensures.event c.draw.ensures.had_stopped
+returns-clause-numbers g c = asked_once g.C.Chance.draw_gives c.args.shift c.args.seat.now c.draw.new.self c.args.chance.now c.draw.new.chance
+    c.draw.ensures.event c.draw.ensures.had_stopped

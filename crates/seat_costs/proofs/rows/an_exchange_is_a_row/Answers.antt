@@ -14,7 +14,8 @@ pub returns-clause-push : goal.returns-clause-push
 returns-clause-push c = λ d v w found e stores. row_of v w stores (push_row d v.view w.view found e)
 
 pub returns-clause-move_free : goal.returns-clause-move_free
-returns-clause-move_free c = λ d v w found e stores same free none. row_of v w stores (move_row d v.view w.view (push_won d v.view w.view found e same) none free)
+returns-clause-move_free c = λ d v w found e stores same free none. row_of v w stores
+    (move_row d v.view w.view (push_won d v.view w.view found e same) none free)
 
 pub returns-clause-take_all : goal.returns-clause-take_all
 returns-clause-take_all c = λ d v w found e stores. row_of v w stores (take_all_row d v.view w.view found e)

@@ -10,5 +10,7 @@ returns-clause-opened c words held workers budget block_owners root_owners ready
 
 pub returns-clause-roots : goal.returns-clause-roots
 returns-clause-roots c words held workers budget block_owners root_owners ready has some few by_root i s below is root small =
-    subst (λ (x : View). Contains x.roots root ↔ (root_owner workers root ≡ i)) (sym is)
-    (root_of words held workers budget block_owners root_owners by_root i root, has_root words held workers budget block_owners root_owners by_root i root small)
+    subst (λ (x : View). Contains x.roots root ↔ (root_owner workers root ≡ i)) (sym is) (
+      root_of words held workers budget block_owners root_owners by_root i root,
+      has_root words held workers budget block_owners root_owners by_root i root small,
+    )

@@ -12,7 +12,9 @@ owners_by-requires-clause-maps c = subst (λ (heap : Contents). HasMaps (slice_i
 
 pub owners_by-requires-clause-origins : goal.owners_by-requires-clause-origins
 owners_by-requires-clause-origins c =
-    subst (λ (heap : Contents). AreOrigins (slice_index heap.words) (kinds_of (slice_index heap.words)) dict_links c.origins.result.now) (sym c.heap.ensures) c.origins.ensures
+    subst (λ (heap : Contents). AreOrigins (slice_index heap.words) (kinds_of (slice_index heap.words)) dict_links c.origins.result.now)
+    (sym c.heap.ensures) c.origins.ensures
 
 pub returns : goal.returns
-returns c = subst (λ (heap : Contents). IfOk c.owners_by.result (λ o. AreOwnersByRoot (slice_index heap.words) heap.held c.args.workers o.held o.roots)) c.heap.ensures c.owners_by.ensures
+returns c = subst (λ (heap : Contents). IfOk c.owners_by.result (λ o. AreOwnersByRoot
+    (slice_index heap.words) heap.held c.args.workers o.held o.roots)) c.heap.ensures c.owners_by.ensures

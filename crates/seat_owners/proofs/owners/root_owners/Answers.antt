@@ -12,4 +12,5 @@ loop-shard-preserved c = owners_next c.args.workers c.loop-shard.shard c.loop-sh
 pub returns : goal.returns
 returns c =
     let all : c.loop-shard.shard ≡ shards = omega arith in
-    owners_all c.args.workers c.loop-shard.owners.items (subst (λ n. HasOwnersBelow c.args.workers n c.loop-shard.owners.items) all c.loop-shard.invariant)
+    owners_all c.args.workers c.loop-shard.owners.items (subst (λ n. HasOwnersBelow c.args.workers n c.loop-shard.owners.items)
+    all c.loop-shard.invariant)

@@ -11,11 +11,13 @@ pub returns-clause-all : goal.returns-clause-all
 returns-clause-all g c =
     let taken = c.take_all.ensures.taken in
     let parts = ap (λ (a : Account Parcel). a.parts) taken.account ∙ c.requires.parts in
-    all_came _ c.args.pass.now.account c.take_all.new.pass.account c.args.kept.items c.take_all.new.into.items c.sort_by_key.new.self.items c.requires.taken taken
+    all_came _ c.args.pass.now.account c.take_all.new.pass.account c.args.kept.items c.take_all.new.into.items c.sort_by_key.new.self.items
+    c.requires.taken taken
     (c.in_ok-take_all.ensures.all parts) c.sort_by_key.ensures.permutation
 
 pub returns-clause-order : goal.returns-clause-order
 returns-clause-order g c = IsNonDecreasingBy-from_sort_by_key (λ (p : Parcel). p.number) _ c.in_ok-sort_by_key.ensures.sorted (λ a r q k. search rules)
 
 pub returns-clause-each : goal.returns-clause-each
-returns-clause-each g c = All-permutation (IsParcelOf g.J.HeapOf.table) _ _ c.sort_by_key.ensures.permutation (c.in_ok-take_all.ensures.facts c.requires.kept)
+returns-clause-each g c = All-permutation (IsParcelOf g.J.HeapOf.table) _ _ c.sort_by_key.ensures.permutation
+    (c.in_ok-take_all.ensures.facts c.requires.kept)

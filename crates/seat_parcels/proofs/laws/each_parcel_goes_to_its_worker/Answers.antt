@@ -2,4 +2,14 @@ use Rattle.seat_parcels.proofs.RowLemmas.{given_parts, given_rightly, joined_par
 use Rattle.seat_parcels.proofs.laws.each_parcel_goes_to_its_worker.Goals as goal
 
 pub returns : goal.returns
-returns c = record { none = none_put; new = new_rightly; given = given_rightly; joined = joined_rightly; new_parts = new_parts; given_parts = given_parts; joined_parts = joined_parts; each = put_for_it; all = joined_together }
+returns c = record {
+  none = none_put;
+  new = new_rightly;
+  given = given_rightly;
+  joined = joined_rightly;
+  new_parts = new_parts;
+  given_parts = given_parts;
+  joined_parts = joined_parts;
+  each = put_for_it;
+  all = joined_together;
+}

@@ -11,8 +11,10 @@ lay-requires c =
 pub loop-parcel-preserved : goal.loop-parcel-preserved
 loop-parcel-preserved c =
     let to = c.worker_for-to.ensures in
-    one_laid c.args.workers c.args.parcels.items c.loop-parcel.left.items c.pop_front.new.self.items (pieces_of c.loop-parcel.pieces.items) (pieces_of c.lay.new.pieces.items)
+    one_laid c.args.workers c.args.parcels.items c.loop-parcel.left.items c.pop_front.new.self.items (pieces_of c.loop-parcel.pieces.items)
+    (pieces_of c.lay.new.pieces.items)
     c.in-Some.parcel c.worker_for-to.result c.loop-parcel.invariant c.in-Some.ensures.items to (omega (arith, to)) c.in_ok-lay.ensures
 
 pub returns : goal.returns
-returns c = all_laid c.args.workers c.args.parcels.items c.loop-parcel.left.items (pieces_of c.loop-parcel.pieces.items) c.loop-parcel.invariant (search rules)
+returns c = all_laid c.args.workers c.args.parcels.items c.loop-parcel.left.items (pieces_of c.loop-parcel.pieces.items) c.loop-parcel.invariant
+    (search rules)

@@ -21,18 +21,22 @@ returns-in_default-clause-ok g c =
 pub returns-in_err-send-clause-crash : goal.returns-in_err-send-clause-crash
 returns-in_err-send-clause-crash g c =
     let view = g.H.HeapSeat.view in
-    change_then (shard_of c.args.key) (λ m. without_key m c.args.key) (view c.args.seat.now) (view c.take.new.seat) (view c.send.new.seat) (g.met.H.HeapSeat.seat c.take.new.seat)
-    (g.met.H.HeapSeat.seat c.send.new.seat) c.requires.shard.owned c.in_err-send.ensures.unchanged (c.send.ensures.counted c.requires.room).goes_on.kinds c.take.ensures.crash
+    change_then (shard_of c.args.key) (λ m. without_key m c.args.key) (view c.args.seat.now) (view c.take.new.seat) (view c.send.new.seat)
+    (g.met.H.HeapSeat.seat c.take.new.seat)
+    (g.met.H.HeapSeat.seat c.send.new.seat) c.requires.shard.owned c.in_err-send.ensures.unchanged
+    (c.send.ensures.counted c.requires.room).goes_on.kinds c.take.ensures.crash
 
 pub returns-in_err-send-clause-calls : goal.returns-in_err-send-clause-calls
 returns-in_err-send-clause-calls g c =
     let view = g.H.HeapSeat.view in
-    few_sent c.args.key c.args.to (view c.args.seat.now) (view c.take.new.seat) (view c.send.new.seat) c.take.ensures.calls (c.send.ensures.counted c.requires.room)
+    few_sent c.args.key c.args.to (view c.args.seat.now) (view c.take.new.seat) (view c.send.new.seat) c.take.ensures.calls
+    (c.send.ensures.counted c.requires.room)
 
 pub returns-clause-calls : goal.returns-clause-calls
 returns-clause-calls g c =
     let view = g.H.HeapSeat.view in
-    few_sent c.args.key c.args.to (view c.args.seat.now) (view c.take.new.seat) (view c.send.new.seat) c.take.ensures.calls (c.send.ensures.counted c.requires.room)
+    few_sent c.args.key c.args.to (view c.args.seat.now) (view c.take.new.seat) (view c.send.new.seat) c.take.ensures.calls
+    (c.send.ensures.counted c.requires.room)
 
 pub returns-clause-ok : goal.returns-clause-ok
 returns-clause-ok g c =
@@ -40,7 +44,9 @@ returns-clause-ok g c =
     let v = view c.args.seat.now in
     let u = view c.take.new.seat in
     let out = subst (λ (o : Option Block). TakesOut c.args.key o v u) c.in-Some.is c.in_ok-node.ensures.ok in
-    answers_done c.args.key c.in-Some.node v u (view c.send.new.seat) (g.met.H.HeapSeat.seat c.take.new.seat) c.requires.shard out c.take.ensures.crash (c.in_ok-send.ensures.ok c.requires.room) (c.send.ensures.counted c.requires.room) c.args.to
+    answers_done c.args.key c.in-Some.node v u (view c.send.new.seat)
+    (g.met.H.HeapSeat.seat c.take.new.seat) c.requires.shard out c.take.ensures.crash (c.in_ok-send.ensures.ok c.requires.room)
+    (c.send.ensures.counted c.requires.room) c.args.to
 
 pub returns-clause-crash : goal.returns-clause-crash
 returns-clause-crash g c =
@@ -48,7 +54,8 @@ returns-clause-crash g c =
     let v = view c.args.seat.now in
     let u = view c.take.new.seat in
     let out = subst (λ (o : Option Block). TakesOut c.args.key o v u) c.in-Some.is c.in_ok-node.ensures.ok in
-    (gone c.args.key c.in-Some.node v u (view c.send.new.seat) (g.met.H.HeapSeat.seat c.take.new.seat) c.requires.shard out c.take.ensures.crash (c.in_ok-send.ensures.ok c.requires.room) (c.send.ensures.counted c.requires.room)).1
+    (gone c.args.key c.in-Some.node v u (view c.send.new.seat) (g.met.H.HeapSeat.seat c.take.new.seat) c.requires.shard out c.take.ensures.crash
+    (c.in_ok-send.ensures.ok c.requires.room) (c.send.ensures.counted c.requires.room)).1
 
 pub returns-clause-exact : goal.returns-clause-exact
 returns-clause-exact g c = λ all.
@@ -57,7 +64,9 @@ returns-clause-exact g c = λ all.
     let u = view c.take.new.seat in
     let out = subst (λ (o : Option Block). TakesOut c.args.key o v u) c.in-Some.is c.in_ok-node.ensures.ok in
     let left = subst (λ (o : Option Block). ReachesAllLeft o v u) c.in-Some.is c.in_ok-node.ensures.exact in
-    all_gone c.args.key c.in-Some.node v u (view c.send.new.seat) (g.met.H.HeapSeat.seat c.take.new.seat) c.requires.shard out c.take.ensures.crash (c.in_ok-send.ensures.ok c.requires.room) (c.send.ensures.counted c.requires.room) (left all)
+    all_gone c.args.key c.in-Some.node v u (view c.send.new.seat) (g.met.H.HeapSeat.seat c.take.new.seat)
+    c.requires.shard out c.take.ensures.crash (c.in_ok-send.ensures.ok c.requires.room) (c.send.ensures.counted c.requires.room) (left all)
 
 pub returns-clause-goes_on : goal.returns-clause-goes_on
-returns-clause-goes_on g c = g.met.O.Outbox.goes_then c.args.seat.now c.take.new.seat c.send.new.seat (g.met.O.Outbox.goes_kept c.args.seat.now c.take.new.seat c.take.ensures.kept) c.send.ensures.goes_on
+returns-clause-goes_on g c = g.met.O.Outbox.goes_then c.args.seat.now c.take.new.seat c.send.new.seat
+    (g.met.O.Outbox.goes_kept c.args.seat.now c.take.new.seat c.take.ensures.kept) c.send.ensures.goes_on

@@ -9,7 +9,8 @@ pub returns-in_err-has-clause-answered : goal.returns-in_err-has-clause-answered
 returns-in_err-has-clause-answered g c =
     let heap = g.H.HeapSeat in
     let made = c.have_table.ensures in
-    answered_on heap.view heap.keeps heap.has_none c.args.wanted.now c.args.tables.now c.loop-shard.tables c.loop-shard.shard c.args.seat.now c.loop-shard.seat (omega arith) c.loop-shard.invariant
+    answered_on heap.view heap.keeps heap.has_none c.args.wanted.now c.args.tables.now c.loop-shard.tables c.loop-shard.shard c.args.seat.now
+    c.loop-shard.seat (omega arith) c.loop-shard.invariant
     c.have_table.new.seat g.met.H.HeapSeat.keeps_row (g.met.H.HeapSeat.seat c.loop-shard.seat) c.if-wanted-shard.true
     (record { maps = made.maps; change = made.crash; takes = made.taken; calls = made.calls; kept = made.kept })
 
@@ -17,7 +18,8 @@ pub returns-in_err-has-clause-most : goal.returns-in_err-has-clause-most
 returns-in_err-has-clause-most g c =
     let heap = g.H.HeapSeat in
     let made = c.have_table.ensures in
-    most_on heap.view heap.keeps heap.has_none c.args.wanted.now c.args.tables.now c.loop-shard.tables c.loop-shard.shard c.args.seat.now c.loop-shard.seat (omega arith) c.loop-shard.invariant
+    most_on heap.view heap.keeps heap.has_none c.args.wanted.now c.args.tables.now c.loop-shard.tables c.loop-shard.shard c.args.seat.now
+    c.loop-shard.seat (omega arith) c.loop-shard.invariant
     c.have_table.new.seat g.met.H.HeapSeat.keeps_row (g.met.H.HeapSeat.seat c.loop-shard.seat) c.if-wanted-shard.true
     (record { maps = made.maps; change = made.crash; takes = made.taken; calls = made.calls; kept = made.kept })
 
@@ -25,7 +27,8 @@ pub returns-in_err-has-clause-calls : goal.returns-in_err-has-clause-calls
 returns-in_err-has-clause-calls g c =
     let heap = g.H.HeapSeat in
     let made = c.have_table.ensures in
-    calls_most heap.view heap.keeps heap.has_none c.args.wanted.now c.args.tables.now c.loop-shard.tables c.loop-shard.shard c.args.seat.now c.loop-shard.seat (omega arith) c.loop-shard.invariant
+    calls_most heap.view heap.keeps heap.has_none c.args.wanted.now c.args.tables.now c.loop-shard.tables c.loop-shard.shard c.args.seat.now
+    c.loop-shard.seat (omega arith) c.loop-shard.invariant
     c.have_table.new.seat g.met.H.HeapSeat.keeps_row (g.met.H.HeapSeat.seat c.loop-shard.seat) c.if-wanted-shard.true
     (record { maps = made.maps; change = made.crash; takes = made.taken; calls = made.calls; kept = made.kept })
 
@@ -42,18 +45,26 @@ loop-shard-preserved g c = elim c.if-wanted-shard.branch [
   | then-wanted-shard+in_ok-has w ↦
       let heap = g.H.HeapSeat in
       let made = w.have_table.ensures in
-      let on = made_on heap.view heap.keeps heap.has_none c.args.wanted.now c.args.tables.now c.loop-shard.tables c.loop-shard.shard c.args.seat.now c.loop-shard.seat (omega arith) c.loop-shard.invariant
+      let on = made_on heap.view heap.keeps heap.has_none c.args.wanted.now c.args.tables.now c.loop-shard.tables c.loop-shard.shard
+      c.args.seat.now c.loop-shard.seat (omega arith) c.loop-shard.invariant
       w.have_table.new.seat g.met.H.HeapSeat.keeps_row (g.met.H.HeapSeat.seat c.loop-shard.seat) w.if-wanted-shard.true
-      (record { maps = made.maps; change = made.crash; takes = made.taken; calls = made.calls; kept = made.kept }) w.in_ok-has.has w.in_ok-has.ensures.told w.in_ok-has.ensures.none
+      (record { maps = made.maps; change = made.crash; takes = made.taken; calls = made.calls; kept = made.kept })
+      w.in_ok-has.has w.in_ok-has.ensures.told w.in_ok-has.ensures.none
       c.if-wanted-shard.tables
-      (ap (λ fs. is_flagged fs c.loop-shard.shard) w.tables-is ∙ flag_set c.loop-shard.tables c.loop-shard.shard w.in_ok-has.has (let long = sym (ap length w.tables-is) ∙ c.if-wanted-shard.array_long in let same = length-set c.loop-shard.tables c.loop-shard.shard w.in_ok-has.has in omega arith))
+      (ap (λ fs. is_flagged fs c.loop-shard.shard) w.tables-is ∙ flag_set c.loop-shard.tables c.loop-shard.shard w.in_ok-has.has
+      (let long = sym (ap length w.tables-is) ∙ c.if-wanted-shard.array_long in
+      let same = length-set c.loop-shard.tables c.loop-shard.shard w.in_ok-has.has in omega arith))
       (λ k other. ap (λ fs. is_flagged fs k) w.tables-is ∙ flag_stays c.loop-shard.tables c.loop-shard.shard k w.in_ok-has.has other)
       w.in_ok-has.ensures.runs w.in_ok-has.ensures.exact in
-      subst (λ s. HasMade heap.view heap.keeps heap.has_none c.args.wanted.now c.args.tables.now c.if-wanted-shard.tables (c.loop-shard.shard + 1) c.args.seat.now s) (sym w.seat-is) on
+      subst (λ s. HasMade heap.view heap.keeps heap.has_none c.args.wanted.now c.args.tables.now c.if-wanted-shard.tables
+      (c.loop-shard.shard + 1) c.args.seat.now s) (sym w.seat-is) on
   | else-wanted-shard w ↦
       let heap = g.H.HeapSeat in
-      let past = made_past heap.view heap.keeps heap.has_none c.args.wanted.now c.args.tables.now c.loop-shard.tables c.loop-shard.shard c.args.seat.now c.loop-shard.seat (omega arith) c.loop-shard.invariant
+      let past = made_past heap.view heap.keeps heap.has_none c.args.wanted.now c.args.tables.now c.loop-shard.tables c.loop-shard.shard
+      c.args.seat.now c.loop-shard.seat (omega arith) c.loop-shard.invariant
       w.if-wanted-shard.false in
-      subst (λ fs. HasMade heap.view heap.keeps heap.has_none c.args.wanted.now c.args.tables.now fs (c.loop-shard.shard + 1) c.args.seat.now c.if-wanted-shard.seat) (sym w.tables-is)
-      (subst (λ s. HasMade heap.view heap.keeps heap.has_none c.args.wanted.now c.args.tables.now c.loop-shard.tables (c.loop-shard.shard + 1) c.args.seat.now s) (sym w.seat-is) past)
+      subst (λ fs. HasMade heap.view heap.keeps heap.has_none c.args.wanted.now c.args.tables.now fs
+      (c.loop-shard.shard + 1) c.args.seat.now c.if-wanted-shard.seat) (sym w.tables-is)
+      (subst (λ s. HasMade heap.view heap.keeps heap.has_none c.args.wanted.now c.args.tables.now c.loop-shard.tables
+      (c.loop-shard.shard + 1) c.args.seat.now s) (sym w.seat-is) past)
 ]

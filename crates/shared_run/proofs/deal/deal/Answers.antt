@@ -42,12 +42,14 @@ loop-seat-preserved g c =
             reserved = (let long = rooms_long image qs (worker_requests workers c.len.result qs) c.in_ok-rooms.rooms.items rooms in
                 let room = c.in_ok-replies.ensures.capacity in omega arith);
           }));
-      turns = turn_push (λ job. job.worker) workers c.loop-seat.jobs.items c.push_reserved.new.self.items _ c.push_reserved.ensures.items was.turns refl (omega arith);
+      turns = turn_push (λ job. job.worker) workers c.loop-seat.jobs.items c.push_reserved.new.self.items _ c.push_reserved.ensures.items
+          was.turns refl (omega arith);
       count = omega arith;
       workers = was.workers;
       room = c.push_reserved.ensures.capacity ∙ was.room;
       comes = by_chance _ _ _ _ was.comes c.chance.ensures;
-      given = given_more g.C.Chances.chance_gives c.args.chances.now c.loop-seat.chances c.chance.new.self c.loop-seat.jobs.items c.push_reserved.new.self.items _ c.push_reserved.ensures.items was.given c.chance.ensures;
+      given = given_more g.C.Chances.chance_gives c.args.chances.now c.loop-seat.chances c.chance.new.self c.loop-seat.jobs.items
+          c.push_reserved.new.self.items _ c.push_reserved.ensures.items was.given c.chance.ensures;
     }
 
 pub returns-in_err-jobs-clause-chances : goal.returns-in_err-jobs-clause-chances

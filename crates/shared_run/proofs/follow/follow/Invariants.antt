@@ -5,4 +5,5 @@ use Rattle.shared_run.proofs.FollowLemmas.{HaveFollowed}
 use Rattle.shared_run.proofs.follow.follow.Given as goal
 
 abbrev pub invariant-loop-i : goal.invariant-loop-i
-invariant-loop-i l = HaveFollowed (answered (requests_of (take l.i l.requests)) (replies_of (take l.i l.replies))) l.initial.maps.items l.maps.items l.moved.items
+invariant-loop-i l = HaveFollowed (answered (requests_of (take l.i l.requests)) (replies_of (take l.i l.replies)))
+    l.initial.maps.items l.maps.items l.moved.items

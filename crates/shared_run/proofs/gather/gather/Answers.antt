@@ -7,7 +7,8 @@ use Rattle.shared_run.proofs.gather.gather.Goals.{then-stopped, else-stopped}
 
 pub loop-one-init : goal.loop-one-init
 loop-one-init c = record {
-  taken = taken_none c.args.ended.items c.in_ok-seats.seats.items c.in_ok-told.told.items c.new-carriers.result.items c.in_ok-seats.ensures.items c.in_ok-told.ensures.items c.new-carriers.ensures.items;
+  taken = taken_none c.args.ended.items c.in_ok-seats.seats.items c.in_ok-told.told.items c.new-carriers.result.items
+      c.in_ok-seats.ensures.items c.in_ok-told.ensures.items c.new-carriers.ensures.items;
   seats_count = (let none = ap length c.in_ok-seats.ensures.items in omega arith);
   told_count = (let none = ap length c.in_ok-told.ensures.items in omega arith);
   seats_room = (let k = c.in_ok-seats.ensures.exact in let l = c.in_ok-seats.ensures.capacity in omega arith);
@@ -28,8 +29,10 @@ loop-one-preserved c =
       | else-stopped w ↦ w.stopped-is ∙ sym (ap (λ b. b || one.worked.stopped) w.if-stopped.false)
     ] in
     record {
-      taken = taken_more c.args.ended.items c.loop-one.ended.items c.pop.new.self.items one c.from_vec.result c.loop-one.seats.items c.push_reserved.new.self.items c.loop-one.told.items c.push_reserved-in-Some.new.self.items
-          c.loop-one.carriers.items c.append.new.self.items c.loop-one.stopped c.if-stopped.stopped was.taken c.in-Some.ensures.items c.from_vec.ensures.items c.push_reserved.ensures.items c.push_reserved-in-Some.ensures.items
+      taken = taken_more c.args.ended.items c.loop-one.ended.items c.pop.new.self.items one c.from_vec.result c.loop-one.seats.items
+          c.push_reserved.new.self.items c.loop-one.told.items c.push_reserved-in-Some.new.self.items
+          c.loop-one.carriers.items c.append.new.self.items c.loop-one.stopped c.if-stopped.stopped was.taken c.in-Some.ensures.items
+          c.from_vec.ensures.items c.push_reserved.ensures.items c.push_reserved-in-Some.ensures.items
           c.in_ok-append.ensures.items now;
       seats_count = omega arith;
       told_count = omega arith;

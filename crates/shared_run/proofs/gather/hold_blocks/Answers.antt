@@ -16,9 +16,11 @@ loop-carrier-init c = record { held = All-nil (λ (k : CarrierView). IsCarrier k
 
 pub loop-carrier-preserved : goal.loop-carrier-preserved
 loop-carrier-preserved c = record {
-  held = All-more (λ (k : CarrierView). IsCarrier k.view) c.args.carriers.now c.loop-carrier.carrier-index c.carrier-item.result c.loop-carrier-test.true c.loop-carrier.invariant.held
+  held = All-more (λ (k : CarrierView). IsCarrier k.view) c.args.carriers.now c.loop-carrier.carrier-index c.carrier-item.result
+      c.loop-carrier-test.true c.loop-carrier.invariant.held
       (subst (λ (k : CarrierView). IsCarrier k.view) c.carrier-item.is c.holds_its_block.ensures.carrier);
 }
 
 pub returns : goal.returns
-returns c = subst (All (λ (k : CarrierView). IsCarrier k.view)) (take_all c.loop-carrier.carrier-index c.args.carriers.now c.loop-carrier-test.false) c.loop-carrier.invariant.held
+returns c = subst (All (λ (k : CarrierView). IsCarrier k.view)) (take_all c.loop-carrier.carrier-index c.args.carriers.now
+    c.loop-carrier-test.false) c.loop-carrier.invariant.held

@@ -9,7 +9,8 @@ use Rattle.shared_run.proofs.gather.put_in_order.Goals.{in-Some, in-None}
 
 pub loop-request-init : goal.loop-request-init
 loop-request-init c = record {
-  merged = λ any. subst (λ rs. AreMerged (length c.args.told.items) (requests_of c.args.requests.now) [] (requests_of c.args.requests.now) (replies_of rs) (λ worker. replies_of (get_or c.args.told.items worker any).items)
+  merged = λ any. subst (λ rs. AreMerged (length c.args.told.items) (requests_of c.args.requests.now) [] (requests_of c.args.requests.now)
+      (replies_of rs) (λ worker. replies_of (get_or c.args.told.items worker any).items)
       (λ worker. replies_of (get_or c.args.told.items worker any).items)) (sym c.requires.empty)
       (merge_begins (length c.args.told.items) (requests_of c.args.requests.now) (λ worker. replies_of (get_or c.args.told.items worker any).items));
   count = refl;
@@ -39,13 +40,17 @@ loop-request-preserved c =
           let gone = nil_from_length new.items (let ok = new.ok in let none = w.in-None.ensures.cases.1 in omega arith) in
           finds_none w.reply-is (w.in-None.ensures.items ∙ gone) gone
     ] in
-    let taken : (any : Queue) → Takes reply (get_or left k any) new = λ any. subst (λ (q : Queue). Takes reply q new) (sym (get_or_default left k any queue inside ∙ sym c.index_mut.ensures.value)) first in
+    let taken : (any : Queue) → Takes reply (get_or left k any) new =
+    λ any. subst (λ (q : Queue). Takes reply q new) (sym (get_or_default left k any queue inside ∙ sym c.index_mut.ensures.value)) first in
     let now : replies_of c.push_reserved.new.self.items ≡ replies_of c.loop-request.replies.items ++ (reply_of reply ∷ []) =
     ap replies_of c.push_reserved.ensures.items ∙ map-append reply_of c.loop-request.replies.items (reply ∷ []) in
     record {
-      merged = λ any. subst (λ rs. AreMerged (length c.args.told.items) (requests_of lines) (requests_of (take (i + 1) lines)) (requests_of (drop (i + 1) lines)) rs
-          (λ worker. replies_of (get_or c.args.told.items worker any).items) (λ worker. replies_of (get_or (set left k new) worker any).items)) (sym now)
-          (merge_line (length c.args.told.items) lines i line c.loop-request-test.true c.request-item.is c.args.told.items left k new reply inside number taken (replies_of c.loop-request.replies.items) was.merged any);
+      merged = λ any. subst (λ rs. AreMerged (length c.args.told.items) (requests_of lines) (requests_of (take (i + 1) lines))
+          (requests_of (drop (i + 1) lines)) rs
+          (λ worker. replies_of (get_or c.args.told.items worker any).items) (λ worker. replies_of (get_or (set left k new) worker any).items))
+          (sym now)
+          (merge_line (length c.args.told.items) lines i line c.loop-request-test.true c.request-item.is c.args.told.items left k new reply
+          inside number taken (replies_of c.loop-request.replies.items) was.merged any);
       count = length-set left k new ∙ count;
       long = (let was_long = was.long in omega arith);
       room = c.push_reserved.ensures.capacity ∙ was.room;
@@ -59,7 +64,8 @@ returns-clause-each c = λ worker any below few.
     let past = c.loop-request-test.false in
     let none : requests_of (drop i lines) ≡ [] = ap requests_of (drop_all i lines past) in
     let merged = subst (λ qs. AreMerged workers (requests_of lines) (requests_of (take i lines)) qs (replies_of c.loop-request.replies.items)
-    (λ w. replies_of (get_or c.args.told.items w any).items) (λ w. replies_of (get_or c.loop-request.told.items w any).items)) none (c.loop-request.invariant.merged any) in
+    (λ w. replies_of (get_or c.args.told.items w any).items) (λ w. replies_of (get_or c.loop-request.told.items w any).items)) none
+    (c.loop-request.invariant.merged any) in
     merge_ends workers (requests_of lines) (requests_of (take i lines)) (replies_of c.loop-request.replies.items)
     (λ w. replies_of (get_or c.args.told.items w any).items) (λ w. replies_of (get_or c.loop-request.told.items w any).items) merged worker below
     (let long = length-map (get_or c.args.told.items worker any).items reply_of in omega arith)

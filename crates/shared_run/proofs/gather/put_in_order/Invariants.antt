@@ -7,7 +7,8 @@ use Rattle.shared_run.proofs.gather.put_in_order.Given as goal
 
 abbrev pub invariant-loop-request : goal.invariant-loop-request
 invariant-loop-request l = record {
-  merged : (any : Queue) → AreMerged (length l.fn.told.items) (requests_of l.fn.requests) (requests_of (take l.request-index l.requests)) (requests_of (drop l.request-index l.requests)) (replies_of l.replies.items)
+  merged : (any : Queue) → AreMerged (length l.fn.told.items) (requests_of l.fn.requests) (requests_of (take l.request-index l.requests))
+      (requests_of (drop l.request-index l.requests)) (replies_of l.replies.items)
       (λ worker. replies_of (get_or l.fn.told.items worker any).items) (λ worker. replies_of (get_or l.told.items worker any).items);
   count : length l.told.items ≡ length l.fn.told.items;
   long : length l.replies.items ≡ l.request-index;

@@ -6,6 +6,7 @@ use Rattle.super_block.proofs.division.block_words.Goals as goal
 
 pub returns : goal.returns
 returns c =
-    let same : c.size_of.result / 8 ≡ words_of_class c.args.class.number = ap (λ n. n / 8) c.size_of.ensures ∙ words_from_size c.args.class.number c.args.class.is in
+    let same : c.size_of.result / 8 ≡ words_of_class c.args.class.number = ap (λ n. n / 8) c.size_of.ensures
+    ∙ words_from_size c.args.class.number c.args.class.is in
     let two = two_words c.args.class.number c.args.class.is in
     record { words = same; some = omega (arith, same, two) }

@@ -11,4 +11,5 @@ returns-in-Nothing c =
 pub returns-in-Class : goal.returns-in-Class
 returns-in-Class c =
     class_begins (layout_of (slice_index c.args.words.now)) c.args.d c.in-Class.class.number c.class_division.result.words c.class_division.result.count
-    (ap (slice_index c.args.words.now) (sym c.info_index.ensures) ∙ c.in-Class.ensures.0) c.in-Class.ensures.1 c.class_division.ensures.words c.class_division.ensures.count
+    (ap (slice_index c.args.words.now) (sym c.info_index.ensures) ∙ c.in-Class.ensures.0)
+    c.in-Class.ensures.1 c.class_division.ensures.words c.class_division.ensures.count

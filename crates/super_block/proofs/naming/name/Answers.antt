@@ -17,4 +17,6 @@ returns-in_default-division_at-clause-none c =
 
 pub block_in-requires-clause-words : goal.block_in-requires-clause-words
 block_in-requires-clause-words c =
-    let some = some_words (layout_of (slice_index c.args.words.now)) c.in-Some.place.superblock c.in-Some-division_at.division.words c.in-Some-division_at.division.count c.in-Some-division_at.ensures in omega arith
+    let some = some_words (layout_of (slice_index c.args.words.now))
+    c.in-Some.place.superblock c.in-Some-division_at.division.words c.in-Some-division_at.division.count c.in-Some-division_at.ensures in
+    omega arith

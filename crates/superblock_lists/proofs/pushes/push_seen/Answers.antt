@@ -9,7 +9,8 @@ try_push-requires-clause-can g c = let l = c.requires.listed in
 
 pub returns-clause-done : goal.returns-clause-done
 returns-clause-done g c = let e = c.try_push.ensures.event in λ list sees can.
-    exchanged c.args.seat.now.view c.recall_soundness.ensures c.args.d c.draw.new.seat.view c.try_push.new.self.view list e.0 c.in_ok-draw.ensures.drawn c.draw.ensures.row.view sees e.1
+    exchanged c.args.seat.now.view c.recall_soundness.ensures c.args.d c.draw.new.seat.view c.try_push.new.self.view list e.0
+    c.in_ok-draw.ensures.drawn c.draw.ensures.row.view sees e.1
     c.recall_soundness.ensures can c.is_ok.result c.try_push.result e.2 c.is_ok.ensures.value
 
 pub returns-clause-row : goal.returns-clause-row

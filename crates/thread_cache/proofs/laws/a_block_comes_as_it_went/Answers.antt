@@ -5,4 +5,5 @@ pub returns-clause-words : goal.returns-clause-words
 returns-clause-words c = word_comes
 
 pub returns-clause-durable : goal.returns-clause-durable
-returns-clause-durable c = λ b contents v w word goes comes within durable. durable_comes v w word (word_comes b contents v w word goes comes within) durable
+returns-clause-durable c = λ b contents v w word goes comes within durable. durable_comes v w word
+    (word_comes b contents v w word goes comes within) durable

@@ -25,10 +25,12 @@ returns-clause-offered g c = record {
 }
 
 pub returns-clause-sent : goal.returns-clause-sent
-returns-clause-sent g c = offer_sent c.args.seat.now.view c.draw.new.seat.view c.args.block.first_word c.offer.result.view c.draw.ensures.row.view c.in_ok-draw.ensures.drawn c.offer.ensures.carrier
+returns-clause-sent g c = offer_sent c.args.seat.now.view c.draw.new.seat.view c.args.block.first_word c.offer.result.view
+    c.draw.ensures.row.view c.in_ok-draw.ensures.drawn c.offer.ensures.carrier
 
 pub returns-clause-row : goal.returns-clause-row
-returns-clause-row g c = offer_row c.args.seat.now c.draw.new.seat c.offer.new.self c.args.block c.draw.ensures.row c.in_ok-draw.ensures.drawn c.draw.ensures.stores c.offer.ensures.view c.offer.ensures.stores
+returns-clause-row g c = offer_row c.args.seat.now c.draw.new.seat c.offer.new.self c.args.block c.draw.ensures.row c.in_ok-draw.ensures.drawn
+    c.draw.ensures.stores c.offer.ensures.view c.offer.ensures.stores
 
 pub returns-clause-asked : goal.returns-clause-asked
 returns-clause-asked g c = asked_alike c.draw.ensures.numbers (ap (λ (x : View). x.draws) c.offer.ensures.view)

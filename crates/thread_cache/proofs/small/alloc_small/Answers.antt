@@ -7,10 +7,12 @@ use Rattle.thread_cache.proofs.small.alloc_small.Goals as goal
 
 pub returns-in_err-block-in-Filled-clause-none : goal.returns-in_err-block-in-Filled-clause-none
 returns-in_err-block-in-Filled-clause-none g c = on_err c.from_residual-in_err-block-in-Filled.result
-    (stopped_row c.args.seat.now c.refill.new.seat c.args.class.number c.alloc_cached-in-Filled.new.seat c.refill.ensures.row c.in_err-block-in-Filled.ensures.none)
+    (stopped_row c.args.seat.now c.refill.new.seat c.args.class.number c.alloc_cached-in-Filled.new.seat c.refill.ensures.row
+    c.in_err-block-in-Filled.ensures.none)
 
 pub returns-in_err-block-in-Filled-clause-row : goal.returns-in_err-block-in-Filled-clause-row
-returns-in_err-block-in-Filled-clause-row g c = alloc_row c.args.seat.now c.refill.new.seat c.args.class.number c.alloc_cached-in-Filled.new.seat c.refill.ensures.row c.alloc_cached-in-Filled.ensures.row
+returns-in_err-block-in-Filled-clause-row g c = alloc_row c.args.seat.now c.refill.new.seat c.args.class.number
+    c.alloc_cached-in-Filled.new.seat c.refill.ensures.row c.alloc_cached-in-Filled.ensures.row
 
 pub returns-in-Full-clause-light : goal.returns-in-Full-clause-light
 returns-in-Full-clause-light g c = λ same. full_light c.args.seat.now c.refill.new.seat c.args.class.number (c.in_ok-looks.ensures.light same)
@@ -19,18 +21,23 @@ pub returns-in-Full-clause-row : goal.returns-in-Full-clause-row
 returns-in-Full-clause-row g c = full_row c.args.seat.now c.refill.new.seat c.args.class.number c.refill.ensures.row
 
 pub returns-in_ok-block-in-Filled-clause-allocated : goal.returns-in_ok-block-in-Filled-clause-allocated
-returns-in_ok-block-in-Filled-clause-allocated g c = filled_alloc c.args.seat.now.view c.refill.new.seat.view c.alloc_cached-in-Filled.new.seat.view c.args.class.number c.in_ok-block-in-Filled.block
+returns-in_ok-block-in-Filled-clause-allocated g c = filled_alloc c.args.seat.now.view c.refill.new.seat.view
+    c.alloc_cached-in-Filled.new.seat.view c.args.class.number c.in_ok-block-in-Filled.block
     (let n = c.cache-count.ensures.count in omega arith)
-    (subst (λ filling. Refills c.args.class.number filling c.args.seat.now.view c.refill.new.seat.view) c.in-Filled.is c.in_ok-looks.ensures.done) c.in_ok-block-in-Filled.ensures.allocated
+    (subst (λ filling. Refills c.args.class.number filling c.args.seat.now.view c.refill.new.seat.view)
+    c.in-Filled.is c.in_ok-looks.ensures.done) c.in_ok-block-in-Filled.ensures.allocated
 
 pub returns-in_ok-block-in-Filled-clause-light : goal.returns-in_ok-block-in-Filled-clause-light
-returns-in_ok-block-in-Filled-clause-light g c = alloc_light c.args.seat.now c.refill.new.seat c.args.class.number c.alloc_cached-in-Filled.new.seat c.refill.ensures.row c.in_ok-looks.ensures.light c.alloc_cached-in-Filled.ensures.row
+returns-in_ok-block-in-Filled-clause-light g c = alloc_light c.args.seat.now c.refill.new.seat c.args.class.number
+    c.alloc_cached-in-Filled.new.seat c.refill.ensures.row c.in_ok-looks.ensures.light c.alloc_cached-in-Filled.ensures.row
 
 pub returns-in_ok-block-in-Filled-clause-row : goal.returns-in_ok-block-in-Filled-clause-row
-returns-in_ok-block-in-Filled-clause-row g c = alloc_row c.args.seat.now c.refill.new.seat c.args.class.number c.alloc_cached-in-Filled.new.seat c.refill.ensures.row c.alloc_cached-in-Filled.ensures.row
+returns-in_ok-block-in-Filled-clause-row g c = alloc_row c.args.seat.now c.refill.new.seat c.args.class.number c.alloc_cached-in-Filled.new.seat
+    c.refill.ensures.row c.alloc_cached-in-Filled.ensures.row
 
 pub returns-in-Full-clause-drew : goal.returns-in-Full-clause-drew
-returns-in-Full-clause-drew g c = let full = subst (λ filling. Refills c.args.class.number filling c.args.seat.now.view c.refill.new.seat.view) c.in-Full.is c.in_ok-looks.ensures.done in
+returns-in-Full-clause-drew g c = let full = subst (λ filling. Refills c.args.class.number filling c.args.seat.now.view c.refill.new.seat.view)
+    c.in-Full.is c.in_ok-looks.ensures.done in
     let since = full.since in let first = full.class_first in let second = full.free_second in let last = full.last in omega arith
 
 pub returns-then-count-gt0-clause-order : goal.returns-then-count-gt0-clause-order
@@ -40,7 +47,8 @@ pub returns-in-Full-clause-order : goal.returns-in-Full-clause-order
 returns-in-Full-clause-order g c = c.in_ok-looks.ensures.order
 
 pub returns-in_ok-block-in-Filled-clause-order : goal.returns-in_ok-block-in-Filled-clause-order
-returns-in_ok-block-in-Filled-clause-order g c = order_still c.args.class.number c.args.seat.now.view c.refill.new.seat c.alloc_cached-in-Filled.new.seat c.in_ok-looks.ensures.order c.in_ok-block-in-Filled.ensures.looks c.alloc_cached-in-Filled.ensures.row
+returns-in_ok-block-in-Filled-clause-order g c = order_still c.args.class.number c.args.seat.now.view c.refill.new.seat
+    c.alloc_cached-in-Filled.new.seat c.in_ok-looks.ensures.order c.in_ok-block-in-Filled.ensures.looks c.alloc_cached-in-Filled.ensures.row
 
 pub returns-then-count-gt0-clause-cached : goal.returns-then-count-gt0-clause-cached
 returns-then-count-gt0-clause-cached g c = λ some. c.alloc_cached.ensures.row

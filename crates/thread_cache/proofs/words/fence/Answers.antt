@@ -11,7 +11,8 @@ returns-clause-fenced g c =
     has_fenced c.args.seat.now c.draw.new.seat c.fence.new.self c.in_ok-draw.ensures.drawn c.draw.ensures.stores.marks c.fence.ensures.fence
 
 pub returns-clause-row : goal.returns-clause-row
-returns-clause-row g c = row_then c.args.seat.now c.draw.new.seat c.fence.new.self c.draw.ensures.row (fence_row c.draw.new.seat c.fence.new.self c.fence.ensures.fence)
+returns-clause-row g c = row_then c.args.seat.now c.draw.new.seat c.fence.new.self c.draw.ensures.row
+    (fence_row c.draw.new.seat c.fence.new.self c.fence.ensures.fence)
 
 pub returns-clause-drew : goal.returns-clause-drew
 returns-clause-drew g c = runs_drew c.args.seat.now.view c.fence.new.self.view (returns-clause-fenced g c).runs

@@ -6,11 +6,13 @@ use Rattle.thread_cache.proofs.words.store.Goals as goal
 
 pub store_word-requires-clause-can : goal.store_word-requires-clause-can
 store_word-requires-clause-can g c =
-    can_store c.args.seat.now.view c.draw.new.seat.view c.recall_soundness.ensures c.args.word c.args.value c.in_ok-draw.ensures.drawn c.requires.held c.requires.no_batch
+    can_store c.args.seat.now.view c.draw.new.seat.view c.recall_soundness.ensures c.args.word c.args.value c.in_ok-draw.ensures.drawn
+    c.requires.held c.requires.no_batch
 
 pub returns-clause-stored : goal.returns-clause-stored
 returns-clause-stored g c = let e = c.store_word.ensures.event in
-    has_stored c.args.seat.now.view c.draw.new.seat.view c.recall_soundness.ensures c.args.word c.args.value c.in_ok-draw.ensures.drawn c.requires.held c.requires.no_batch c.store_word.new.self.view e.0 e.1
+    has_stored c.args.seat.now.view c.draw.new.seat.view c.recall_soundness.ensures c.args.word c.args.value c.in_ok-draw.ensures.drawn
+    c.requires.held c.requires.no_batch c.store_word.new.self.view e.0 e.1
 
 pub returns-clause-row : goal.returns-clause-row
 returns-clause-row g c = let e = c.store_word.ensures.event in
@@ -19,11 +21,13 @@ returns-clause-row g c = let e = c.store_word.ensures.event in
 
 pub returns-clause-crash : goal.returns-clause-crash
 returns-clause-crash g c = let e = c.store_word.ensures.event in
-    store_crash c.args.seat.now.view c.draw.new.seat.view c.recall_soundness.ensures c.args.word c.args.value c.in_ok-draw.ensures.drawn c.requires.held c.requires.no_batch c.store_word.new.self.view e.0 e.1
+    store_crash c.args.seat.now.view c.draw.new.seat.view c.recall_soundness.ensures c.args.word c.args.value c.in_ok-draw.ensures.drawn
+    c.requires.held c.requires.no_batch c.store_word.new.self.view e.0 e.1
 
 pub returns-clause-looks : goal.returns-clause-looks
 returns-clause-looks g c = let e = c.store_word.ensures.event in
-    store_looks c.args.seat.now.view c.draw.new.seat.view c.recall_soundness.ensures c.args.word c.args.value c.in_ok-draw.ensures.drawn c.requires.held c.requires.no_batch c.store_word.new.self.view e.0 e.1 c.draw.ensures.looks
+    store_looks c.args.seat.now.view c.draw.new.seat.view c.recall_soundness.ensures c.args.word c.args.value c.in_ok-draw.ensures.drawn
+    c.requires.held c.requires.no_batch c.store_word.new.self.view e.0 e.1 c.draw.ensures.looks
 
 pub returns-clause-drew : goal.returns-clause-drew
 returns-clause-drew g c = runs_drew c.args.seat.now.view c.store_word.new.self.view (returns-clause-stored g c).runs

@@ -9,4 +9,5 @@ pub block-requires : goal.block-requires
 block-requires g c = (c.args.b, c.requires.held, refl)
 
 pub returns : goal.returns
-returns g c = holds_also (g.H.HeapSeat.view c.args.seat.now).held c.args.given.now.items c.push_block.new.given.items c.block.result c.block.ensures.held c.in_ok-push_block.ensures.ok c.requires.holds
+returns g c = holds_also (g.H.HeapSeat.view c.args.seat.now).held c.args.given.now.items c.push_block.new.given.items c.block.result
+    c.block.ensures.held c.in_ok-push_block.ensures.ok c.requires.holds

@@ -13,7 +13,9 @@ own_blocks-requires c =
     let held = c.args.held.now in let rest = c.last_seat.new.seats.items in let seat = c.in-Some.seat in
     let last = of_last (λ i (s : SeatView). HasBlocksOf i 2 held s.view) c.args.seats.now.items rest seat c.in-Some.ensures.items c.requires.blocks in
     let number : length rest ≡ c.len-number.result = omega arith in
-    subst (λ (v : View). HasBlocksOf c.len-number.result 2 held v) (sym c.new-seat.ensures.state.view) (subst (λ (n : ℕ). HasBlocksOf n 2 held seat.view) number last)
+    subst (λ (v : View). HasBlocksOf c.len-number.result 2 held v) (sym c.new-seat.ensures.state.view)
+    (subst (λ (n : ℕ). HasBlocksOf n 2 held seat.view) number last)
 
 pub returns-clause-blocks : goal.returns-clause-blocks
-returns-clause-blocks c = of_rest (λ i (s : SeatView). HasBlocksOf i 2 c.args.held.now s.view) c.args.seats.now.items c.last_seat.new.seats.items c.in-Some.seat c.in-Some.ensures.items c.requires.blocks
+returns-clause-blocks c = of_rest (λ i (s : SeatView). HasBlocksOf i 2 c.args.held.now s.view)
+    c.args.seats.now.items c.last_seat.new.seats.items c.in-Some.seat c.in-Some.ensures.items c.requires.blocks

@@ -13,7 +13,11 @@ loop-seat-preserved c =
     let all_seats : c.len-count.result ≡ count = omega arith in
     let roots = subst (λ m. AreRootsOf (length rest) m c.in_ok-roots.roots.items) all_seats
     (subst (λ n. AreRootsOf n c.len-count.result c.in_ok-roots.roots.items) number c.in_ok-roots.ensures) in
-    let job : IsJobOf c.args.shared.now c.in_ok-roots.roots.items seat = record { fresh = popped.1; owns = owns (length rest) count c.in_ok-roots.roots.items seat roots (of_last (λ i. HasRootsOf i count) all rest seat split c.loop-seat.invariant.roots) } in record {
+    let job : IsJobOf c.args.shared.now c.in_ok-roots.roots.items seat = record {
+      fresh = popped.1;
+      owns = owns (length rest) count c.in_ok-roots.roots.items seat roots
+          (of_last (λ i. HasRootsOf i count) all rest seat split c.loop-seat.invariant.roots);
+    } in record {
       seats = popped.0;
       roots = of_rest (λ i. HasRootsOf i count) all rest seat split c.loop-seat.invariant.roots;
       jobs = All-same (λ job. IsJobOf c.args.shared.now job.roots.items job.seat) c.push.new.self.items _ c.in_ok-push.ensures.items

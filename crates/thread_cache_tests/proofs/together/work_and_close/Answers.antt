@@ -15,5 +15,9 @@ close_shared-requires g c =
     let all = c.requires.count in
     subst (AreAllOf shared seats) (sym c.new.ensures.items)
     (handed_none shared seats
-    (record { count = omega (arith, dealt, worked, back, all); each = λ seat there. (All-contains (IsBackFrom shared) seats seat c.in_ok-seats.ensures.seats there).of })
+    (record {
+      count = omega (arith, dealt, worked, back, all);
+      each =
+          λ seat there. (All-contains (IsBackFrom shared) seats seat c.in_ok-seats.ensures.seats there).of;
+    })
     (λ seat there. (All-contains (IsBackFrom shared) seats seat c.in_ok-seats.ensures.seats there).role_is))

@@ -40,7 +40,8 @@ returns-then-eq-7-clause-err c is =
 pub returns-then-eq-8-clause-err : goal.returns-then-eq-8-clause-err
 returns-then-eq-8-clause-err c is =
     let word : c.args.command.now ≡ codes "conservative" = search rules in
-    usage_conservative _ (c.requires ∙ ap (λ (w : List ℕ). Some w) word) (λ image with_map asks. c.parse_conservative.ensures.err is asks.taken.faultless)
+    usage_conservative _ (c.requires ∙ ap (λ (w : List ℕ). Some w) word)
+    (λ image with_map asks. c.parse_conservative.ensures.err is asks.taken.faultless)
 
 pub returns-then-eq-9-clause-err : goal.returns-then-eq-9-clause-err
 returns-then-eq-9-clause-err c is =

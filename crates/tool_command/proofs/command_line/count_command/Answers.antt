@@ -6,5 +6,6 @@ use Rattle.tool_command.proofs.command_line.count_command.Goals as goal
 
 pub returns : goal.returns
 returns c =
-    let named = told_with (λ (a : App). with_rule a (word_rule image_id)) (new_app (codes "count")) (Ok c.new.result) _ c.new.ensures.app c.with_word-command.ensures in
+    let named = told_with (λ (a : App). with_rule a (word_rule image_id)) (new_app (codes "count"))
+    (Ok c.new.result) _ c.new.ensures.app c.with_word-command.ensures in
     told_with (λ (a : App). with_rule a (flag_rule map_id)) _ _ _ named c.with_flag.ensures

@@ -7,5 +7,6 @@ use Rattle.tool_command.proofs.command_line.format_command.Goals as goal
 
 pub returns : goal.returns
 returns c =
-    let named = told_with (λ (a : App). with_rule a (word_rule image_id)) (new_app (codes "format")) (Ok c.new.result) _ c.new.ensures.app c.with_word-command.ensures in
+    let named = told_with (λ (a : App). with_rule a (word_rule image_id)) (new_app (codes "format"))
+    (Ok c.new.result) _ c.new.ensures.app c.with_word-command.ensures in
     told_with (λ (a : App). with_rule a (number_rule capacity_id 1 LARGEST_CAPACITY)) _ _ _ named c.with_number.ensures

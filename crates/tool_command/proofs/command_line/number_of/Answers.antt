@@ -7,7 +7,8 @@ use Rattle.tool_command.proofs.command_line.number_of.Goals as goal
 pub unreachable-requires : goal.unreachable-requires
 unreachable-requires c =
     let read = number_read _ (λ bs r. ParsesUnsigned 64 10 bs r × ExplainsUnsignedError 10 bs r × HasUnsignedDigitsIfOk bs r) (λ u x g. g.0)
-    (found_of c.args.matches.now) c.args.id.now c.get_one.result c.get_one.ensures.none c.get_one.ensures.value c.requires.0 c.requires.1 c.requires.2 in
+    (found_of c.args.matches.now) c.args.id.now c.get_one.result c.get_one.ensures.none c.get_one.ensures.value c.requires.0 c.requires.1
+    c.requires.2 in
     let bad : Some c.requires.0 ≡ None = sym read ∙ c.in_default.is in
     cc
 

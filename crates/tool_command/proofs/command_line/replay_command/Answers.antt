@@ -6,5 +6,6 @@ use Rattle.tool_command.proofs.command_line.replay_command.Goals as goal
 
 pub returns : goal.returns
 returns c =
-    let named = told_with (λ (a : App). with_rule a (word_rule image_id)) (new_app (codes "replay")) (Ok c.new.result) _ c.new.ensures.app c.with_word-command.ensures in
+    let named = told_with (λ (a : App). with_rule a (word_rule image_id)) (new_app (codes "replay"))
+    (Ok c.new.result) _ c.new.ensures.app c.with_word-command.ensures in
     told_with (λ (a : App). with_rule a (option_rule seed_id 0 (2 ^ 64 - 1))) _ _ _ named c.with_option.ensures

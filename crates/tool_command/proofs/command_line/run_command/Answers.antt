@@ -7,7 +7,8 @@ use Rattle.tool_command.proofs.command_line.run_command.Goals as goal
 
 pub returns : goal.returns
 returns c =
-    let named = told_with (λ (a : App). with_rule a (word_rule image_id)) (new_app (codes "run")) (Ok c.new.result) _ c.new.ensures.app c.with_word-command.ensures in
+    let named = told_with (λ (a : App). with_rule a (word_rule image_id)) (new_app (codes "run"))
+    (Ok c.new.result) _ c.new.ensures.app c.with_word-command.ensures in
     let worked = told_with (λ (a : App). with_rule a (needed_option_rule workers_id 1 MOST_WORKERS)) _ _ _ named c.with_needed_option-command.ensures in
     let limited = told_with with_limits _ _ _ worked c.with_limits-command.ensures in
     let summed = told_with (λ (a : App). with_rule a (flag_rule sum_id)) _ _ _ limited c.with_flag-command.ensures in

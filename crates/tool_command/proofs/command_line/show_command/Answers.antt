@@ -6,6 +6,7 @@ use Rattle.tool_command.proofs.command_line.show_command.Goals as goal
 
 pub returns : goal.returns
 returns c =
-    let named = told_with (λ (a : App). with_rule a (word_rule image_id)) (new_app (codes "show")) (Ok c.new.result) _ c.new.ensures.app c.with_word-command.ensures in
+    let named = told_with (λ (a : App). with_rule a (word_rule image_id)) (new_app (codes "show"))
+    (Ok c.new.result) _ c.new.ensures.app c.with_word-command.ensures in
     let mapped = told_with (λ (a : App). with_rule a (flag_rule map_id)) _ _ _ named c.with_flag-command.ensures in
     told_with (λ (a : App). with_rule a (flag_rule par_id)) _ _ _ mapped c.with_flag.ensures

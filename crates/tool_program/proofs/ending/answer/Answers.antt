@@ -34,7 +34,8 @@ returns-in-Err-clause-status g c = told_memory _ _ _ _ c.tell_out_of_memory.ensu
 
 pub returns-in-Ok-clause-has_ended : goal.returns-in-Ok-clause-has_ended
 returns-in-Ok-clause-has_ended g c name asks =
-    c.run_tool-status.ensures.has_ended name (subst (λ (ws : List (List ℕ)). AsksForSource ws name) (sym (ap texts c.deref.ensures.value ∙ c.in-Ok.ensures.ok)) asks)
+    c.run_tool-status.ensures.has_ended name (subst (λ (ws : List (List ℕ)). AsksForSource ws name)
+    (sym (ap texts c.deref.ensures.value ∙ c.in-Ok.ensures.ok)) asks)
 
 pub returns-in-Ok-clause-calls : goal.returns-in-Ok-clause-calls
 returns-in-Ok-clause-calls g c =
@@ -78,7 +79,8 @@ returns-in-Err-clause-chances g c =
 
 pub returns-in-Ok-clause-asked : goal.returns-in-Ok-clause-asked
 returns-in-Ok-clause-asked g c command asks =
-    c.run_tool-status.ensures.asked command (subst (λ (ws : List (List ℕ)). Asks ws command) (sym (ap texts c.deref.ensures.value ∙ c.in-Ok.ensures.ok)) asks)
+    c.run_tool-status.ensures.asked command (subst (λ (ws : List (List ℕ)). Asks ws command)
+    (sym (ap texts c.deref.ensures.value ∙ c.in-Ok.ensures.ok)) asks)
 
 pub returns-in-Err-clause-asked : goal.returns-in-Err-clause-asked
 returns-in-Err-clause-asked g c command asks done = absurd (omega (arith, c.tell_out_of_memory.ensures.status, done))

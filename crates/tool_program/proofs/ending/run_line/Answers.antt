@@ -17,7 +17,8 @@ returns-clause-reading g c = source_by_status _ _ _ _ _ _ _ (c.from.ensures ∙ 
 
 pub returns-clause-chances : goal.returns-clause-chances
 returns-clause-chances g c =
-    chances_by_status g.C.Chances.seed_gives g.C.Chances.chance_gives g.C.Chances.word_gives _ _ _ c.args.chances.now c.answer-status.new.chances (c.from.ensures ∙ c.code.ensures) c.answer-status.ensures.chances
+    chances_by_status g.C.Chances.seed_gives g.C.Chances.chance_gives g.C.Chances.word_gives _ _ _ c.args.chances.now
+    c.answer-status.new.chances (c.from.ensures ∙ c.code.ensures) c.answer-status.ensures.chances
 
 pub returns-clause-asked : goal.returns-clause-asked
 returns-clause-asked g c command asks done = c.answer-status.ensures.asked command asks (sym (c.from.ensures ∙ c.code.ensures) ∙ done)

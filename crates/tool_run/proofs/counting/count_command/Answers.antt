@@ -11,7 +11,8 @@ use Rattle.tool_run.proofs.counting.count_command.Goals as goal
 pub returns-in_err-image-clause-err : goal.returns-in_err-image-clause-err
 returns-in_err-image-clause-err g c =
     at_cause _ c.from_residual.result c.from_residual.ensures
-    (λ fault is. refuses_within (Some kind_count) _ _ _ fault _ is c.in_err-image.ensures.err (count_image c.args.name.now c.args.with_map) tt refl refl)
+    (λ fault is. refuses_within (Some kind_count) _ _ _ fault _ is c.in_err-image.ensures.err
+    (count_image c.args.name.now c.args.with_map) tt refl refl)
 
 pub returns-in_err-text-clause-err : goal.returns-in_err-text-clause-err
 returns-in_err-text-clause-err g c =

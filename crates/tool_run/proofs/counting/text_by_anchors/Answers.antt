@@ -14,9 +14,11 @@ returns-clause-ok c =
     (sym (words_are_in c.in_ok-words.words.items c.args.bytes.items c.in_ok-words.ensures.ok)) c.count_text.ensures.ok
 
 pub returns-clause-err : goal.returns-clause-err
-returns-clause-err c = opening_fault c.in_ok-words.words.items c.args.bytes.items c.in_ok-words.ensures.ok c.count_text.result c.requires c.count_text.ensures.cause
+returns-clause-err c = opening_fault c.in_ok-words.words.items c.args.bytes.items c.in_ok-words.ensures.ok c.count_text.result c.requires
+    c.count_text.ensures.cause
 
 pub returns-clause-sure : goal.returns-clause-sure
 returns-clause-sure c orderly =
     c.count_text.ensures.sure (good_in_words (Some kind_count) c.in_ok-words.words.items c.args.bytes.items c.in_ok-words.ensures.ok c.requires)
-    (subst (λ (ws : List ℕ). IsOrderlyImage (current_words ws first_kinds)) (words_are_in c.in_ok-words.words.items c.args.bytes.items c.in_ok-words.ensures.ok) orderly)
+    (subst (λ (ws : List ℕ). IsOrderlyImage (current_words ws first_kinds))
+    (words_are_in c.in_ok-words.words.items c.args.bytes.items c.in_ok-words.ensures.ok) orderly)

@@ -12,11 +12,13 @@ returns-in_err-put_image-clause-err g c =
 pub returns-in_err-write_all-clause-err : goal.returns-in_err-write_all-clause-err
 returns-in_err-write_all-clause-err g c =
     at_cause _ c.from_residual-in_err-write_all.result c.from_residual-in_err-write_all.ensures
-    (λ fault is. not_printed _ _ _ _ _ _ _ _ _ _ _ fault is (c.in_err-write_all.ensures.cause.rose refl) c.in_ok-put_image.ensures.ok c.as_slice.ensures c.in_err-write_all.ensures.err)
+    (λ fault is. not_printed _ _ _ _ _ _ _ _ _ _ _ fault is (c.in_err-write_all.ensures.cause.rose refl)
+    c.in_ok-put_image.ensures.ok c.as_slice.ensures c.in_err-write_all.ensures.err)
 
 pub returns-in_err-put_image-clause-store_steady : goal.returns-in_err-put_image-clause-store_steady
 returns-in_err-put_image-clause-store_steady g c =
-    stands _ _ _ c.from_residual.result c.in_err-put_image.field-0.0 WriteFault c.from_residual.ensures (λ fault is. is) c.in_err-put_image.ensures.store_steady
+    stands _ _ _ c.from_residual.result c.in_err-put_image.field-0.0 WriteFault c.from_residual.ensures
+    (λ fault is. is) c.in_err-put_image.ensures.store_steady
 
 pub returns-in_err-write_all-clause-store_steady : goal.returns-in_err-write_all-clause-store_steady
 returns-in_err-write_all-clause-store_steady g c other = c.in_ok-put_image.ensures.store_steady (not_err _ _)

@@ -24,7 +24,8 @@ returns-clause-ok g c = (refl, drains _ _ _ c.in_ok-recovered.ensures.ok c.args.
 
 pub returns-in_err-recovered-clause-store_steady : goal.returns-in_err-recovered-clause-store_steady
 returns-in_err-recovered-clause-store_steady g c =
-    stands _ _ _ c.from_residual.result c.in_err-recovered.field-0.0 ReadFault c.from_residual.ensures (λ fault is. is) c.in_err-recovered.ensures.store_steady
+    stands _ _ _ c.from_residual.result c.in_err-recovered.field-0.0 ReadFault c.from_residual.ensures
+    (λ fault is. is) c.in_err-recovered.ensures.store_steady
 
 pub returns-in_err-text-clause-store_steady : goal.returns-in_err-text-clause-store_steady
 returns-in_err-text-clause-store_steady g c other = c.in_ok-recovered.ensures.store_steady (not_err _ _)

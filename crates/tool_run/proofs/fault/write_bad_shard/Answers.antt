@@ -15,18 +15,21 @@ returns-in_err-write_two-2-clause-err g c =
     let number = c.as_bytes.ensures.value ∙ c.format.ensures.text in
     let place = c.as_bytes-2.ensures.value ∙ c.format-2.ensures.text in
     at_err c.from_residual-in_err-write_two-2.result (in_second_pair (codes "bad shard ") (decimal c.args.shard) _ (codes " at ") (decimal c.args.at)
-    _ line_feed _ (g.O.Sink.taken c.write_two.new.out) (g.O.Sink.taken c.args.out.now) _ number place c.in_ok-write_two.ensures.ok c.in_err-write_two-2.ensures.err)
+    _ line_feed _ (g.O.Sink.taken c.write_two.new.out) (g.O.Sink.taken c.args.out.now)
+    _ number place c.in_ok-write_two.ensures.ok c.in_err-write_two-2.ensures.err)
 
 pub returns-clause-ok : goal.returns-clause-ok
 returns-clause-ok g c =
     let number = c.as_bytes.ensures.value ∙ c.format.ensures.text in
     let place = c.as_bytes-2.ensures.value ∙ c.format-2.ensures.text in
     at_ok c.write_all.result c.write_all.ensures.ok (λ third. all_taken (codes "bad shard ") (decimal c.args.shard) _ (codes " at ") (decimal c.args.at)
-    _ line_feed _ (g.O.Sink.taken c.write_two.new.out) (g.O.Sink.taken c.write_two-2.new.out) _ number place c.in_ok-write_two.ensures.ok c.in_ok-write_two-2.ensures.ok third)
+    _ line_feed _ (g.O.Sink.taken c.write_two.new.out) (g.O.Sink.taken c.write_two-2.new.out)
+    _ number place c.in_ok-write_two.ensures.ok c.in_ok-write_two-2.ensures.ok third)
 
 pub returns-clause-err : goal.returns-clause-err
 returns-clause-err g c =
     let number = c.as_bytes.ensures.value ∙ c.format.ensures.text in
     let place = c.as_bytes-2.ensures.value ∙ c.format-2.ensures.text in
     at_error c.write_all.result c.write_all.ensures.err (λ part. in_end (codes "bad shard ") (decimal c.args.shard) _ (codes " at ") (decimal c.args.at)
-    _ line_feed _ (g.O.Sink.taken c.write_two.new.out) (g.O.Sink.taken c.write_two-2.new.out) _ number place c.in_ok-write_two.ensures.ok c.in_ok-write_two-2.ensures.ok part)
+    _ line_feed _ (g.O.Sink.taken c.write_two.new.out) (g.O.Sink.taken c.write_two-2.new.out)
+    _ number place c.in_ok-write_two.ensures.ok c.in_ok-write_two-2.ensures.ok part)

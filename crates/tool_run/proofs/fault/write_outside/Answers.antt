@@ -9,23 +9,31 @@ use Rattle.tool_run.proofs.fault.write_outside.Goals as goal
 pub returns-in_err-write_two-clause-err : goal.returns-in_err-write_two-clause-err
 returns-in_err-write_two-clause-err g c =
     let number = c.as_bytes.ensures.value ∙ c.format.ensures.text in
-    at_err c.from_residual.result (in_first_pair (codes "pointer outside at ") (decimal c.args.at) _ (codes " value ") (encode_lower (to_be_bytes w64 c.args.value))
-    (encode_lower (to_be_bytes w64 c.args.value)) line_feed _ (g.O.Sink.taken c.args.out.now) (g.O.Sink.taken c.args.out.now) _ number refl c.in_err-write_two.ensures.err)
+    at_err c.from_residual.result (in_first_pair (codes "pointer outside at ") (decimal c.args.at) _ (codes " value ")
+    (encode_lower (to_be_bytes w64 c.args.value))
+    (encode_lower (to_be_bytes w64 c.args.value)) line_feed _ (g.O.Sink.taken c.args.out.now)
+    (g.O.Sink.taken c.args.out.now) _ number refl c.in_err-write_two.ensures.err)
 
 pub returns-in_err-write_two-2-clause-err : goal.returns-in_err-write_two-2-clause-err
 returns-in_err-write_two-2-clause-err g c =
     let number = c.as_bytes.ensures.value ∙ c.format.ensures.text in
-    at_err c.from_residual-in_err-write_two-2.result (in_second_pair (codes "pointer outside at ") (decimal c.args.at) _ (codes " value ") (encode_lower (to_be_bytes w64 c.args.value))
-    c.word_digits.result line_feed _ (g.O.Sink.taken c.write_two.new.out) (g.O.Sink.taken c.args.out.now) _ number c.word_digits.ensures c.in_ok-write_two.ensures.ok c.in_err-write_two-2.ensures.err)
+    at_err c.from_residual-in_err-write_two-2.result (in_second_pair (codes "pointer outside at ") (decimal c.args.at) _ (codes " value ")
+    (encode_lower (to_be_bytes w64 c.args.value))
+    c.word_digits.result line_feed _ (g.O.Sink.taken c.write_two.new.out)
+    (g.O.Sink.taken c.args.out.now) _ number c.word_digits.ensures c.in_ok-write_two.ensures.ok c.in_err-write_two-2.ensures.err)
 
 pub returns-clause-ok : goal.returns-clause-ok
 returns-clause-ok g c =
     let number = c.as_bytes.ensures.value ∙ c.format.ensures.text in
-    at_ok c.write_all.result c.write_all.ensures.ok (λ third. all_taken (codes "pointer outside at ") (decimal c.args.at) _ (codes " value ") (encode_lower (to_be_bytes w64 c.args.value))
-    c.word_digits.result line_feed _ (g.O.Sink.taken c.write_two.new.out) (g.O.Sink.taken c.write_two-2.new.out) _ number c.word_digits.ensures c.in_ok-write_two.ensures.ok c.in_ok-write_two-2.ensures.ok third)
+    at_ok c.write_all.result c.write_all.ensures.ok (λ third. all_taken (codes "pointer outside at ") (decimal c.args.at) _ (codes " value ")
+    (encode_lower (to_be_bytes w64 c.args.value))
+    c.word_digits.result line_feed _ (g.O.Sink.taken c.write_two.new.out)
+    (g.O.Sink.taken c.write_two-2.new.out) _ number c.word_digits.ensures c.in_ok-write_two.ensures.ok c.in_ok-write_two-2.ensures.ok third)
 
 pub returns-clause-err : goal.returns-clause-err
 returns-clause-err g c =
     let number = c.as_bytes.ensures.value ∙ c.format.ensures.text in
-    at_error c.write_all.result c.write_all.ensures.err (λ part. in_end (codes "pointer outside at ") (decimal c.args.at) _ (codes " value ") (encode_lower (to_be_bytes w64 c.args.value))
-    c.word_digits.result line_feed _ (g.O.Sink.taken c.write_two.new.out) (g.O.Sink.taken c.write_two-2.new.out) _ number c.word_digits.ensures c.in_ok-write_two.ensures.ok c.in_ok-write_two-2.ensures.ok part)
+    at_error c.write_all.result c.write_all.ensures.err (λ part. in_end (codes "pointer outside at ") (decimal c.args.at) _ (codes " value ")
+    (encode_lower (to_be_bytes w64 c.args.value))
+    c.word_digits.result line_feed _ (g.O.Sink.taken c.write_two.new.out)
+    (g.O.Sink.taken c.write_two-2.new.out) _ number c.word_digits.ensures c.in_ok-write_two.ensures.ok c.in_ok-write_two-2.ensures.ok part)

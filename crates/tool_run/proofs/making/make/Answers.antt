@@ -13,12 +13,14 @@ use Rattle.tool_run.proofs.making.make.Goals as goal
 pub returns-in-Run-clause-image_first : goal.returns-in-Run-clause-image_first
 returns-in-Run-clause-image_first g c at has refuses =
     c.run_command.ensures.image_first at
-    (subst (λ (name : List ℕ). HoldsOutside (g.I.ImageStore.contents c.args.images.now) name at) (ap (λ (i : Invocation). image_name (command_of i)) c.in-Run.is) has)
+    (subst (λ (name : List ℕ). HoldsOutside (g.I.ImageStore.contents c.args.images.now) name at)
+    (ap (λ (i : Invocation). image_name (command_of i)) c.in-Run.is) has)
 
 pub returns-in-Replay-clause-image_first : goal.returns-in-Replay-clause-image_first
 returns-in-Replay-clause-image_first g c at has refuses =
     c.replay_named.ensures.image_first at
-    (subst (λ (name : List ℕ). HoldsOutside (g.I.ImageStore.contents c.args.images.now) name at) (ap (λ (i : Invocation). image_name (command_of i)) c.in-Replay.is) has)
+    (subst (λ (name : List ℕ). HoldsOutside (g.I.ImageStore.contents c.args.images.now) name at)
+    (ap (λ (i : Invocation). image_name (command_of i)) c.in-Replay.is) has)
 
 pub returns-in-Count-clause-err : goal.returns-in-Count-clause-err
 returns-in-Count-clause-err g c =

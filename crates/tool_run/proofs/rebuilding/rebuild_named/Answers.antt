@@ -17,8 +17,10 @@ rebuild_image-requires-after_bounds g c lifetimes live =
 pub returns-clause-ok : goal.returns-clause-ok
 returns-clause-ok g c =
     let both = c.in_ok-words in
-    rebuilds_named (g.I.ImageStore.contents c.args.images.now) c.args.name.now both.words.items both.recovered both.ensures.ok c.args.budget c.in_ok-product.product.image c.in_ok-product.product.text
-    (subst (λ (ws : List ℕ). IsSomeAnd c.in_ok-product.product.image (λ image. Rebuilds (slice_index ws) (length ws) c.args.budget image c.in_ok-product.product.text))
+    rebuilds_named (g.I.ImageStore.contents c.args.images.now) c.args.name.now both.words.items both.recovered both.ensures.ok c.args.budget
+    c.in_ok-product.product.image c.in_ok-product.product.text
+    (subst (λ (ws : List ℕ). IsSomeAnd c.in_ok-product.product.image
+    (λ image. Rebuilds (slice_index ws) (length ws) c.args.budget image c.in_ok-product.product.text))
     c.deref.ensures.value c.in_ok-product.ensures.ok)
 
 pub returns-clause-asked : goal.returns-clause-asked
@@ -26,8 +28,10 @@ returns-clause-asked g c =
     let both = c.in_ok-words in
     let product = c.in_ok-product.product in
     rebuild_asks (g.I.ImageStore.contents c.args.images.now) c.args.name.now both.words.items both.recovered both.ensures.ok
-    g.C.Chances.seed_gives g.C.Chances.chance_gives g.C.One.Chance.draw_gives g.C.Chances.word_gives c.args.budget c.args.seed _ _ product.image product.text
-    (subst (λ (ws : List ℕ). IsSomeAnd product.image (λ image. RebuildAsks g.C.Chances.seed_gives g.C.Chances.chance_gives g.C.One.Chance.draw_gives g.C.Chances.word_gives
+    g.C.Chances.seed_gives g.C.Chances.chance_gives g.C.One.Chance.draw_gives g.C.Chances.word_gives c.args.budget c.args.seed _ _ product.image
+    product.text
+    (subst (λ (ws : List ℕ). IsSomeAnd product.image (λ image. RebuildAsks g.C.Chances.seed_gives g.C.Chances.chance_gives
+    g.C.One.Chance.draw_gives g.C.Chances.word_gives
     (slice_index ws) c.args.budget c.args.seed image product.text c.args.chances.now c.rebuild_image.new.chances))
     c.deref.ensures.value c.in_ok-product.ensures.asked)
 

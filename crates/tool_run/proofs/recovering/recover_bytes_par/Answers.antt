@@ -24,12 +24,14 @@ returns-clause-formed g c =
 pub returns-clause-long : goal.returns-clause-long
 returns-clause-long g c =
     c.in_ok-recovered.ensures.ok.long
-    ∙ ap (λ (ws : List ℕ). length ws) (current_in c.in_ok-words.words.items c.root_kinds.result c.args.bytes.items c.root_kinds.ensures.list c.in_ok-words.ensures.ok)
+    ∙ ap (λ (ws : List ℕ). length ws) (current_in c.in_ok-words.words.items c.root_kinds.result c.args.bytes.items c.root_kinds.ensures.list
+    c.in_ok-words.ensures.ok)
 
 pub returns-clause-none : goal.returns-clause-none
 returns-clause-none g c =
     subst (λ (image : Image). (at : ℕ) → PointsOutside image at → ⊥)
-    (image_is c.in_ok-words.words.items c.root_kinds.result c.args.bytes.items c.root_kinds.ensures.list c.in_ok-words.ensures.ok) c.in_ok-recovered.ensures.none
+    (image_is c.in_ok-words.words.items c.root_kinds.result c.args.bytes.items c.root_kinds.ensures.list c.in_ok-words.ensures.ok)
+    c.in_ok-recovered.ensures.none
 
 pub returns-in_err-recovered-clause-err : goal.returns-in_err-recovered-clause-err
 returns-in_err-recovered-clause-err g c =

@@ -17,7 +17,8 @@ returns-in_err-recovered-clause-err g c =
     (λ fault is. is_refused _ _ _ _ _ _ fault is c.in_ok-image.ensures.ok refl c.in_err-recovered.ensures.err)
 
 pub returns-clause-ok : goal.returns-clause-ok
-returns-clause-ok g c = is_recovered _ _ _ _ _ c.in_ok-image.ensures.ok refl c.in_ok-recovered.ensures.ok c.in_ok-recovered.ensures.none c.in_ok-recovered.ensures.formed c.in_ok-recovered.ensures.long
+returns-clause-ok g c = is_recovered _ _ _ _ _ c.in_ok-image.ensures.ok refl c.in_ok-recovered.ensures.ok c.in_ok-recovered.ensures.none
+    c.in_ok-recovered.ensures.formed c.in_ok-recovered.ensures.long
 
 pub returns-in_err-image-clause-store_steady : goal.returns-in_err-image-clause-store_steady
 returns-in_err-image-clause-store_steady g c =

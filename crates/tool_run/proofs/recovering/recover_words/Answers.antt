@@ -18,7 +18,8 @@ returns-in_err-both-clause-err g c =
 
 pub returns-clause-ok : goal.returns-clause-ok
 returns-clause-ok g c =
-    is_recovered_from _ _ _ _ c.in_ok-both.both.0.items _ c.in_ok-image.ensures.ok refl c.in_ok-both.ensures.ok c.in_ok-both.ensures.none c.in_ok-both.ensures.formed c.in_ok-both.ensures.words c.in_ok-both.ensures.long
+    is_recovered_from _ _ _ _ c.in_ok-both.both.0.items _ c.in_ok-image.ensures.ok refl c.in_ok-both.ensures.ok c.in_ok-both.ensures.none
+    c.in_ok-both.ensures.formed c.in_ok-both.ensures.words c.in_ok-both.ensures.long
 
 pub returns-in_err-image-clause-store_steady : goal.returns-in_err-image-clause-store_steady
 returns-in_err-image-clause-store_steady g c =

@@ -19,7 +19,8 @@ pub returns-in_err-schedule-clause-err : goal.returns-in_err-schedule-clause-err
 returns-in_err-schedule-clause-err g c =
     let contents = g.I.ImageStore.contents c.args.images.now in
     at_cause _ c.from_residual-in_err-schedule.result c.from_residual-in_err-schedule.ensures
-    (λ fault is. refused_later contents c.args.name.now c.in_ok-recovered.recovered c.in_ok-recovered.ensures.ok (g.T.Source.left c.args.source.now) c.args.seed _ _ fault _ is
+    (λ fault is. refused_later contents c.args.name.now c.in_ok-recovered.recovered c.in_ok-recovered.ensures.ok
+    (g.T.Source.left c.args.source.now) c.args.seed _ _ fault _ is
     (c.in_err-schedule.ensures.err contents c.args.name.now))
 
 pub returns-in_err-schedule-clause-unread : goal.returns-in_err-schedule-clause-unread
@@ -27,7 +28,8 @@ returns-in_err-schedule-clause-unread g c =
     let contents = g.I.ImageStore.contents c.args.images.now in
     let left = g.T.Source.left c.args.source.now in
     at_cause _ c.from_residual-in_err-schedule.result c.from_residual-in_err-schedule.ensures
-    (λ fault is before. absurd (was_read contents left c.args.name.now c.args.seed _ c.in_err-schedule.field-0.0 (c.in_err-schedule.ensures.err contents c.args.name.now)
+    (λ fault is before. absurd (was_read contents left c.args.name.now c.args.seed _ c.in_err-schedule.field-0.0
+    (c.in_err-schedule.ensures.err contents c.args.name.now)
     (subst (IsBeforeReading (replay_image c.args.name.now c.args.seed)) is before)))
 
 pub replay_image-requires-clause-schedule : goal.replay_image-requires-clause-schedule
@@ -89,7 +91,8 @@ returns-in_err-recovered-clause-at_most g c = none_taken _ _
 
 pub returns-in_err-schedule-clause-steady : goal.returns-in_err-schedule-clause-steady
 returns-in_err-schedule-clause-steady g c =
-    stands _ _ _ c.from_residual-in_err-schedule.result c.in_err-schedule.field-0.0 ReadFault c.from_residual-in_err-schedule.ensures (λ fault is. is) c.in_err-schedule.ensures.steady
+    stands _ _ _ c.from_residual-in_err-schedule.result c.in_err-schedule.field-0.0 ReadFault c.from_residual-in_err-schedule.ensures
+    (λ fault is. is) c.in_err-schedule.ensures.steady
 
 pub returns-in_err-product-clause-steady : goal.returns-in_err-product-clause-steady
 returns-in_err-product-clause-steady g c other = c.in_ok-schedule.ensures.steady (not_err _ _)
@@ -99,7 +102,8 @@ returns-clause-steady g c other = c.in_ok-schedule.ensures.steady (not_err _ _)
 
 pub returns-in_err-recovered-clause-store_steady : goal.returns-in_err-recovered-clause-store_steady
 returns-in_err-recovered-clause-store_steady g c =
-    stands _ _ _ c.from_residual.result c.in_err-recovered.field-0.0 ReadFault c.from_residual.ensures (λ fault is. is) c.in_err-recovered.ensures.store_steady
+    stands _ _ _ c.from_residual.result c.in_err-recovered.field-0.0 ReadFault c.from_residual.ensures
+    (λ fault is. is) c.in_err-recovered.ensures.store_steady
 
 pub returns-in_err-schedule-clause-store_steady : goal.returns-in_err-schedule-clause-store_steady
 returns-in_err-schedule-clause-store_steady g c other = c.in_ok-recovered.ensures.store_steady (not_err _ _)

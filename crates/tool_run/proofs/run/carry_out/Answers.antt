@@ -17,7 +17,8 @@ returns-in_err-product-clause-seeded_err g c =
 pub returns-clause-err : goal.returns-clause-err
 returns-clause-err g c =
     if_error _ _ c.deliver.result c.deliver.ensures.err
-    (λ fault why. stops_at_delivery _ _ _ _ _ _ _ _ _ _ _ _ _ _ _ _ fault c.in_ok-product.ensures.ok c.image.ensures c.make.ensures.unchanged (c.in_ok-product.ensures.store_steady (not_err _ _)) why)
+    (λ fault why. stops_at_delivery _ _ _ _ _ _ _ _ _ _ _ _ _ _ _ _ fault c.in_ok-product.ensures.ok c.image.ensures c.make.ensures.unchanged
+    (c.in_ok-product.ensures.store_steady (not_err _ _)) why)
 
 pub returns-clause-calls : goal.returns-clause-calls
 returns-clause-calls g c =
@@ -25,7 +26,8 @@ returns-clause-calls g c =
 
 pub returns-clause-calls_err : goal.returns-clause-calls_err
 returns-clause-calls_err g c =
-    calls_undelivered _ _ _ _ _ _ _ _ c.in_ok-product.ensures.ok c.make.ensures.calls _ _ _ _ _ _ _ _ c.deliver.result c.deliver.ensures.err c.deliver.ensures.put c.deliver.ensures.not_put
+    calls_undelivered _ _ _ _ _ _ _ _ c.in_ok-product.ensures.ok c.make.ensures.calls _ _ _ _ _ _ _ _ c.deliver.result c.deliver.ensures.err
+    c.deliver.ensures.put c.deliver.ensures.not_put
 
 pub returns-in_err-product-clause-steady : goal.returns-in_err-product-clause-steady
 returns-in_err-product-clause-steady g c =
@@ -36,7 +38,8 @@ returns-clause-steady g c other = c.in_ok-product.ensures.steady (not_err _ _)
 
 pub returns-in_err-product-clause-store_steady : goal.returns-in_err-product-clause-store_steady
 returns-in_err-product-clause-store_steady g c read write =
-    stands _ _ _ c.from_residual.result c.in_err-product.field-0.0 ReadFault c.from_residual.ensures (λ fault is. is) c.in_err-product.ensures.store_steady read
+    stands _ _ _ c.from_residual.result c.in_err-product.field-0.0 ReadFault c.from_residual.ensures
+    (λ fault is. is) c.in_err-product.ensures.store_steady read
 
 pub returns-clause-store_steady : goal.returns-clause-store_steady
 returns-clause-store_steady g c read write = c.deliver.ensures.store_steady write ∙ c.in_ok-product.ensures.store_steady (not_err _ _)

@@ -18,18 +18,21 @@ use Rattle.tool_run.proofs.run.run_tool.Goals as goal
 
 pub returns-in-Ok-carry_out-clause-seeded : goal.returns-in-Ok-carry_out-clause-seeded
 returns-in-Ok-carry_out-clause-seeded g c other asks ended =
-    by_its_seed g.C.Chances.seed_gives g.C.Chances.chance_gives g.C.Chances.word_gives _ _ other c.args.chances.now c.carry_out.new.chances c.in-Ok.ensures.ok asks c.in-Ok-carry_out.ensures.seeded
+    by_its_seed g.C.Chances.seed_gives g.C.Chances.chance_gives g.C.Chances.word_gives _ _ other c.args.chances.now c.carry_out.new.chances
+    c.in-Ok.ensures.ok asks c.in-Ok-carry_out.ensures.seeded
 
 pub returns-in-Err-clause-seeded : goal.returns-in-Err-clause-seeded
 returns-in-Err-clause-seeded g c other asks =
-    cut_off_by_its_seed g.C.Chances.seed_gives g.C.Chances.chance_gives g.C.Chances.word_gives _ _ other c.args.chances.now c.carry_out.new.chances c.in-Ok.ensures.ok asks _ c.in-Err.fault c.tell-in-Err.ensures.status c.in-Err.ensures.seeded_err
+    cut_off_by_its_seed g.C.Chances.seed_gives g.C.Chances.chance_gives g.C.Chances.word_gives _ _ other c.args.chances.now
+    c.carry_out.new.chances c.in-Ok.ensures.ok asks _ c.in-Err.fault c.tell-in-Err.ensures.status c.in-Err.ensures.seeded_err
 
 pub returns-in-Err-Usage-clause-seeded : goal.returns-in-Err-Usage-clause-seeded
 returns-in-Err-Usage-clause-seeded g c command asks = absurd (c.parse.ensures.err (search rules) command asks)
 
 pub returns-in-Ok-carry_out-clause-asked : goal.returns-in-Ok-carry_out-clause-asked
 returns-in-Ok-carry_out-clause-asked g c other asks ended =
-    by_its_command g.C.Chances.seed_gives g.C.Chances.chance_gives g.C.Chances.word_gives _ _ other c.args.chances.now c.carry_out.new.chances c.in-Ok.ensures.ok asks
+    by_its_command g.C.Chances.seed_gives g.C.Chances.chance_gives g.C.Chances.word_gives _ _ other c.args.chances.now c.carry_out.new.chances
+    c.in-Ok.ensures.ok asks
     _ _ _ _ _ _ c.in-Ok-carry_out.ensures.asked
 
 pub returns-in-Err-clause-asked : goal.returns-in-Err-clause-asked
@@ -43,7 +46,8 @@ returns-in-Err-clause-known g c = has_status c.in-Err.fault _ c.tell-in-Err.ensu
 
 pub returns-in-Err-clause-read_fault : goal.returns-in-Err-clause-read_fault
 returns-in-Err-clause-read_fault g c =
-    is_read_fault _ _ _ _ _ _ _ _ _ _ _ _ (g.O.Sink.taken c.tell-in-Err.new.out) _ c.in-Ok.ensures.ok c.carry_out.ensures.later_sink c.tell-in-Err.ensures.later
+    is_read_fault _ _ _ _ _ _ _ _ _ _ _ _ (g.O.Sink.taken c.tell-in-Err.new.out)
+    _ c.in-Ok.ensures.ok c.carry_out.ensures.later_sink c.tell-in-Err.ensures.later
     (λ other. c.in-Err.ensures.sink_steady (not_told _ _ c.in-Err.fault WriteFault c.tell-in-Err.ensures.status other))
     c.in-Err.fault c.in-Err.ensures.err c.tell-in-Err.ensures.status
 
@@ -107,8 +111,10 @@ returns-in-Ok-carry_out-clause-always_bad_shard g c = not_done_bad _ _ _ _ _ _ _
 
 pub returns-in-Err-clause-complete : goal.returns-in-Err-clause-complete
 returns-in-Err-clause-complete g c other asks can store source sink =
-    stops_complete _ _ _ _ _ _ _ _ _ _ _ _ c.in-Err.fault c.in-Ok.ensures.ok c.in-Err.ensures.err c.tell-in-Err.ensures.status other asks can store source
-    (λ once. sink (rose_by_then (g.O.Sink.faults c.args.out.now) (g.O.Sink.faults c.carry_out.new.out) (g.O.Sink.faults c.tell-in-Err.new.out) once c.tell-in-Err.ensures.later))
+    stops_complete _ _ _ _ _ _ _ _ _ _ _ _ c.in-Err.fault c.in-Ok.ensures.ok c.in-Err.ensures.err c.tell-in-Err.ensures.status other asks can
+    store source
+    (λ once. sink (rose_by_then (g.O.Sink.faults c.args.out.now) (g.O.Sink.faults c.carry_out.new.out)
+    (g.O.Sink.faults c.tell-in-Err.new.out) once c.tell-in-Err.ensures.later))
 
 pub returns-in-Err-clause-absent : goal.returns-in-Err-clause-absent
 returns-in-Err-clause-absent g c =
@@ -186,7 +192,8 @@ pub returns-in-Err-Usage-clause-always_bad_step : goal.returns-in-Err-Usage-clau
 returns-in-Err-Usage-clause-always_bad_step g c name line asks = absurd (c.parse.ensures.err (search rules) (replay_image name asks.seed) asks.asked)
 
 pub returns-in-Err-Usage-clause-always_schedule_too_long : goal.returns-in-Err-Usage-clause-always_schedule_too_long
-returns-in-Err-Usage-clause-always_schedule_too_long g c name asks = absurd (c.parse.ensures.err (search rules) (replay_image name asks.seed) asks.asked)
+returns-in-Err-Usage-clause-always_schedule_too_long g c name asks =
+    absurd (c.parse.ensures.err (search rules) (replay_image name asks.seed) asks.asked)
 
 pub returns-in-Ok-carry_out-clause-always_cause : goal.returns-in-Ok-carry_out-clause-always_cause
 returns-in-Ok-carry_out-clause-always_cause g c = not_done_malformed _ _ _ _ _ _ _ _ c.in-Ok.ensures.ok c.in-Ok-carry_out.ensures.ok
@@ -229,7 +236,8 @@ returns-in-Ok-carry_out-clause-no_failed_call g c read write = c.in-Ok-carry_out
 
 pub returns-in-Err-clause-no_failed_call : goal.returns-in-Err-clause-no_failed_call
 returns-in-Err-clause-no_failed_call g c read write =
-    c.in-Err.ensures.store_steady (not_told _ _ c.in-Err.fault ReadFault c.tell-in-Err.ensures.status read) (not_told _ _ c.in-Err.fault WriteFault c.tell-in-Err.ensures.status write)
+    c.in-Err.ensures.store_steady (not_told _ _ c.in-Err.fault ReadFault c.tell-in-Err.ensures.status read)
+    (not_told _ _ c.in-Err.fault WriteFault c.tell-in-Err.ensures.status write)
 
 pub returns-in-Ok-carry_out-clause-no_failed_write : goal.returns-in-Ok-carry_out-clause-no_failed_write
 returns-in-Ok-carry_out-clause-no_failed_write g c done = c.in-Ok-carry_out.ensures.sink_steady (not_err _ _)

@@ -25,30 +25,37 @@ run_image-requires-clause-short g c lifetimes within =
 pub returns-clause-ok : goal.returns-clause-ok
 returns-clause-ok g c =
     let product = c.in_ok-product.product in
-    runs_trace _ _ _ _ _ c.in_ok-mapped.ensures.ok c.in_ok-requests.requests.items c.in_ok-requests.ensures.ok (options_of c.args.options) product.image product.text
-    (subst (λ (l : List Line). IsSomeAnd product.image (λ image. RunsRequests (slice_index c.in_ok-mapped.mapped.words) (requests_of l) (options_of c.args.options) image product.text))
+    runs_trace _ _ _ _ _ c.in_ok-mapped.ensures.ok c.in_ok-requests.requests.items c.in_ok-requests.ensures.ok
+    (options_of c.args.options) product.image product.text
+    (subst (λ (l : List Line). IsSomeAnd product.image (λ image. RunsRequests (slice_index c.in_ok-mapped.mapped.words) (requests_of l)
+    (options_of c.args.options) image product.text))
     c.deref.ensures.value c.in_ok-product.ensures.ok)
 
 pub returns-clause-asked : goal.returns-clause-asked
 returns-clause-asked g c =
-    run_asks g.C.Chances.seed_gives g.C.Chances.chance_gives g.C.Chances.word_gives _ _ _ _ c.in_ok-mapped.ensures.ok (options_of c.args.options) _ _ c.in_ok-product.product.image
+    run_asks g.C.Chances.seed_gives g.C.Chances.chance_gives g.C.Chances.word_gives _ _ _ _ c.in_ok-mapped.ensures.ok
+    (options_of c.args.options) _ _ c.in_ok-product.product.image
     c.in_ok-product.ensures.asked
 
 pub returns-in_err-requests-clause-image_first : goal.returns-in_err-requests-clause-image_first
-returns-in_err-requests-clause-image_first g c at has = absurd (mapped_inside (g.I.ImageStore.contents c.args.images.now) c.args.name.now c.args.name.now at refl c.in_ok-mapped.ensures.ok.image has)
+returns-in_err-requests-clause-image_first g c at has = absurd (mapped_inside
+    (g.I.ImageStore.contents c.args.images.now) c.args.name.now c.args.name.now at refl c.in_ok-mapped.ensures.ok.image has)
 
 pub returns-in_err-product-clause-image_first : goal.returns-in_err-product-clause-image_first
-returns-in_err-product-clause-image_first g c at has = absurd (mapped_inside (g.I.ImageStore.contents c.args.images.now) c.args.name.now c.args.name.now at refl c.in_ok-mapped.ensures.ok.image has)
+returns-in_err-product-clause-image_first g c at has = absurd (mapped_inside
+    (g.I.ImageStore.contents c.args.images.now) c.args.name.now c.args.name.now at refl c.in_ok-mapped.ensures.ok.image has)
 
 pub returns-clause-image_first : goal.returns-clause-image_first
-returns-clause-image_first g c at has = absurd (mapped_inside (g.I.ImageStore.contents c.args.images.now) c.args.name.now c.args.name.now at refl c.in_ok-mapped.ensures.ok.image has)
+returns-clause-image_first g c at has = absurd (mapped_inside (g.I.ImageStore.contents c.args.images.now)
+    c.args.name.now c.args.name.now at refl c.in_ok-mapped.ensures.ok.image has)
 
 pub returns-in_err-mapped-clause-at_most : goal.returns-in_err-mapped-clause-at_most
 returns-in_err-mapped-clause-at_most g c = none_taken _ _
 
 pub returns-in_err-requests-clause-steady : goal.returns-in_err-requests-clause-steady
 returns-in_err-requests-clause-steady g c =
-    stands _ _ _ c.from_residual-in_err-requests.result c.in_err-requests.field-0.0 ReadFault c.from_residual-in_err-requests.ensures (λ fault is. is) c.in_err-requests.ensures.steady
+    stands _ _ _ c.from_residual-in_err-requests.result c.in_err-requests.field-0.0 ReadFault c.from_residual-in_err-requests.ensures
+    (λ fault is. is) c.in_err-requests.ensures.steady
 
 pub returns-in_err-product-clause-steady : goal.returns-in_err-product-clause-steady
 returns-in_err-product-clause-steady g c other = c.in_ok-requests.ensures.steady (not_err _ _)
@@ -58,7 +65,8 @@ returns-clause-steady g c other = c.in_ok-requests.ensures.steady (not_err _ _)
 
 pub returns-in_err-mapped-clause-store_steady : goal.returns-in_err-mapped-clause-store_steady
 returns-in_err-mapped-clause-store_steady g c =
-    stands _ _ _ c.from_residual.result c.in_err-mapped.field-0.0 ReadFault c.from_residual.ensures (λ fault is. is) c.in_err-mapped.ensures.store_steady
+    stands _ _ _ c.from_residual.result c.in_err-mapped.field-0.0 ReadFault c.from_residual.ensures
+    (λ fault is. is) c.in_err-mapped.ensures.store_steady
 
 pub returns-in_err-requests-clause-store_steady : goal.returns-in_err-requests-clause-store_steady
 returns-in_err-requests-clause-store_steady g c other = c.in_ok-mapped.ensures.store_steady (not_err _ _)

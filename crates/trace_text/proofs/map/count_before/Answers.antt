@@ -8,7 +8,8 @@ use Rattle.trace_text.proofs.map.count_before.Goals as goal
 pub returns : goal.returns
 returns c =
     let parted = IsPartitionedBy-ltb (λ (b : Block). b.first_word) c.args.held.now c.args.word (first_words_rise c.args.held.now c.requires) in
-    let point = IsPartitionPoint-from_clause (λ (b : Block). nat_lt b.first_word c.args.word) c.args.held.now _ c.partition_point.ensures.partitioned parted (λ a r q k. search rules) in
+    let point = IsPartitionPoint-from_clause (λ (b : Block). nat_lt b.first_word c.args.word)
+    c.args.held.now _ c.partition_point.ensures.partitioned parted (λ a r q k. search rules) in
     record {
       bound = c.partition_point.ensures.bound;
       before = λ k d low high. ltb-true _ _ (point.0 k d low high);

@@ -22,7 +22,8 @@ returns-then-start-block c =
 pub returns-else-start-block : goal.returns-else-start-block
 returns-else-start-block c =
     let none : Block = record { first_word = 0; words = 0 } in
-    sym (first_of-other c.args.geometry.capacity c.args.d c.args.held.now c.count_before-before.result none c.requires.in_order (omega arith) c.count_before-before.ensures.bound
+    sym (first_of-other c.args.geometry.capacity c.args.d c.args.held.now c.count_before-before.result none c.requires.in_order
+    (omega arith) c.count_before-before.ensures.bound
     (λ k e low high. let h = c.count_before-before.ensures.before k e low high in omega arith)
     (λ k e low high. let h = c.count_before-before.ensures.behind k e low high in omega arith)
     (omega arith))

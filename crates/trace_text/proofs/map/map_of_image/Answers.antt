@@ -21,12 +21,15 @@ loop-d-preserved c =
     ] in
     record {
       walked = elim c.if-is_free.branch [
-        | then-is_free w ↦ subst (λ n. IsWalkedTo free n (d + 1)) (sym w.next-is) (walked_on free next d is_free c.requires.ascending walked tells w.if-is_free.true)
-        | else-is_free w ↦ subst (λ n. IsWalkedTo free n (d + 1)) (sym w.next-is) (walked_past free next d is_free c.requires.ascending walked tells w.if-is_free.false)
+        | then-is_free w ↦ subst (λ n. IsWalkedTo free n (d + 1)) (sym w.next-is)
+            (walked_on free next d is_free c.requires.ascending walked tells w.if-is_free.true)
+        | else-is_free w ↦ subst (λ n. IsWalkedTo free n (d + 1)) (sym w.next-is)
+            (walked_past free next d is_free c.requires.ascending walked tells w.if-is_free.false)
       ];
       written = line_more (superblock_line image held free) 0 d (d + 1) d
           (used_line image free) _ _
           (omega arith) refl c.loop-d.invariant.written
           (c.in_ok-write_superblock_line.ensures.ok
-          ∙ ap (λ (is : Bool). string_bytes c.loop-d.text ++ line_of d (use_if is image held d)) (is_listed free next d is_free c.requires.ascending walked tells));
+          ∙ ap (λ (is : Bool). string_bytes c.loop-d.text ++ line_of d (use_if is image held d))
+          (is_listed free next d is_free c.requires.ascending walked tells));
     }

@@ -9,5 +9,6 @@ use Rattle.trace_text.proofs.map.map_of_image.Given as goal
 abbrev pub invariant-loop-d : goal.invariant-loop-d
 invariant-loop-d l = record {
   walked : IsWalkedTo l.free l.next l.d;
-  written : string_bytes l.text ≡ used_line (slice_index l.words) l.free ++ flat_map (superblock_line (slice_index l.words) l.held l.free) (range_with_len 0 l.d);
+  written : string_bytes l.text ≡ used_line (slice_index l.words) l.free ++ flat_map (superblock_line (slice_index l.words) l.held l.free)
+      (range_with_len 0 l.d);
 }

@@ -14,4 +14,7 @@ returns-in-Nothing c =
     let inside = ap (λ is_free. use_if is_free image c.args.held.now c.args.d) c.if-is_free.false ∙ use_if-inside image c.args.held.now c.args.d says in
     let first = c.first_superblock-first.ensures ∙ ap (λ capacity. first_of capacity c.args.d c.args.held.now) c.new-geometry.ensures in
     let shown = ap inside_use first ∙ sym inside in
-    record { ok = on_ok_weaker c.write_inside_line.result (λ e. e ∙ ap (λ words. string_bytes c.args.text.now ++ line_of c.args.d words) shown) c.write_inside_line.ensures.ok }
+    record {
+      ok = on_ok_weaker c.write_inside_line.result (λ e. e ∙ ap (λ words. string_bytes c.args.text.now ++ line_of c.args.d words) shown)
+          c.write_inside_line.ensures.ok;
+    }

@@ -13,7 +13,8 @@ loop-number-preserved c =
     elim c.if-not-is_next.branch [
       | then-not-is_next+in_ok-write_run w ↦
           let apart : number ≢ last + 1 = search rules in
-          let step = apart_step first last number i others _ _ _ c.loop-number-test.true refl apart c.loop-number.invariant w.in_ok-write_run.ensures.ok in
+          let step = apart_step first last number i others _ _ _ c.loop-number-test.true refl apart c.loop-number.invariant
+          w.in_ok-write_run.ensures.ok in
           cc
       | else-not-is_next w ↦
           let next : number ≡ last + 1 = search rules in

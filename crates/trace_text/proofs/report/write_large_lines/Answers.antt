@@ -7,9 +7,11 @@ use Rattle.trace_text.proofs.report.write_large_lines.Goals as goal
 
 pub loop-superblocks-preserved : goal.loop-superblocks-preserved
 loop-superblocks-preserved c =
-    line_more (large_line c.in_ok-large.large.items) 1 (c.loop-superblocks.superblocks - 1) (c.loop-superblocks.superblocks + 1 - 1) c.loop-superblocks.superblocks _ _ _
+    line_more (large_line c.in_ok-large.large.items) 1 (c.loop-superblocks.superblocks - 1)
+    (c.loop-superblocks.superblocks + 1 - 1) c.loop-superblocks.superblocks _ _ _
     (omega arith) (omega arith) c.loop-superblocks.invariant
-    (c.in_ok-write_large_line.ensures.ok ∙ ap (λ large. string_bytes c.loop-superblocks.text ++ large_line large c.loop-superblocks.superblocks) c.deref.ensures.value)
+    (c.in_ok-write_large_line.ensures.ok ∙ ap (λ large. string_bytes c.loop-superblocks.text ++ large_line large c.loop-superblocks.superblocks)
+    c.deref.ensures.value)
 
 pub returns : goal.returns
 returns c =

@@ -6,4 +6,5 @@ use Rattle.trace_text.proofs.report.write_large_lines.Given as goal
 
 -- the lines of the smaller blocks are written
 abbrev pub invariant-loop-superblocks : goal.invariant-loop-superblocks
-invariant-loop-superblocks l = string_bytes l.text ≡ string_bytes l.initial.text ++ flat_map (large_line l.large.items) (range_with_len 1 (l.superblocks - 1))
+invariant-loop-superblocks l = string_bytes l.text ≡ string_bytes l.initial.text ++ flat_map (large_line l.large.items)
+    (range_with_len 1 (l.superblocks - 1))

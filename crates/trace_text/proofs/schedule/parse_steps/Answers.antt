@@ -10,7 +10,8 @@ returns-in_default-parse_step-clause-err c =
     record {
       place = c.len.result + 1;
       counted = omega arith;
-      first = line_outside (IsStepLine c.args.seats) c.args.text.now c.loop-line.rest.now c.in-Some.after.now c.in-Some.line.now c.loop-line.steps.items (c.len.result + 1)
+      first = line_outside (IsStepLine c.args.seats) c.args.text.now c.loop-line.rest.now c.in-Some.after.now c.in-Some.line.now
+          c.loop-line.steps.items (c.len.result + 1)
           c.loop-line.invariant.0 c.in-Some.ensures.some outside (search rules);
     }
 
@@ -21,7 +22,8 @@ pub loop-line-preserved : goal.loop-line-preserved
 loop-line-preserved c =
     let is : IsStepLine c.args.seats c.in-Some.line.now c.in-Some-parse_step.step = c.in-Some-parse_step.ensures in
     let read =
-    line_read (IsStepLine c.args.seats) c.args.text.now c.loop-line.rest.now c.in-Some.after.now c.in-Some.line.now c.loop-line.steps.items c.in-Some-parse_step.step
+    line_read (IsStepLine c.args.seats) c.args.text.now c.loop-line.rest.now c.in-Some.after.now c.in-Some.line.now c.loop-line.steps.items
+    c.in-Some-parse_step.step
     c.loop-line.invariant.0 c.in-Some.ensures.some is in
     let cut = ap length c.in-Some.ensures.some in
     (rw c.push_reserved.ensures.items read, omega (arith, cut, c.loop-line.invariant.1, c.push_reserved.ensures.len, c.push_reserved.ensures.capacity))

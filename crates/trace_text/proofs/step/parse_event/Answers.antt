@@ -11,7 +11,8 @@ returns-in_err-parse_number c =
 
 pub returns-in_default-split_once : goal.returns-in_default-split_once
 returns-in_default-split_once c =
-    read_one c.args.words.now c.in-Some.verb.now c.in-Some.rest.now c.in_ok-parse_number.field-0 c.event_of_one.result c.in-Some.ensures.some c.in-Some.ensures.first
+    read_one c.args.words.now c.in-Some.verb.now c.in-Some.rest.now c.in_ok-parse_number.field-0 c.event_of_one.result c.in-Some.ensures.some
+    c.in-Some.ensures.first
     c.in_default-split_once.ensures.none c.in_ok-parse_number.ensures c.event_of_one.ensures
 
 pub returns-in_err-parse_number-2 : goal.returns-in_err-parse_number-2
@@ -28,6 +29,7 @@ returns-in_err-parse_number-3 c =
 
 pub returns : goal.returns
 returns c =
-    read_two c.args.words.now c.in-Some.verb.now c.in-Some.rest.now c.in-Some-split_once.first.now c.in-Some-split_once.second.now c.in_ok-parse_number-2.field-0
+    read_two c.args.words.now c.in-Some.verb.now c.in-Some.rest.now c.in-Some-split_once.first.now c.in-Some-split_once.second.now
+    c.in_ok-parse_number-2.field-0
     c.in_ok-parse_number-3.field-0 c.event_of_two.result c.in-Some.ensures.some c.in-Some.ensures.first c.in-Some-split_once.ensures.some
     c.in-Some-split_once.ensures.first c.in_ok-parse_number-2.ensures c.in_ok-parse_number-3.ensures c.event_of_two.ensures

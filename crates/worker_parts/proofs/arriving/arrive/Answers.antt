@@ -36,18 +36,23 @@ returns-clause-worked g c =
     let left = g.I.Inbox.left c.bring_in.new.inbox in
     let s = c.args.asked.seat.state in
     let t = c.bring_in.new.seat.state in
-    let part = subst (λ b. HasAsked (image_of c.args._shared.now) (worker_requests w.workers w.number qs) tables replies b is.begun s) c.requires.going is.part in
+    let part = subst (λ b. HasAsked (image_of c.args._shared.now) (worker_requests w.workers w.number qs) tables replies b is.begun s)
+    c.requires.going is.part in
     let brings = subst (λ b. BringsIn came left b s t) (sym said)
-    (brings_in g.I.Inbox.goes c.requires.goes c.bring_in.result came left c.args.asked.seat c.bring_in.new.seat e.answered e.steps e.stopped e.empty) in (
+    (brings_in g.I.Inbox.goes c.requires.goes c.bring_in.result came left c.args.asked.seat c.bring_in.new.seat e.answered e.steps e.stopped
+    e.empty) in (
       brings.brought,
       brings.later,
       brings.came_are,
       brings.left_are,
       record {
-        part = arrived_part c.args._shared.now qs w.workers w.number tables replies is.first is.begun s t c.empty_caches-stopped.new.seat.state is.is_first is.made part
-            came left c.is_err-stopped.result c.empty_caches-stopped.result brings (λ stopped. arrival_cause c.bring_in.result (heap_view s) (heap_view t) e.cause (sym said ∙ stopped))
+        part = arrived_part c.args._shared.now qs w.workers w.number tables replies is.first is.begun s t c.empty_caches-stopped.new.seat.state
+            is.is_first is.made part
+            came left c.is_err-stopped.result c.empty_caches-stopped.result brings
+            (λ stopped. arrival_cause c.bring_in.result (heap_view s) (heap_view t) e.cause (sym said ∙ stopped))
             c.empty_caches-stopped.ensures.settled (c.requires.goes c.args.asked.seat c.bring_in.new.seat e.goes_on)
-            (have_tables c.args._shared.now qs w.workers w.number tables replies is.first is.begun s is.is_first is.made part came c.requires.tables) e.calls e.taken
+            (have_tables c.args._shared.now qs w.workers w.number tables replies is.first is.begun s is.is_first is.made part came
+            c.requires.tables) e.calls e.taken
             (λ ran. arrival_exact c.bring_in.result (heap_view s) (heap_view t) e.exact (sym said ∙ ran)) c.into_seat.result back.table back.view;
       },
     )

@@ -7,4 +7,5 @@ pub returns-else-stopped-clause-settled : goal.returns-else-stopped-clause-settl
 returns-else-stopped-clause-settled g c =
     let e = c.quiet.ensures in
     subst (λ b. HasSettled c.args.stopped b c.args.seat.now.state c.quiet.new.self.state) (sym c.is_err.ensures.value)
-    (settles c.args.stopped c.quiet.result c.args.seat.now.state c.quiet.new.self.state c.if-stopped.false e.quiet e.runs e.stopped (record { own = e.unchanged; quiet = e.counted; kept = e.kept.heap }))
+    (settles c.args.stopped c.quiet.result c.args.seat.now.state c.quiet.new.self.state c.if-stopped.false e.quiet e.runs e.stopped
+    (record { own = e.unchanged; quiet = e.counted; kept = e.kept.heap }))

@@ -14,8 +14,10 @@ returns-clause-worked g c came =
     let qs = requests_of c.args._requests.now in
     let back = c.into_seat.ensures in
     record {
-      part = left_part c.args._shared.now qs w.workers w.number (is_flagged c.args._tables.now) (replies_of c.args.asked.replies.items) is.first is.begun c.args.asked.seat.state is.is_first is.made
-          (subst (λ b. HasAsked (image_of c.args._shared.now) (worker_requests w.workers w.number qs) (is_flagged c.args._tables.now) (replies_of c.args.asked.replies.items) b is.begun c.args.asked.seat.state)
+      part = left_part c.args._shared.now qs w.workers w.number (is_flagged c.args._tables.now)
+          (replies_of c.args.asked.replies.items) is.first is.begun c.args.asked.seat.state is.is_first is.made
+          (subst (λ b. HasAsked (image_of c.args._shared.now) (worker_requests w.workers w.number qs) (is_flagged c.args._tables.now)
+          (replies_of c.args.asked.replies.items) b is.begun c.args.asked.seat.state)
           c.requires.stopped is.part)
           c.into_seat.result came back.table back.view;
     }

@@ -12,7 +12,9 @@ returns-clause-worked g c tables =
     let qs = requests_of c.args._requests.now in
     let back = c.into_seat.ensures in
     record {
-      part = subst (λ replies. IsPartOf c.args._shared.now qs w.workers w.number tables c.into_seat.result replies [] [] true c.args.begun.stopped) (sym (ap replies_of is.empty))
-          (halted_part c.args._shared.now qs w.workers w.number (is_flagged c.args.begun.tables) tables c.args.begun.stopped is.first c.args.begun.seat.state is.is_first is.part
+      part = subst (λ replies. IsPartOf c.args._shared.now qs w.workers w.number tables c.into_seat.result replies [] [] true
+          c.args.begun.stopped) (sym (ap replies_of is.empty))
+          (halted_part c.args._shared.now qs w.workers w.number (is_flagged c.args.begun.tables)
+          tables c.args.begun.stopped is.first c.args.begun.seat.state is.is_first is.part
           c.into_seat.result back.table back.view);
     }

@@ -12,13 +12,15 @@ pub ask_seat-stopped-requires-clause-begun : goal.ask_seat-stopped-requires-clau
 ask_seat-stopped-requires-clause-begun g c =
     let begun = c.args.begun in
     let is = c.requires.begun in
-    begun_answered c.args._shared.now begun.worker.workers begun.worker.number _ (is_flagged begun.tables) begun.stopped c.requires.going is.first begun.seat.state is.is_first is.part
+    begun_answered c.args._shared.now begun.worker.workers begun.worker.number _
+    (is_flagged begun.tables) begun.stopped c.requires.going is.first begun.seat.state is.is_first is.part
 
 pub ask_seat-stopped-requires-clause-going : goal.ask_seat-stopped-requires-clause-going
 ask_seat-stopped-requires-clause-going g c =
     let begun = c.args.begun in
     let is = c.requires.begun in
-    begun_going c.args._shared.now begun.worker.workers begun.worker.number _ (is_flagged begun.tables) begun.stopped c.requires.going is.first begun.seat.state is.is_first is.part
+    begun_going c.args._shared.now begun.worker.workers begun.worker.number _
+    (is_flagged begun.tables) begun.stopped c.requires.going is.first begun.seat.state is.is_first is.part
 
 pub ask_seat-stopped-requires-clause-exact : goal.ask_seat-stopped-requires-clause-exact
 ask_seat-stopped-requires-clause-exact g c = c.requires.begun.part.exact c.requires.going
@@ -27,13 +29,15 @@ pub ask_seat-stopped-requires-clause-shards : goal.ask_seat-stopped-requires-cla
 ask_seat-stopped-requires-clause-shards g c =
     let begun = c.args.begun in
     let is = c.requires.begun in
-    begun_owns c.args._shared.now begun.worker.workers begun.worker.number _ (is_flagged begun.tables) begun.stopped c.requires.going is.first begun.seat.state is.is_first is.part
+    begun_owns c.args._shared.now begun.worker.workers begun.worker.number _
+    (is_flagged begun.tables) begun.stopped c.requires.going is.first begun.seat.state is.is_first is.part
 
 pub ask_seat-stopped-requires-clause-maps : goal.ask_seat-stopped-requires-clause-maps
 ask_seat-stopped-requires-clause-maps g c =
     let begun = c.args.begun in
     let is = c.requires.begun in
-    begun_maps c.args._shared.now begun.worker.workers begun.worker.number _ (is_flagged begun.tables) begun.stopped c.requires.going is.first begun.seat.state is.is_first is.part
+    begun_maps c.args._shared.now begun.worker.workers begun.worker.number _
+    (is_flagged begun.tables) begun.stopped c.requires.going is.first begun.seat.state is.is_first is.part
 
 pub returns-clause-asked : goal.returns-clause-asked
 returns-clause-asked g c =
@@ -51,7 +55,8 @@ returns-clause-asked g c =
       first = is.first;
       begun = s.state;
       is_first = is.is_first;
-      made = begun_among shared w.workers w.number _ (is_flagged begun.tables) begun.stopped c.requires.going is.first s.state is.is_first is.part tables c.requires.tables;
+      made = begun_among shared w.workers w.number _ (is_flagged begun.tables)
+          begun.stopped c.requires.going is.first s.state is.is_first is.part tables c.requires.tables;
       part = subst (λ (i : Image). HasAsked i mine tables replies stopped s.state t.state)
           (sym (begun_image shared w.workers w.number _ (is_flagged begun.tables) begun.stopped c.requires.going is.first s.state is.is_first is.part))
           (asked_state g.O.Outbox.goes c.requires.goes _ mine tables replies stopped s t c.ask_seat-stopped.ensures.asked);
@@ -64,4 +69,5 @@ returns-clause-sent g c = λ whole is_whole.
     let shared = c.args._shared.now in
     let w = begun.worker in
     c.ask_seat-stopped.ensures.sent whole
-    (subst (λ (i : Image). IsWholeMap i whole) (begun_image shared w.workers w.number _ (is_flagged begun.tables) begun.stopped c.requires.going is.first begun.seat.state is.is_first is.part) is_whole)
+    (subst (λ (i : Image). IsWholeMap i whole) (begun_image shared w.workers w.number _
+    (is_flagged begun.tables) begun.stopped c.requires.going is.first begun.seat.state is.is_first is.part) is_whole)

@@ -18,9 +18,11 @@ loop-shard-preserved c =
     let targets = c.args.targets.now in
     let n = c.loop-shard.shard in
     let has = c.if-shard-worker.own in
-    own_next w.workers w.number n targets c.loop-shard.own _ has c.loop-shard-test.true refl (length-set c.loop-shard.own n has ∙ c.loop-shard.invariant.long)
+    own_next w.workers w.number n targets c.loop-shard.own _ has c.loop-shard-test.true refl (length-set c.loop-shard.own n has
+    ∙ c.loop-shard.invariant.long)
     (elim c.if-shard-worker.branch as (λ _. has ≡ (nat_eq (worker_of w.workers n) w.number && is_flagged targets n)) [
-      | then-shard-worker b ↦ b.own-is ∙ ap (λ (x : Bool). x && is_flagged targets n) (sym (eq-eqb (worker_of w.workers n) w.number b.if-shard-worker.true))
+      | then-shard-worker b ↦ b.own-is ∙ ap (λ (x : Bool). x && is_flagged targets n)
+          (sym (eq-eqb (worker_of w.workers n) w.number b.if-shard-worker.true))
       | else-shard-worker b ↦
           let no = ne_eqb (worker_of w.workers n) w.number b.if-shard-worker.false in
           b.own-is ∙ no ∙ ap (λ (x : Bool). x && is_flagged targets n) (sym no)
@@ -28,4 +30,5 @@ loop-shard-preserved c =
 
 pub returns : goal.returns
 returns c = λ requests are. own_all c.args.worker.workers c.args.worker.number c.args.targets.now c.loop-shard.own requests are
-    (subst (AreOwn c.args.worker.workers c.args.worker.number c.args.targets.now c.loop-shard.own) (let e : c.loop-shard.shard ≡ shards = omega arith in e) c.loop-shard.invariant)
+    (subst (AreOwn c.args.worker.workers c.args.worker.number c.args.targets.now c.loop-shard.own)
+    (let e : c.loop-shard.shard ≡ shards = omega arith in e) c.loop-shard.invariant)

@@ -24,11 +24,13 @@ loop-request-preserved c =
     elim c.match-request.branch as (λ _. AreTargets (requests_of (take (c.loop-request.request-index + 1) lines)) now) [
       | in-Move w ↦
           subst (λ (rs : List Request). AreTargets rs now) (sym (next ∙ ap (λ (l : Line). qs ++ (request_of l ∷ [])) w.in-Move.is))
-          (targets_next qs w.in-Move.field-0 w.in-Move.to (w.in-Move.to % 8) flags now refl (let e : w.in-Move.to % 8 < 8 = omega arith in e) w.targets-is
+          (targets_next qs w.in-Move.field-0 w.in-Move.to (w.in-Move.to % 8) flags now refl (let e : w.in-Move.to % 8 < 8 = omega arith in
+          e) w.targets-is
           (ap length w.targets-is ∙ length-set flags (w.in-Move.to % 8) true ∙ c.loop-request.invariant.long) c.loop-request.invariant)
       | in_default w ↦
           subst (λ (rs : List Request). AreTargets rs now) (sym next)
-          (subst (AreTargets (qs ++ (request_of line ∷ []))) (sym w.targets-is) (targets_same qs (request_of line) flags (not_moved line w.in_default.not-Move) c.loop-request.invariant))
+          (subst (AreTargets (qs ++ (request_of line ∷ []))) (sym w.targets-is)
+          (targets_same qs (request_of line) flags (not_moved line w.in_default.not-Move) c.loop-request.invariant))
     ]
 
 pub returns : goal.returns

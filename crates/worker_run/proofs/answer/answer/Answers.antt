@@ -18,8 +18,12 @@ pub returns-in-Put-clause-refused : goal.returns-in-Put-clause-refused
 returns-in-Put-clause-refused g c =
     let s = c.args.seat.now in
     let t = c.put_reply.new.seat in
-    ok_then (λ reply. reply_of reply ≡ Some full → WasRefused g.H.HeapSeat.view g.H.HeapSeat.keeps g.H.HeapSeat.has_none (request_of c.args.request.now) s t)
-    (λ reply. IsPut (request_of c.args.request.now) → reply_of reply ≡ Some full → WasRefused g.H.HeapSeat.view g.O.Outbox.goes g.H.HeapSeat.has_none (request_of c.args.request.now) s t) c.put_reply.result
-    (λ reply was is_put told. refused_over g.H.HeapSeat.view g.H.HeapSeat.keeps g.O.Outbox.goes g.H.HeapSeat.has_none (request_of c.args.request.now) s t g.met.O.Outbox.goes_kept (was told))
-    (subst (λ (q : Request). IfOk c.put_reply.result (λ reply. reply_of reply ≡ Some full → WasRefused g.H.HeapSeat.view g.H.HeapSeat.keeps g.H.HeapSeat.has_none q s t))
+    ok_then (λ reply. reply_of reply ≡ Some full → WasRefused g.H.HeapSeat.view g.H.HeapSeat.keeps g.H.HeapSeat.has_none
+    (request_of c.args.request.now) s t)
+    (λ reply. IsPut (request_of c.args.request.now) → reply_of reply ≡ Some full
+    → WasRefused g.H.HeapSeat.view g.O.Outbox.goes g.H.HeapSeat.has_none (request_of c.args.request.now) s t) c.put_reply.result
+    (λ reply was is_put told. refused_over g.H.HeapSeat.view g.H.HeapSeat.keeps g.O.Outbox.goes g.H.HeapSeat.has_none
+    (request_of c.args.request.now) s t g.met.O.Outbox.goes_kept (was told))
+    (subst (λ (q : Request). IfOk c.put_reply.result (λ reply. reply_of reply ≡ Some full
+    → WasRefused g.H.HeapSeat.view g.H.HeapSeat.keeps g.H.HeapSeat.has_none q s t))
     (ap (λ value. put c.in-Put.key value) c.as_slice.ensures ∙ sym (ap request_of c.in-Put.is)) c.put_reply.ensures.refused)

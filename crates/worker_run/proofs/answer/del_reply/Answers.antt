@@ -21,15 +21,19 @@ returns-clause-ok g c =
     let w = g.H.HeapSeat.view c.del.new.seat in
     elim c.if-found.branch [
       | then-found t ↦ subst (λ (told : Told). Replied (del c.args.key) (reply_of told) v w) (sym t.result-is)
-          (replied_gone c.args.key v w c.requires.shard c.del.ensures.calls (subst (λ (b : Bool). Deletes c.args.key b v w) t.if-found.true c.in_ok-found.ensures.ok))
+          (replied_gone c.args.key v w c.requires.shard c.del.ensures.calls
+          (subst (λ (b : Bool). Deletes c.args.key b v w) t.if-found.true c.in_ok-found.ensures.ok))
       | else-found t ↦ subst (λ (told : Told). Replied (del c.args.key) (reply_of told) v w) (sym t.result-is)
-          (replied_none c.args.key v w c.requires.shard c.del.ensures.calls (subst (λ (b : Bool). Deletes c.args.key b v w) t.if-found.false c.in_ok-found.ensures.ok))
+          (replied_none c.args.key v w c.requires.shard c.del.ensures.calls
+          (subst (λ (b : Bool). Deletes c.args.key b v w) t.if-found.false c.in_ok-found.ensures.ok))
     ]
 
 pub returns-in_err-found-clause-taken : goal.returns-in_err-found-clause-taken
 returns-in_err-found-clause-taken g c = none_spent (del c.args.key) (g.H.HeapSeat.view c.args.seat.now) (g.H.HeapSeat.view c.del.new.seat)
-    (takes_none 0 (shard_of c.args.key) c.requires.shard.map (g.H.HeapSeat.view c.args.seat.now) (g.H.HeapSeat.view c.del.new.seat) c.requires.shard.gives c.del.ensures.calls)
+    (takes_none 0 (shard_of c.args.key) c.requires.shard.map (g.H.HeapSeat.view c.args.seat.now)
+    (g.H.HeapSeat.view c.del.new.seat) c.requires.shard.gives c.del.ensures.calls)
 
 pub returns-clause-taken : goal.returns-clause-taken
 returns-clause-taken g c = none_spent (del c.args.key) (g.H.HeapSeat.view c.args.seat.now) (g.H.HeapSeat.view c.del.new.seat)
-    (takes_none 0 (shard_of c.args.key) c.requires.shard.map (g.H.HeapSeat.view c.args.seat.now) (g.H.HeapSeat.view c.del.new.seat) c.requires.shard.gives c.del.ensures.calls)
+    (takes_none 0 (shard_of c.args.key) c.requires.shard.map (g.H.HeapSeat.view c.args.seat.now)
+    (g.H.HeapSeat.view c.del.new.seat) c.requires.shard.gives c.del.ensures.calls)

@@ -13,4 +13,5 @@ returns c = λ image requests have are.
     let opened = c.opened_length-opened.ensures in
     let puts = c.longest_put.ensures in
     subst (λ (line : Line). HasRoom image requests (request_of line) (length c.from_vec-2.result)) (sym c.in-Get.is)
-    (get_room image requests c.args.maps.now c.args.longest.now have are c.in-Get.key (length c.from_vec-2.result) c.index-maps-key.result c.index-maps-key.is (omega arith))
+    (get_room image requests c.args.maps.now c.args.longest.now have are c.in-Get.key
+    (length c.from_vec-2.result) c.index-maps-key.result c.index-maps-key.is (omega arith))

@@ -33,7 +33,8 @@ loop-request-preserved c =
             rooms = λ image are longest.
                 subst (λ (qs : List Request). HaveRoom image all qs w.push_back_reserved.new.self.items) (sym next)
                 (subst (λ (rs : List (List ℕ)). HaveRoom image all (before ++ (request_of line ∷ [])) rs) (sym items)
-                (rooms_push image all before (request_of line) old w.in_ok-make_room.field-0 (c.loop-request.invariant.rooms image are longest) count (w.in_ok-make_room.ensures image all are longest)));
+                (rooms_push image all before (request_of line) old w.in_ok-make_room.field-0
+                (c.loop-request.invariant.rooms image are longest) count (w.in_ok-make_room.ensures image all are longest)));
             count = omega arith;
             few = omega arith;
             reserved = let same = w.push_back_reserved.ensures.capacity in let room = c.loop-request.invariant.reserved in omega arith;
@@ -41,7 +42,8 @@ loop-request-preserved c =
       | else-has w ↦
           let next = mine_left workers worker lines i line c.has.result below c.request-item.is c.has.ensures w.if-has.false in
           rw (w.rooms-is) (record {
-            rooms = λ image are longest. subst (λ (qs : List Request). HaveRoom image all qs c.loop-request.rooms.items) (sym next) (c.loop-request.invariant.rooms image are longest);
+            rooms = λ image are longest. subst (λ (qs : List Request). HaveRoom image all qs c.loop-request.rooms.items) (sym next)
+                (c.loop-request.invariant.rooms image are longest);
             count = c.loop-request.invariant.count ∙ sym (ap length next);
             few = let few = c.loop-request.invariant.few in omega arith;
             reserved = c.loop-request.invariant.reserved;
@@ -52,5 +54,6 @@ pub returns : goal.returns
 returns c = λ image maps are longest.
     let lines = c.args.requests.now in
     let whole = take_all c.loop-request.request-index lines (omega arith) in
-    subst (λ (ls : List Line). HaveRoom image (requests_of lines) (worker_requests c.args.worker.workers c.args.worker.number (requests_of ls)) c.loop-request.rooms.items) whole
+    subst (λ (ls : List Line). HaveRoom image (requests_of lines) (worker_requests c.args.worker.workers c.args.worker.number (requests_of ls))
+    c.loop-request.rooms.items) whole
     (c.loop-request.invariant.rooms image are longest)

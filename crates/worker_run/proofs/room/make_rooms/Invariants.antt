@@ -12,7 +12,8 @@ use Rattle.worker_run.proofs.room.make_rooms.Given as goal
 abbrev pub invariant-loop-request : goal.invariant-loop-request
 invariant-loop-request l = record {
   rooms : (image : Image) → AreMaps image shards l.fn.maps → AreLongest (requests_of l.fn.requests) l.fn.longest
-      → HaveRoom image (requests_of l.fn.requests) (worker_requests l.fn.worker.workers l.fn.worker.number (requests_of (take l.request-index l.requests))) l.rooms.items;
+      → HaveRoom image (requests_of l.fn.requests) (worker_requests l.fn.worker.workers l.fn.worker.number
+      (requests_of (take l.request-index l.requests))) l.rooms.items;
   count : length l.rooms.items ≡ length (worker_requests l.fn.worker.workers l.fn.worker.number (requests_of (take l.request-index l.requests)));
   few : length l.rooms.items ≤ l.request-index;
   reserved : length l.requests ≤ deque_capacity l.rooms;

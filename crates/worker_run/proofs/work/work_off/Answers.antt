@@ -33,24 +33,35 @@ loop-request-init g c =
       reserved = let none = ap length empty in let most = c.requires.1.1.1.1.1.1.1.1.1.1.0 in omega arith;
       shorter = omega arith;
       same_room = refl;
-      taken = subst (λ rs. HasTaken qs (answered qs (replies_of rs)) v v) (sym empty) (subst (λ rs. HasTaken qs rs v v) (sym (answered_none qs)) (taken_none qs v));
-      full = subst (λ rs. AreFullRightly g.H.HeapSeat.view g.O.Outbox.goes (tables_missing (put_into qs) v) (answered qs (replies_of rs)) c.args.seat.now c.args.seat.now) (sym empty)
-          (subst (λ rs. AreFullRightly g.H.HeapSeat.view g.O.Outbox.goes (tables_missing (put_into qs) v) rs c.args.seat.now c.args.seat.now) (sym (answered_none qs)) (refused_none g.H.HeapSeat.view g.O.Outbox.goes (tables_missing (put_into qs) v) c.args.seat.now c.args.seat.now));
-      calls = λ keys lists. subst (λ rs. MakeFew (length rs) (33280 + 4 * (length keys + length qs)) (larges_of (answered qs (replies_of rs))) v v) (sym empty)
-          (subst (λ rs. MakeFew 0 (33280 + 4 * (length keys + length qs)) (larges_of rs) v v) (sym (answered_none qs)) (few_none (33280 + 4 * (length keys + length qs)) v));
-      steps = subst (λ rs. TakesRequests g.H.HeapSeat.view g.O.Outbox.goes g.H.HeapSeat.has_none (answered qs (replies_of rs)) c.args.seat.now c.args.seat.now) (sym empty)
-          (subst (λ rs. TakesRequests g.H.HeapSeat.view g.O.Outbox.goes g.H.HeapSeat.has_none rs c.args.seat.now c.args.seat.now) (sym (answered_none qs)) refl);
+      taken = subst (λ rs. HasTaken qs (answered qs (replies_of rs)) v v) (sym empty)
+          (subst (λ rs. HasTaken qs rs v v) (sym (answered_none qs)) (taken_none qs v));
+      full = subst (λ rs. AreFullRightly g.H.HeapSeat.view g.O.Outbox.goes (tables_missing (put_into qs) v)
+          (answered qs (replies_of rs)) c.args.seat.now c.args.seat.now) (sym empty)
+          (subst (λ rs. AreFullRightly g.H.HeapSeat.view g.O.Outbox.goes (tables_missing (put_into qs) v) rs c.args.seat.now c.args.seat.now)
+          (sym (answered_none qs)) (refused_none g.H.HeapSeat.view g.O.Outbox.goes
+          (tables_missing (put_into qs) v) c.args.seat.now c.args.seat.now));
+      calls = λ keys lists. subst (λ rs. MakeFew (length rs) (33280 + 4 * (length keys + length qs))
+          (larges_of (answered qs (replies_of rs))) v v) (sym empty)
+          (subst (λ rs. MakeFew 0 (33280 + 4 * (length keys + length qs)) (larges_of rs) v v) (sym (answered_none qs))
+          (few_none (33280 + 4 * (length keys + length qs)) v));
+      steps = subst (λ rs. TakesRequests g.H.HeapSeat.view g.O.Outbox.goes g.H.HeapSeat.has_none
+          (answered qs (replies_of rs)) c.args.seat.now c.args.seat.now) (sym empty)
+          (subst (λ rs. TakesRequests g.H.HeapSeat.view g.O.Outbox.goes g.H.HeapSeat.has_none rs c.args.seat.now c.args.seat.now)
+          (sym (answered_none qs)) refl);
       roots = refl;
       going = λ none. none;
       exact = λ all. all;
       goes_on = g.met.O.Outbox.goes_none c.args.seat.now;
       ready = c.requires.1.1.1.1.1.1.1.1.1.1.1.0;
       outgoing = c.requires.1.1.1.1.1.1.1.1.1.1.1.1;
-      sent = sent_begins g.image c.args.worker.workers c.args.worker.number (requests_of c.args.requests.now) (length c.args.requests.now - length c.args.requests.now)
+      sent = sent_begins g.image c.args.worker.workers c.args.worker.number (requests_of c.args.requests.now)
+          (length c.args.requests.now - length c.args.requests.now)
           (answered qs (replies_of c.args.replies.now.items)) (replies_of c.args.replies.now.items) (g.O.Outbox.sent c.args.outbox.now) (omega arith)
           (subst (λ rs. answered qs (replies_of rs) ≡ []) (sym empty) (answered_none qs)) (ap replies_of empty);
-      tables = subst (λ rs. (request : Request) (answer : Reply) → Contains (answered qs (replies_of rs)) (request, answer) → GoesByTables (is_flagged c.args.tables.now) request (Some answer)) (sym empty)
-          (subst (λ rs. (request : Request) (answer : Reply) → Contains rs (request, answer) → GoesByTables (is_flagged c.args.tables.now) request (Some answer)) (sym (answered_none qs))
+      tables = subst (λ rs. (request : Request) (answer : Reply) → Contains (answered qs (replies_of rs)) (request, answer)
+          → GoesByTables (is_flagged c.args.tables.now) request (Some answer)) (sym empty)
+          (subst (λ rs. (request : Request) (answer : Reply) → Contains rs (request, answer)
+          → GoesByTables (is_flagged c.args.tables.now) request (Some answer)) (sym (answered_none qs))
           (λ request answer h. absurd (in_none (request, answer) h)));
     }
 
@@ -66,7 +77,8 @@ answer-answered-requires-clause-shard g c =
     let rest = worker_requests workers worker (requests_of c.in-Some.rest.now) in
     let told = c.loop-request.replies.items in
     let owns = owns_still workers worker (g.H.HeapSeat.view c.args.seat.now) v c.loop-request.invariant.roots c.requires.1.1.1.1.1.0 in
-    let next = is_next workers worker c.loop-request.left.now c.in-Some.rest.now c.in-Some.request.now c.has.result c.in-Some.ensures.cases.0 c.has.ensures c.if-has.true image lines (replies_of told) v
+    let next = is_next workers worker c.loop-request.left.now c.in-Some.rest.now c.in-Some.request.now c.has.result c.in-Some.ensures.cases.0
+    c.has.ensures c.if-has.true image lines (replies_of told) v
     c.requires.1.1.1.1.1.1.0 owns c.loop-request.invariant.worked in
     next.shard
 
@@ -82,7 +94,8 @@ answer-answered-requires-clause-short g c =
     let rest = worker_requests workers worker (requests_of c.in-Some.rest.now) in
     let told = c.loop-request.replies.items in
     let owns = owns_still workers worker (g.H.HeapSeat.view c.args.seat.now) v c.loop-request.invariant.roots c.requires.1.1.1.1.1.0 in
-    let next = is_next workers worker c.loop-request.left.now c.in-Some.rest.now c.in-Some.request.now c.has.result c.in-Some.ensures.cases.0 c.has.ensures c.if-has.true image lines (replies_of told) v
+    let next = is_next workers worker c.loop-request.left.now c.in-Some.rest.now c.in-Some.request.now c.has.result c.in-Some.ensures.cases.0
+    c.has.ensures c.if-has.true image lines (replies_of told) v
     c.requires.1.1.1.1.1.1.0 owns c.loop-request.invariant.worked in
     c.requires.1.1.1.1.1.1.1.1.0.each q (mine_among workers worker (requests_of lines) q next.among)
 
@@ -98,12 +111,15 @@ answer-answered-requires-clause-fits g c =
     let rest = worker_requests workers worker (requests_of c.in-Some.rest.now) in
     let told = c.loop-request.replies.items in
     let owns = owns_still workers worker (g.H.HeapSeat.view c.args.seat.now) v c.loop-request.invariant.roots c.requires.1.1.1.1.1.0 in
-    let next = is_next workers worker c.loop-request.left.now c.in-Some.rest.now c.in-Some.request.now c.has.result c.in-Some.ensures.cases.0 c.has.ensures c.if-has.true image lines (replies_of told) v
+    let next = is_next workers worker c.loop-request.left.now c.in-Some.rest.now c.in-Some.request.now c.has.result c.in-Some.ensures.cases.0
+    c.has.ensures c.if-has.true image lines (replies_of told) v
     c.requires.1.1.1.1.1.1.0 owns c.loop-request.invariant.worked in
-    let rooms = rooms_next workers worker c.loop-request.left.now c.in-Some.rest.now c.in-Some.request.now c.has.result c.in-Some.ensures.cases.0 c.has.ensures c.if-has.true image (requests_of lines)
+    let rooms = rooms_next workers worker c.loop-request.left.now c.in-Some.rest.now c.in-Some.request.now c.has.result
+    c.in-Some.ensures.cases.0 c.has.ensures c.if-has.true image (requests_of lines)
     c.loop-request.rooms.items c.pop_front.new.self.items c.in-Some-pop_front.room c.in-Some-pop_front.ensures.items c.loop-request.invariant.rooms in
     subst (λ bytes. Fits v q (length bytes)) (sym c.into_vec.ensures)
-    (room_fits image (requests_of lines) mine c.requires.1.1.1.1.1.1.0 (mine_among workers worker (requests_of lines)) q (q ∷ rest) (replies_of told) v (length c.in-Some-pop_front.room) (g.met.H.HeapSeat.seat c.loop-request.seat) next.owned next.worked rooms.0)
+    (room_fits image (requests_of lines) mine c.requires.1.1.1.1.1.1.0 (mine_among workers worker (requests_of lines)) q (q ∷ rest)
+    (replies_of told) v (length c.in-Some-pop_front.room) (g.met.H.HeapSeat.seat c.loop-request.seat) next.owned next.worked rooms.0)
 
 pub returns-in_default-answered-clause-stopped : goal.returns-in_default-answered-clause-stopped
 returns-in_default-answered-clause-stopped g c = λ stopped.
@@ -117,7 +133,8 @@ returns-in_default-answered-clause-stopped g c = λ stopped.
     let rest = worker_requests workers worker (requests_of c.in-Some.rest.now) in
     let told = c.loop-request.replies.items in
     let owns = owns_still workers worker (g.H.HeapSeat.view c.args.seat.now) v c.loop-request.invariant.roots c.requires.1.1.1.1.1.0 in
-    let next = is_next workers worker c.loop-request.left.now c.in-Some.rest.now c.in-Some.request.now c.has.result c.in-Some.ensures.cases.0 c.has.ensures c.if-has.true image lines (replies_of told) v
+    let next = is_next workers worker c.loop-request.left.now c.in-Some.rest.now c.in-Some.request.now c.has.result c.in-Some.ensures.cases.0
+    c.has.ensures c.if-has.true image lines (replies_of told) v
     c.requires.1.1.1.1.1.1.0 owns c.loop-request.invariant.worked in
     record {
       request = q;
@@ -140,9 +157,11 @@ returns-in_default-answered-clause-full g c =
     let rest = worker_requests workers worker (requests_of c.in-Some.rest.now) in
     let told = c.loop-request.replies.items in
     let owns = owns_still workers worker (g.H.HeapSeat.view c.args.seat.now) v c.loop-request.invariant.roots c.requires.1.1.1.1.1.0 in
-    let next = is_next workers worker c.loop-request.left.now c.in-Some.rest.now c.in-Some.request.now c.has.result c.in-Some.ensures.cases.0 c.has.ensures c.if-has.true image lines (replies_of told) v
+    let next = is_next workers worker c.loop-request.left.now c.in-Some.rest.now c.in-Some.request.now c.has.result c.in-Some.ensures.cases.0
+    c.has.ensures c.if-has.true image lines (replies_of told) v
     c.requires.1.1.1.1.1.1.0 owns c.loop-request.invariant.worked in
-    refused_on g.H.HeapSeat.view g.O.Outbox.goes (tables_missing (put_into mine) (g.H.HeapSeat.view c.args.seat.now)) (answered mine (replies_of told)) c.args.seat.now c.loop-request.seat c.answer-answered.new.seat c.loop-request.invariant.full
+    refused_on g.H.HeapSeat.view g.O.Outbox.goes (tables_missing (put_into mine) (g.H.HeapSeat.view c.args.seat.now))
+    (answered mine (replies_of told)) c.args.seat.now c.loop-request.seat c.answer-answered.new.seat c.loop-request.invariant.full
     (λ x keeps. g.met.O.Outbox.goes_then x c.loop-request.seat c.answer-answered.new.seat keeps c.answer-answered.ensures.goes_on)
     (knows_call q v (g.H.HeapSeat.view c.answer-answered.new.seat) next.shard c.answer-answered.ensures.calls)
 
@@ -158,11 +177,13 @@ returns-in_default-answered-clause-taken g c =
     let rest = worker_requests workers worker (requests_of c.in-Some.rest.now) in
     let told = c.loop-request.replies.items in
     let owns = owns_still workers worker (g.H.HeapSeat.view c.args.seat.now) v c.loop-request.invariant.roots c.requires.1.1.1.1.1.0 in
-    let next = is_next workers worker c.loop-request.left.now c.in-Some.rest.now c.in-Some.request.now c.has.result c.in-Some.ensures.cases.0 c.has.ensures c.if-has.true image lines (replies_of told) v
+    let next = is_next workers worker c.loop-request.left.now c.in-Some.rest.now c.in-Some.request.now c.has.result c.in-Some.ensures.cases.0
+    c.has.ensures c.if-has.true image lines (replies_of told) v
     c.requires.1.1.1.1.1.1.0 owns c.loop-request.invariant.worked in
     let start = g.H.HeapSeat.view c.args.seat.now in
     let w = g.H.HeapSeat.view c.answer-answered.new.seat in
-    subst (λ qs. HasTakenFew (tables_missing (put_into mine) start) (answered mine (replies_of told)) qs start w) (sym (unanswered_now image mine (q ∷ rest) (replies_of told) v next.worked))
+    subst (λ qs. HasTakenFew (tables_missing (put_into mine) start) (answered mine (replies_of told)) qs start w)
+    (sym (unanswered_now image mine (q ∷ rest) (replies_of told) v next.worked))
     (taken_stopped mine (answered mine (replies_of told)) q rest start v w next.among c.loop-request.invariant.taken c.answer-answered.ensures.taken)
 
 pub returns-in_default-answered-clause-calls : goal.returns-in_default-answered-clause-calls
@@ -177,21 +198,27 @@ returns-in_default-answered-clause-calls g c = λ keys lists.
     let rest = worker_requests workers worker (requests_of c.in-Some.rest.now) in
     let told = c.loop-request.replies.items in
     let owns = owns_still workers worker (g.H.HeapSeat.view c.args.seat.now) v c.loop-request.invariant.roots c.requires.1.1.1.1.1.0 in
-    let next = is_next workers worker c.loop-request.left.now c.in-Some.rest.now c.in-Some.request.now c.has.result c.in-Some.ensures.cases.0 c.has.ensures c.if-has.true image lines (replies_of told) v
+    let next = is_next workers worker c.loop-request.left.now c.in-Some.rest.now c.in-Some.request.now c.has.result c.in-Some.ensures.cases.0
+    c.has.ensures c.if-has.true image lines (replies_of told) v
     c.requires.1.1.1.1.1.1.0 owns c.loop-request.invariant.worked in
     let w = g.H.HeapSeat.view c.answer-answered.new.seat in
     let start = g.H.HeapSeat.view c.args.seat.now in
-    let rooms = rooms_next workers worker c.loop-request.left.now c.in-Some.rest.now c.in-Some.request.now c.has.result c.in-Some.ensures.cases.0 c.has.ensures c.if-has.true image (requests_of lines)
+    let rooms = rooms_next workers worker c.loop-request.left.now c.in-Some.rest.now c.in-Some.request.now c.has.result
+    c.in-Some.ensures.cases.0 c.has.ensures c.if-has.true image (requests_of lines)
     c.loop-request.rooms.items c.pop_front.new.self.items c.in-Some-pop_front.room c.in-Some-pop_front.ensures.items c.loop-request.invariant.rooms in
     let among = mine_among workers worker (requests_of lines) in
     let short = c.requires.1.1.1.1.1.1.1.1.0.each q (among q next.among) in
     let room = length c.in-Some-pop_front.room in
-    let fits = room_fits image (requests_of lines) mine c.requires.1.1.1.1.1.1.0 among q (q ∷ rest) (replies_of told) v room (g.met.H.HeapSeat.seat c.loop-request.seat) next.owned next.worked rooms.0 in
+    let fits = room_fits image (requests_of lines) mine c.requires.1.1.1.1.1.1.0 among q (q ∷ rest) (replies_of told) v room
+    (g.met.H.HeapSeat.seat c.loop-request.seat) next.owned next.worked rooms.0 in
     let small = 33280 + 4 * (length keys + length mine) in
     let larges = larges_of (answered mine (replies_of told)) in
-    few_more (length told + 1) (length mine) small (larges + large_calls_of q) (sum_by large_calls_of mine) start w (let count = worked_count image mine (q ∷ rest) told v next.worked in omega arith)
+    few_more (length told + 1) (length mine) small (larges + large_calls_of q) (sum_by large_calls_of mine) start w
+    (let count = worked_count image mine (q ∷ rest) told v next.worked in omega arith)
     (let all = larges_worked image mine (q ∷ rest) (replies_of told) v next.worked in let one = sum_by-cons large_calls_of q rest in omega arith)
-    (few_next (length told) small larges image mine rest q (replies_of told) start v w room keys refl c.requires.1.1.1.1.1.1.0 next.owned next.worked lists short fits c.answer-answered.ensures.calls (c.loop-request.invariant.calls keys lists))
+    (few_next (length told) small larges image mine rest q (replies_of told)
+    start v w room keys refl c.requires.1.1.1.1.1.1.0 next.owned next.worked lists short fits c.answer-answered.ensures.calls
+    (c.loop-request.invariant.calls keys lists))
 
 pub returns-in_default-answered-clause-steps : goal.returns-in_default-answered-clause-steps
 returns-in_default-answered-clause-steps g c =
@@ -205,12 +232,14 @@ returns-in_default-answered-clause-steps g c =
     let rest = worker_requests workers worker (requests_of c.in-Some.rest.now) in
     let told = c.loop-request.replies.items in
     let owns = owns_still workers worker (g.H.HeapSeat.view c.args.seat.now) v c.loop-request.invariant.roots c.requires.1.1.1.1.1.0 in
-    let next = is_next workers worker c.loop-request.left.now c.in-Some.rest.now c.in-Some.request.now c.has.result c.in-Some.ensures.cases.0 c.has.ensures c.if-has.true image lines (replies_of told) v
+    let next = is_next workers worker c.loop-request.left.now c.in-Some.rest.now c.in-Some.request.now c.has.result c.in-Some.ensures.cases.0
+    c.has.ensures c.if-has.true image lines (replies_of told) v
     c.requires.1.1.1.1.1.1.0 owns c.loop-request.invariant.worked in
     let w = g.H.HeapSeat.view c.answer-answered.new.seat in (
       c.loop-request.seat,
       c.loop-request.invariant.steps,
-      subst (λ qs. IsUnderWay qs v w) (sym (unanswered_now image mine (q ∷ rest) (replies_of told) v next.worked)) (c.answer-answered.ensures.crash, c.answer-answered.ensures.calls),
+      subst (λ qs. IsUnderWay qs v w) (sym (unanswered_now image mine (q ∷ rest) (replies_of told) v next.worked))
+          (c.answer-answered.ensures.crash, c.answer-answered.ensures.calls),
       c.answer-answered.ensures.goes_on,
     )
 
@@ -226,21 +255,27 @@ loop-request-preserved-in-Ok g c =
     let rest = worker_requests workers worker (requests_of c.in-Some.rest.now) in
     let told = c.loop-request.replies.items in
     let owns = owns_still workers worker (g.H.HeapSeat.view c.args.seat.now) v c.loop-request.invariant.roots c.requires.1.1.1.1.1.0 in
-    let next = is_next workers worker c.loop-request.left.now c.in-Some.rest.now c.in-Some.request.now c.has.result c.in-Some.ensures.cases.0 c.has.ensures c.if-has.true image lines (replies_of told) v
+    let next = is_next workers worker c.loop-request.left.now c.in-Some.rest.now c.in-Some.request.now c.has.result c.in-Some.ensures.cases.0
+    c.has.ensures c.if-has.true image lines (replies_of told) v
     c.requires.1.1.1.1.1.1.0 owns c.loop-request.invariant.worked in
     let w = g.H.HeapSeat.view c.answer-answered.new.seat in
     let start = g.H.HeapSeat.view c.args.seat.now in
-    let rooms = rooms_next workers worker c.loop-request.left.now c.in-Some.rest.now c.in-Some.request.now c.has.result c.in-Some.ensures.cases.0 c.has.ensures c.if-has.true image (requests_of lines)
+    let rooms = rooms_next workers worker c.loop-request.left.now c.in-Some.rest.now c.in-Some.request.now c.has.result
+    c.in-Some.ensures.cases.0 c.has.ensures c.if-has.true image (requests_of lines)
     c.loop-request.rooms.items c.pop_front.new.self.items c.in-Some-pop_front.room c.in-Some-pop_front.ensures.items c.loop-request.invariant.rooms in
     let among = mine_among workers worker (requests_of lines) in
     let short = c.requires.1.1.1.1.1.1.1.1.0.each q (among q next.among) in
     let room = length c.in-Some-pop_front.room in
-    let fits = room_fits image (requests_of lines) mine c.requires.1.1.1.1.1.1.0 among q (q ∷ rest) (replies_of told) v room (g.met.H.HeapSeat.seat c.loop-request.seat) next.owned next.worked rooms.0 in
+    let fits = room_fits image (requests_of lines) mine c.requires.1.1.1.1.1.1.0 among q (q ∷ rest) (replies_of told) v room
+    (g.met.H.HeapSeat.seat c.loop-request.seat) next.owned next.worked rooms.0 in
     let replied = c.in-Ok.ensures.ok in
-    let now = answered_next image mine rest q told c.push_reserved.new.self.items c.in-Ok.reply replied.reply v c.push_reserved.ensures.items replied.told_is next.worked in
-    let taken = taken_next mine (answered mine (replies_of told)) q replied.reply start v w next.among (puts_owned workers worker v (requests_of lines) owns) c.answer-answered.ensures.crash c.loop-request.invariant.taken
+    let now = answered_next image mine rest q told c.push_reserved.new.self.items c.in-Ok.reply replied.reply v c.push_reserved.ensures.items
+    replied.told_is next.worked in
+    let taken = taken_next mine (answered mine (replies_of told)) q replied.reply start v w next.among
+    (puts_owned workers worker v (requests_of lines) owns) c.answer-answered.ensures.crash c.loop-request.invariant.taken
     replied.takes in
-    let kept = g.met.O.Outbox.goes_then c.args.seat.now c.loop-request.seat c.answer-answered.new.seat c.loop-request.invariant.goes_on c.answer-answered.ensures.goes_on in
+    let kept = g.met.O.Outbox.goes_then c.args.seat.now c.loop-request.seat c.answer-answered.new.seat c.loop-request.invariant.goes_on
+    c.answer-answered.ensures.goes_on in
     let knows = knows_call q v w next.shard c.answer-answered.ensures.calls in
     let counted : length lines - length c.in-Some.rest.now ≡ length lines - length c.loop-request.left.now + 1 =
     let most = c.loop-request.invariant.shorter in let long = c.in-Some.ensures.cases.1 in omega arith in
@@ -251,26 +286,38 @@ loop-request-preserved-in-Ok g c =
           c.push_reserved.ensures.items next.worked c.answer-answered.ensures.crash c.in-Ok.ensures.ok;
       rooms = rooms.1;
       reserved = let most = c.loop-request.invariant.reserved in
-          let long = ap length (mine_next workers worker c.loop-request.left.now c.in-Some.rest.now c.in-Some.request.now c.has.result c.in-Some.ensures.cases.0 c.has.ensures c.if-has.true) in
+          let long = ap length (mine_next workers worker c.loop-request.left.now c.in-Some.rest.now c.in-Some.request.now c.has.result
+          c.in-Some.ensures.cases.0 c.has.ensures c.if-has.true) in
           let more = c.push_reserved.ensures.len in
           let same = c.push_reserved.ensures.capacity in
           omega arith;
       shorter = let most = c.loop-request.invariant.shorter in let long = c.in-Some.ensures.cases.1 in omega arith;
       same_room = c.push_reserved.ensures.capacity ∙ c.loop-request.invariant.same_room;
       taken = subst (λ rs. HasTaken mine rs start w) (sym now) taken;
-      full = subst (λ rs. AreFullRightly g.H.HeapSeat.view g.O.Outbox.goes (tables_missing (put_into mine) start) rs c.args.seat.now c.answer-answered.new.seat) (sym now)
-          (refused_next g.H.HeapSeat.view g.O.Outbox.goes (tables_missing (put_into mine) start) (answered mine (replies_of told)) q replied.reply c.args.seat.now c.answer-answered.new.seat
-          (refused_on g.H.HeapSeat.view g.O.Outbox.goes (tables_missing (put_into mine) start) (answered mine (replies_of told)) c.args.seat.now c.loop-request.seat c.answer-answered.new.seat c.loop-request.invariant.full
+      full = subst (λ rs. AreFullRightly g.H.HeapSeat.view g.O.Outbox.goes
+          (tables_missing (put_into mine) start) rs c.args.seat.now c.answer-answered.new.seat) (sym now)
+          (refused_next g.H.HeapSeat.view g.O.Outbox.goes (tables_missing (put_into mine) start)
+          (answered mine (replies_of told)) q replied.reply c.args.seat.now c.answer-answered.new.seat
+          (refused_on g.H.HeapSeat.view g.O.Outbox.goes (tables_missing (put_into mine) start)
+          (answered mine (replies_of told)) c.args.seat.now c.loop-request.seat c.answer-answered.new.seat c.loop-request.invariant.full
           (λ x keeps. g.met.O.Outbox.goes_then x c.loop-request.seat c.answer-answered.new.seat keeps c.answer-answered.ensures.goes_on) knows)
           kept (g.met.O.Outbox.goes_none c.answer-answered.new.seat)
           (λ is_put full. full_behind mine (answered mine (replies_of told)) q replied.reply start w taken full (replied.room is_put full)));
-      calls = λ keys lists. subst (λ rs. MakeFew (length c.push_reserved.new.self.items) (33280 + 4 * (length keys + length mine)) (larges_of rs) start w) (sym now)
-          (subst (λ n. MakeFew (length c.push_reserved.new.self.items) (33280 + 4 * (length keys + length mine)) n start w) (sym (larges_push (answered mine (replies_of told)) q replied.reply))
-          (subst (λ n. MakeFew n (33280 + 4 * (length keys + length mine)) (larges_of (answered mine (replies_of told)) + large_calls_of q) start w) one_more
-          (few_next (length told) (33280 + 4 * (length keys + length mine)) (larges_of (answered mine (replies_of told))) image mine rest q (replies_of told) start v w room keys refl
-          c.requires.1.1.1.1.1.1.0 next.owned next.worked lists short fits c.answer-answered.ensures.calls (c.loop-request.invariant.calls keys lists))));
-      steps = subst (λ rs. TakesRequests g.H.HeapSeat.view g.O.Outbox.goes g.H.HeapSeat.has_none rs c.args.seat.now c.answer-answered.new.seat) (sym now)
-          (takes_push g.H.HeapSeat.view g.O.Outbox.goes g.H.HeapSeat.has_none (answered mine (replies_of told)) q replied.reply c.args.seat.now c.loop-request.seat c.answer-answered.new.seat c.loop-request.invariant.steps
+      calls = λ keys lists. subst (λ rs. MakeFew (length c.push_reserved.new.self.items) (33280 + 4 * (length keys + length mine))
+          (larges_of rs) start w) (sym now)
+          (subst (λ n. MakeFew (length c.push_reserved.new.self.items) (33280 + 4 * (length keys + length mine)) n start w)
+          (sym (larges_push (answered mine (replies_of told)) q replied.reply))
+          (subst (λ n. MakeFew n (33280 + 4 * (length keys + length mine))
+          (larges_of (answered mine (replies_of told)) + large_calls_of q) start w) one_more
+          (few_next (length told) (33280 + 4 * (length keys + length mine)) (larges_of (answered mine (replies_of told))) image mine rest q
+          (replies_of told) start v w room keys refl
+          c.requires.1.1.1.1.1.1.0 next.owned next.worked lists short fits c.answer-answered.ensures.calls
+          (c.loop-request.invariant.calls keys lists))));
+      steps = subst (λ rs. TakesRequests g.H.HeapSeat.view g.O.Outbox.goes g.H.HeapSeat.has_none rs c.args.seat.now c.answer-answered.new.seat)
+          (sym now)
+          (takes_push g.H.HeapSeat.view g.O.Outbox.goes g.H.HeapSeat.has_none
+          (answered mine (replies_of told)) q replied.reply c.args.seat.now c.loop-request.seat c.answer-answered.new.seat
+          c.loop-request.invariant.steps
           (record {
             answers = replied.answers;
             may = c.answer-answered.ensures.crash;
@@ -286,18 +333,28 @@ loop-request-preserved-in-Ok g c =
       goes_on = kept;
       ready = c.answer-answered.ensures.ready_on;
       outgoing = let most = c.loop-request.invariant.outgoing in
-          let mine_are = ap rooms_needed (mine_next workers worker c.loop-request.left.now c.in-Some.rest.now c.in-Some.request.now c.has.result c.in-Some.ensures.cases.0 c.has.ensures c.if-has.true) in
+          let mine_are = ap rooms_needed (mine_next workers worker c.loop-request.left.now c.in-Some.rest.now c.in-Some.request.now c.has.result
+          c.in-Some.ensures.cases.0 c.has.ensures c.if-has.true) in
           let one = sum_by-cons needs_room q rest in
           let left = c.answer-answered.ensures.room_left in
           omega arith;
-      sent = subst (λ rs. HasSentSo image workers worker (requests_of lines) (requests_of c.in-Some.rest.now) (length lines - length c.in-Some.rest.now) rs (replies_of c.push_reserved.new.self.items) (g.O.Outbox.sent c.args.outbox.now) (g.O.Outbox.sent c.answer-answered.new.outbox)) (sym now)
-          (sent_next image workers worker mine (requests_of lines) (requests_of c.loop-request.left.now) (requests_of c.in-Some.rest.now) rest q replied.reply (length lines - length c.loop-request.left.now) (length lines - length c.in-Some.rest.now)
-          (answered mine (replies_of told)) (replies_of told) (replies_of c.push_reserved.new.self.items) (g.O.Outbox.sent c.args.outbox.now) (g.O.Outbox.sent c.loop-request.outbox) (g.O.Outbox.sent c.answer-answered.new.outbox) v
-          c.requires.1.1.1.1.1.1.0 next.owned next.worked (answered_now image mine (q ∷ rest) (replies_of told) v next.worked) (ap requests_of c.in-Some.ensures.cases.0) counted (sym c.has.ensures ∙ c.if-has.true)
+      sent = subst (λ rs. HasSentSo image workers worker (requests_of lines) (requests_of c.in-Some.rest.now)
+          (length lines - length c.in-Some.rest.now) rs (replies_of c.push_reserved.new.self.items) (g.O.Outbox.sent c.args.outbox.now)
+          (g.O.Outbox.sent c.answer-answered.new.outbox)) (sym now)
+          (sent_next image workers worker mine (requests_of lines) (requests_of c.loop-request.left.now)
+          (requests_of c.in-Some.rest.now) rest q replied.reply (length lines - length c.loop-request.left.now)
+          (length lines - length c.in-Some.rest.now)
+          (answered mine (replies_of told)) (replies_of told) (replies_of c.push_reserved.new.self.items) (g.O.Outbox.sent c.args.outbox.now)
+          (g.O.Outbox.sent c.loop-request.outbox) (g.O.Outbox.sent c.answer-answered.new.outbox) v
+          c.requires.1.1.1.1.1.1.0 next.owned next.worked (answered_now image mine (q ∷ rest) (replies_of told) v next.worked)
+          (ap requests_of c.in-Some.ensures.cases.0) counted (sym c.has.ensures ∙ c.if-has.true)
           (ap replies_of c.push_reserved.ensures.items ∙ map_push reply_of told c.in-Ok.reply ∙ ap (λ o. replies_of told ++ (o ∷ [])) replied.told_is)
-          (subst (λ o. HasSent (length lines - length c.loop-request.left.now) q o (g.O.Outbox.sent c.loop-request.outbox) (g.O.Outbox.sent c.answer-answered.new.outbox) v) replied.told_is c.in-Ok.ensures.sent) c.loop-request.invariant.sent);
-      tables = subst (λ rs. (request : Request) (answer : Reply) → Contains rs (request, answer) → GoesByTables (is_flagged c.args.tables.now) request (Some answer)) (sym now)
-          (goes_on (is_flagged c.args.tables.now) (answered mine (replies_of told)) q replied.reply (subst (GoesByTables (is_flagged c.args.tables.now) q) replied.told_is c.in-Ok.ensures.tables) c.loop-request.invariant.tables);
+          (subst (λ o. HasSent (length lines - length c.loop-request.left.now) q o (g.O.Outbox.sent c.loop-request.outbox)
+          (g.O.Outbox.sent c.answer-answered.new.outbox) v) replied.told_is c.in-Ok.ensures.sent) c.loop-request.invariant.sent);
+      tables = subst (λ rs. (request : Request) (answer : Reply) → Contains rs (request, answer)
+          → GoesByTables (is_flagged c.args.tables.now) request (Some answer)) (sym now)
+          (goes_on (is_flagged c.args.tables.now) (answered mine (replies_of told)) q replied.reply
+          (subst (GoesByTables (is_flagged c.args.tables.now) q) replied.told_is c.in-Ok.ensures.tables) c.loop-request.invariant.tables);
     }
 
 pub returns-clause-calls : goal.returns-clause-calls
@@ -312,13 +369,17 @@ returns-clause-calls g c = λ keys lists.
     let told = replies_of c.loop-request.replies.items in
     let worked : HasWorked image mine [] told v = elim c.match-split_first.branch as (λ _. HasWorked image mine [] told v) [
       | in-Some+then-has+in_default-pop_front w ↦
-          absurd (no_room_left workers worker c.loop-request.left.now w.in-Some.rest.now w.in-Some.request.now w.has.result w.in-Some.ensures.cases.0 w.has.ensures w.if-has.true image (requests_of lines) c.loop-request.rooms.items
-          (w.in_default-pop_front.ensures.items ∙ nil_from_length w.pop_front.new.self.items (let ok = w.pop_front.new.self.ok in let none = w.in_default-pop_front.ensures.cases.1 in omega arith)) c.loop-request.invariant.rooms)
-      | in_default w ↦ subst (λ (ls : List Line). HasWorked image mine (worker_requests workers worker (requests_of ls)) told v) (nil_from_length c.loop-request.left.now w.in_default.ensures.cases) c.loop-request.invariant.worked
+          absurd (no_room_left workers worker c.loop-request.left.now w.in-Some.rest.now w.in-Some.request.now w.has.result
+          w.in-Some.ensures.cases.0 w.has.ensures w.if-has.true image (requests_of lines) c.loop-request.rooms.items
+          (w.in_default-pop_front.ensures.items ∙ nil_from_length w.pop_front.new.self.items (let ok = w.pop_front.new.self.ok in
+          let none = w.in_default-pop_front.ensures.cases.1 in omega arith)) c.loop-request.invariant.rooms)
+      | in_default w ↦ subst (λ (ls : List Line). HasWorked image mine (worker_requests workers worker (requests_of ls)) told v)
+          (nil_from_length c.loop-request.left.now w.in_default.ensures.cases) c.loop-request.invariant.worked
     ] in
     let items = c.loop-request.replies.items in
     let small = 33280 + 4 * (length keys + length mine) in
-    few_more (length items) (length mine) small (larges_of (answered mine told)) (sum_by large_calls_of mine) start v (let count = worked_count image mine [] items v worked in omega arith)
+    few_more (length items) (length mine) small (larges_of (answered mine told)) (sum_by large_calls_of mine) start v
+    (let count = worked_count image mine [] items v worked in omega arith)
     (let all = larges_worked image mine [] told v worked in omega arith) (c.loop-request.invariant.calls keys lists)
 
 pub returns-clause-taken : goal.returns-clause-taken
@@ -333,11 +394,15 @@ returns-clause-taken g c =
     let told = replies_of c.loop-request.replies.items in
     let worked : HasWorked image mine [] told v = elim c.match-split_first.branch as (λ _. HasWorked image mine [] told v) [
       | in-Some+then-has+in_default-pop_front w ↦
-          absurd (no_room_left workers worker c.loop-request.left.now w.in-Some.rest.now w.in-Some.request.now w.has.result w.in-Some.ensures.cases.0 w.has.ensures w.if-has.true image (requests_of lines) c.loop-request.rooms.items
-          (w.in_default-pop_front.ensures.items ∙ nil_from_length w.pop_front.new.self.items (let ok = w.pop_front.new.self.ok in let none = w.in_default-pop_front.ensures.cases.1 in omega arith)) c.loop-request.invariant.rooms)
-      | in_default w ↦ subst (λ (ls : List Line). HasWorked image mine (worker_requests workers worker (requests_of ls)) told v) (nil_from_length c.loop-request.left.now w.in_default.ensures.cases) c.loop-request.invariant.worked
+          absurd (no_room_left workers worker c.loop-request.left.now w.in-Some.rest.now w.in-Some.request.now w.has.result
+          w.in-Some.ensures.cases.0 w.has.ensures w.if-has.true image (requests_of lines) c.loop-request.rooms.items
+          (w.in_default-pop_front.ensures.items ∙ nil_from_length w.pop_front.new.self.items (let ok = w.pop_front.new.self.ok in
+          let none = w.in_default-pop_front.ensures.cases.1 in omega arith)) c.loop-request.invariant.rooms)
+      | in_default w ↦ subst (λ (ls : List Line). HasWorked image mine (worker_requests workers worker (requests_of ls)) told v)
+          (nil_from_length c.loop-request.left.now w.in_default.ensures.cases) c.loop-request.invariant.worked
     ] in
-    subst (λ qs. HasTakenFew (tables_missing (put_into mine) start) (answered mine told) qs start v) (sym (unanswered_now image mine [] told v worked)) (taken_ended mine (answered mine told) start v c.loop-request.invariant.taken)
+    subst (λ qs. HasTakenFew (tables_missing (put_into mine) start) (answered mine told) qs start v)
+    (sym (unanswered_now image mine [] told v worked)) (taken_ended mine (answered mine told) start v c.loop-request.invariant.taken)
 
 pub returns-clause-steps : goal.returns-clause-steps
 returns-clause-steps g c =
@@ -350,9 +415,12 @@ returns-clause-steps g c =
     let told = replies_of c.loop-request.replies.items in
     let worked : HasWorked image mine [] told v = elim c.match-split_first.branch as (λ _. HasWorked image mine [] told v) [
       | in-Some+then-has+in_default-pop_front w ↦
-          absurd (no_room_left workers worker c.loop-request.left.now w.in-Some.rest.now w.in-Some.request.now w.has.result w.in-Some.ensures.cases.0 w.has.ensures w.if-has.true image (requests_of lines) c.loop-request.rooms.items
-          (w.in_default-pop_front.ensures.items ∙ nil_from_length w.pop_front.new.self.items (let ok = w.pop_front.new.self.ok in let none = w.in_default-pop_front.ensures.cases.1 in omega arith)) c.loop-request.invariant.rooms)
-      | in_default w ↦ subst (λ (ls : List Line). HasWorked image mine (worker_requests workers worker (requests_of ls)) told v) (nil_from_length c.loop-request.left.now w.in_default.ensures.cases) c.loop-request.invariant.worked
+          absurd (no_room_left workers worker c.loop-request.left.now w.in-Some.rest.now w.in-Some.request.now w.has.result
+          w.in-Some.ensures.cases.0 w.has.ensures w.if-has.true image (requests_of lines) c.loop-request.rooms.items
+          (w.in_default-pop_front.ensures.items ∙ nil_from_length w.pop_front.new.self.items (let ok = w.pop_front.new.self.ok in
+          let none = w.in_default-pop_front.ensures.cases.1 in omega arith)) c.loop-request.invariant.rooms)
+      | in_default w ↦ subst (λ (ls : List Line). HasWorked image mine (worker_requests workers worker (requests_of ls)) told v)
+          (nil_from_length c.loop-request.left.now w.in_default.ensures.cases) c.loop-request.invariant.worked
     ] in (
       c.loop-request.seat,
       c.loop-request.invariant.steps,
@@ -366,8 +434,10 @@ returns-in_default-answered-clause-sent g c = λ whole is_whole.
     let worker = c.args.worker.number in
     let lines = c.args.requests.now in
     let told = replies_of c.loop-request.replies.items in
-    subst (λ now. IsPermutation (all_sent whole (worker_numbered workers worker (requests_of lines)) told ++ g.O.Outbox.sent c.args.outbox.now) now) (sym c.in_default-answered.ensures.unsent)
-    (sent_all g.image workers worker (requests_of lines) (requests_of c.loop-request.left.now) (length lines - length c.loop-request.left.now) (answered (worker_requests workers worker (requests_of lines)) told) told
+    subst (λ now. IsPermutation (all_sent whole (worker_numbered workers worker (requests_of lines)) told ++ g.O.Outbox.sent c.args.outbox.now)
+    now) (sym c.in_default-answered.ensures.unsent)
+    (sent_all g.image workers worker (requests_of lines) (requests_of c.loop-request.left.now) (length lines - length c.loop-request.left.now)
+    (answered (worker_requests workers worker (requests_of lines)) told) told
     (g.O.Outbox.sent c.args.outbox.now) (g.O.Outbox.sent c.loop-request.outbox) c.loop-request.invariant.sent whole is_whole)
 
 pub returns-clause-sent : goal.returns-clause-sent
@@ -376,5 +446,6 @@ returns-clause-sent g c = λ whole is_whole.
     let worker = c.args.worker.number in
     let lines = c.args.requests.now in
     let told = replies_of c.loop-request.replies.items in
-    sent_all g.image workers worker (requests_of lines) (requests_of c.loop-request.left.now) (length lines - length c.loop-request.left.now) (answered (worker_requests workers worker (requests_of lines)) told) told
+    sent_all g.image workers worker (requests_of lines) (requests_of c.loop-request.left.now) (length lines - length c.loop-request.left.now)
+    (answered (worker_requests workers worker (requests_of lines)) told) told
     (g.O.Outbox.sent c.args.outbox.now) (g.O.Outbox.sent c.loop-request.outbox) c.loop-request.invariant.sent whole is_whole

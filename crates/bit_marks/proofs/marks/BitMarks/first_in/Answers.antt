@@ -11,13 +11,15 @@ returns-then-group-div_ceil-clause-none c = λ none n here. unmarked c.self.insi
 pub returns-then-word-eq0-clause-none : goal.returns-then-word-eq0-clause-none
 returns-then-word-eq0-clause-none c = λ none n here. unmarked c.self.inside.words.items c.self.inside.below n c.args.self.now c.self.view_is
     (λ less. let inside = c.self.invariant in
-    group_mark c.self.inside.words.items n c.args.group c.index-word.result.now here (word_is c.self.inside.words.items c.args.group c.index-word.result.now (omega arith) c.index-word.ensures)
+    group_mark c.self.inside.words.items n c.args.group c.index-word.result.now here
+    (word_is c.self.inside.words.items c.args.group c.index-word.result.now (omega arith) c.index-word.ensures)
     ∙ ap (λ w. is_one w (n % 64)) c.if-word-eq0.true ∙ ap (λ b. nat_eq b 1) (bit_at-zero (n % 64)))
 
 pub returns-then-n-self-clause-none : goal.returns-then-n-self-clause-none
 returns-then-n-self-clause-none c = λ none n here. unmarked c.self.inside.words.items c.self.inside.below n c.args.self.now c.self.view_is
     (λ less. let inside = c.self.invariant in
-    group_mark c.self.inside.words.items n c.args.group c.index-word.result.now here (word_is c.self.inside.words.items c.args.group c.index-word.result.now (omega arith) c.index-word.ensures)
+    group_mark c.self.inside.words.items n c.args.group c.index-word.result.now here
+    (word_is c.self.inside.words.items c.args.group c.index-word.result.now (omega arith) c.index-word.ensures)
     ∙ c.lowest_bit.ensures.lowest (n % 64) (let past = c.if-n-self.true in omega arith))
 
 pub returns-clause-some : goal.returns-clause-some

@@ -20,14 +20,16 @@ returns-in-Some-clause-ok g c =
     let p = parts_of c.args.self.now in
     let q = parts_of c.alloc_small.new.self in
     IfOk-weaker c.alloc_small.result (λ answer. AnswersInClass c.in-Some.class.number answer p q) (λ answer. Answers c.args.asked.bytes answer p q)
-    (λ answer. answers_small c.args.asked.bytes c.in-Some.class.number answer p q (c.args.asked.served c.in-Some.class c.in-Some.is)) c.alloc_small.ensures.ok
+    (λ answer. answers_small c.args.asked.bytes c.in-Some.class.number answer p q (c.args.asked.served c.in-Some.class c.in-Some.is))
+    c.alloc_small.ensures.ok
 
 pub returns-in-Some-clause-drains : goal.returns-in-Some-clause-drains
 returns-in-Some-clause-drains g c =
     let p = parts_of c.args.self.now in
     let q = parts_of c.alloc_small.new.self in
     λ class is same. subst (λ (k : ℕ). IfOk c.alloc_small.result (λ answer. DrainsAs k answer p q))
-    (sym (least_of_size c.args.asked.bytes c.in-Some.class.number class (c.args.asked.served c.in-Some.class c.in-Some.is) is same)) c.alloc_small.ensures.drains
+    (sym (least_of_size c.args.asked.bytes c.in-Some.class.number class (c.args.asked.served c.in-Some.class c.in-Some.is) is same))
+    c.alloc_small.ensures.drains
 
 pub returns-in-None-clause-ok : goal.returns-in-None-clause-ok
 returns-in-None-clause-ok g c =
@@ -37,11 +39,14 @@ returns-in-None-clause-ok g c =
     let joins : IfOk c.alloc_large.result (λ answer. JoinsAs (span_of c.args.asked.bytes) answer p q) =
     subst (λ (count : ℕ). IfOk c.alloc_large.result (λ answer. JoinsAs count answer p q)) c.span_of.ensures c.alloc_large.ensures.ok in
     let one : Option Block → Type 0 = λ answer. answer ≡ None → q.words.drawn ≡ p.words.drawn + 1 in
-    both_ok c.alloc_large.result (λ answer. JoinsAs (span_of c.args.asked.bytes) answer p q × one answer) (λ answer. Answers c.args.asked.bytes answer p q)
+    both_ok c.alloc_large.result (λ answer. JoinsAs (span_of c.args.asked.bytes) answer p q × one answer)
+    (λ answer. Answers c.args.asked.bytes answer p q)
     (IsRunning q × ((AreAccounted p → AreAccounted q) × RunsWithin most_join_draws p.words q.words))
     (λ answer join runs. answers_large c.args.asked.bytes answer p q large c.requires.short join.0 runs.0 runs.1.0 c.alloc_large.ensures.caches
-    c.alloc_large.ensures.leaves_held.capacity join.1 runs.1.1.few) (if_ok_both c.alloc_large.result (λ answer. JoinsAs (span_of c.args.asked.bytes) answer p q) one joins c.alloc_large.ensures.one_look)
-    (on_ok_both c.alloc_large.result (IsRunning q) ((AreAccounted p → AreAccounted q) × RunsWithin most_join_draws p.words q.words) c.alloc_large.ensures.running
+    c.alloc_large.ensures.leaves_held.capacity join.1 runs.1.1.few)
+    (if_ok_both c.alloc_large.result (λ answer. JoinsAs (span_of c.args.asked.bytes) answer p q) one joins c.alloc_large.ensures.one_look)
+    (on_ok_both c.alloc_large.result (IsRunning q) ((AreAccounted p → AreAccounted q)
+    × RunsWithin most_join_draws p.words q.words) c.alloc_large.ensures.running
     (on_ok_both c.alloc_large.result (AreAccounted p → AreAccounted q) (RunsWithin most_join_draws p.words q.words) c.alloc_large.ensures.accounted
     c.alloc_large.ensures.runs_within))
 

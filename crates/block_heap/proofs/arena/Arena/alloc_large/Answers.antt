@@ -19,7 +19,8 @@ overflow_add-self g c =
 pub returns-in_err-join-clause-leaves_held : goal.returns-in_err-join-clause-leaves_held
 returns-in_err-join-clause-leaves_held g c =
     join_leaves_held (parts_of c.args.self.now) c.args.count c.in-Some.d c.in_ok-fresh.fresh (medium_view c.take_fresh.new.self) c.by-self.result
-    c.requires.running c.in_ok-fresh.ensures.ok c.in-Some.is (medium_view c.join.new.self) c.requires.some c.take_fresh.ensures.others c.take_fresh.ensures.crash c.take_fresh.ensures.fits
+    c.requires.running c.in_ok-fresh.ensures.ok c.in-Some.is (medium_view c.join.new.self)
+    c.requires.some c.take_fresh.ensures.others c.take_fresh.ensures.crash c.take_fresh.ensures.fits
     c.by-self.ensures.seen c.by-self.ensures.taken c.join.ensures.others c.args.self.now.held
     (record { by = c.by-self.ensures.ticket ∙ ap Some c.next_ticket-ticket.ensures; taken = c.by-self.ensures.taken })
 
@@ -31,24 +32,31 @@ divide-requires-clause-none g c =
 pub returns-clause-leaves_held : goal.returns-clause-leaves_held
 returns-clause-leaves_held g c =
     join_leaves_held (parts_of c.args.self.now) c.args.count c.in-Some.d c.in_ok-fresh.fresh (medium_view c.take_fresh.new.self) c.by-self.result
-    c.requires.running c.in_ok-fresh.ensures.ok c.in-Some.is (medium_view c.join.new.self) c.requires.some c.take_fresh.ensures.others c.take_fresh.ensures.crash c.take_fresh.ensures.fits
+    c.requires.running c.in_ok-fresh.ensures.ok c.in-Some.is (medium_view c.join.new.self)
+    c.requires.some c.take_fresh.ensures.others c.take_fresh.ensures.crash c.take_fresh.ensures.fits
     c.by-self.ensures.seen c.by-self.ensures.taken c.join.ensures.others c.add.new.self
     (record { by = c.by-self.ensures.ticket ∙ ap Some c.next_ticket-ticket.ensures; taken = c.by-self.ensures.taken })
 
 pub returns-clause-ok : goal.returns-clause-ok
 returns-clause-ok g c =
     join_answers (parts_of c.args.self.now) c.args.count c.in-Some.d c.in_ok-fresh.fresh (medium_view c.take_fresh.new.self) c.by-self.result
-    c.requires.running c.in_ok-fresh.ensures.ok c.in-Some.is (medium_view c.join.new.self) c.requires.some c.take_fresh.ensures.others c.take_fresh.ensures.crash c.take_fresh.ensures.fits
-    c.by-self.ensures.seen c.by-self.ensures.taken c.join.ensures.others c.divide.new.self c.add.new.self c.start-first_word.result c.in_ok-join.ensures.ok
-    c.divide.ensures.held c.divide.ensures.words c.divide.ensures.start c.start-first_word.ensures c.add.ensures.held c.add.ensures.words c.add.ensures.start
+    c.requires.running c.in_ok-fresh.ensures.ok c.in-Some.is (medium_view c.join.new.self)
+    c.requires.some c.take_fresh.ensures.others c.take_fresh.ensures.crash c.take_fresh.ensures.fits
+    c.by-self.ensures.seen c.by-self.ensures.taken c.join.ensures.others c.divide.new.self c.add.new.self c.start-first_word.result
+    c.in_ok-join.ensures.ok
+    c.divide.ensures.held c.divide.ensures.words c.divide.ensures.start c.start-first_word.ensures c.add.ensures.held c.add.ensures.words
+    c.add.ensures.start
     c.at.result c.at.ensures
 
 pub returns-clause-running : goal.returns-clause-running
 returns-clause-running g c =
     join_running (parts_of c.args.self.now) c.args.count c.in-Some.d c.in_ok-fresh.fresh (medium_view c.take_fresh.new.self) c.by-self.result
-    c.requires.running c.in_ok-fresh.ensures.ok c.in-Some.is (medium_view c.join.new.self) c.requires.some c.take_fresh.ensures.others c.take_fresh.ensures.crash c.take_fresh.ensures.fits
-    c.by-self.ensures.seen c.by-self.ensures.taken c.join.ensures.others c.divide.new.self c.add.new.self c.start-first_word.result c.in_ok-join.ensures.ok
-    c.divide.ensures.held c.divide.ensures.words c.divide.ensures.start c.start-first_word.ensures c.add.ensures.held c.add.ensures.words c.add.ensures.start
+    c.requires.running c.in_ok-fresh.ensures.ok c.in-Some.is (medium_view c.join.new.self)
+    c.requires.some c.take_fresh.ensures.others c.take_fresh.ensures.crash c.take_fresh.ensures.fits
+    c.by-self.ensures.seen c.by-self.ensures.taken c.join.ensures.others c.divide.new.self c.add.new.self c.start-first_word.result
+    c.in_ok-join.ensures.ok
+    c.divide.ensures.held c.divide.ensures.words c.divide.ensures.start c.start-first_word.ensures c.add.ensures.held c.add.ensures.words
+    c.add.ensures.start
 
 pub returns-in_default-clause-leaves_held : goal.returns-in_default-clause-leaves_held
 returns-in_default-clause-leaves_held g c =
@@ -64,13 +72,17 @@ returns-in_default-clause-accounted g c =
 pub returns-clause-accounted : goal.returns-clause-accounted
 returns-clause-accounted g c =
     join_accounted (parts_of c.args.self.now) c.args.count c.in-Some.d c.in_ok-fresh.fresh (medium_view c.take_fresh.new.self) c.by-self.result
-    c.requires.running c.in_ok-fresh.ensures.ok c.in-Some.is (medium_view c.join.new.self) c.requires.some c.take_fresh.ensures.others c.take_fresh.ensures.crash c.take_fresh.ensures.fits
-    c.by-self.ensures.seen c.by-self.ensures.taken c.join.ensures.others c.divide.new.self c.add.new.self c.start-first_word.result c.in_ok-join.ensures.ok
-    c.divide.ensures.held c.divide.ensures.words c.divide.ensures.start c.start-first_word.ensures c.add.ensures.held c.add.ensures.words c.add.ensures.start
+    c.requires.running c.in_ok-fresh.ensures.ok c.in-Some.is (medium_view c.join.new.self)
+    c.requires.some c.take_fresh.ensures.others c.take_fresh.ensures.crash c.take_fresh.ensures.fits
+    c.by-self.ensures.seen c.by-self.ensures.taken c.join.ensures.others c.divide.new.self c.add.new.self c.start-first_word.result
+    c.in_ok-join.ensures.ok
+    c.divide.ensures.held c.divide.ensures.words c.divide.ensures.start c.start-first_word.ensures c.add.ensures.held c.add.ensures.words
+    c.add.ensures.start
 
 pub returns-in_err-fresh-clause-leaves_held : goal.returns-in_err-fresh-clause-leaves_held
 returns-in_err-fresh-clause-leaves_held g c =
-    large_stops (parts_of c.args.self.now) c.args.count (medium_view c.take_fresh.new.self) c.requires.running c.take_fresh.ensures.others c.take_fresh.ensures.crash
+    large_stops (parts_of c.args.self.now) c.args.count (medium_view c.take_fresh.new.self)
+    c.requires.running c.take_fresh.ensures.others c.take_fresh.ensures.crash
     c.take_fresh.ensures.fits
 
 pub returns-in_default-clause-one_look : goal.returns-in_default-clause-one_look

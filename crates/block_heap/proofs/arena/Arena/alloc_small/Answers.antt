@@ -11,16 +11,20 @@ pub returns-then-not-branch-clause-drains : goal.returns-then-not-branch-clause-
 returns-then-not-branch-clause-drains g c =
     let p = parts_of c.args.self.now in
     let q = parts_of c.stock.new.self in
-    let none = subst (λ (some : Bool). Refills c.args.class.number some p q) c.if-not-branch.true c.in_ok-stock.ensures.ok in
-    (drains_nothing c.args.class.number p q c.args.class.is c.stock.ensures.leaves_held.capacity c.in_ok-stock.ensures.refilling none, still_none c.args.class.number p q none)
+    let none = subst (λ (some : Bool). Refills c.args.class.number some p q) c.if-not-branch.true c.in_ok-stock.ensures.ok in (
+      drains_nothing c.args.class.number p q c.args.class.is c.stock.ensures.leaves_held.capacity c.in_ok-stock.ensures.refilling none,
+      still_none c.args.class.number p q none,
+    )
 
 pub returns-in_err-pop_block-clause-leaves_held : goal.returns-in_err-pop_block-clause-leaves_held
 returns-in_err-pop_block-clause-leaves_held g c =
-    leaves_held_all (parts_of c.args.self.now) (parts_of c.stock.new.self) (parts_of c.pop_block.new.self) c.stock.ensures.held c.stock.ensures.leaves_held c.pop_block.ensures.leaves_held
+    leaves_held_all (parts_of c.args.self.now) (parts_of c.stock.new.self)
+    (parts_of c.pop_block.new.self) c.stock.ensures.held c.stock.ensures.leaves_held c.pop_block.ensures.leaves_held
 
 pub returns-clause-leaves_held : goal.returns-clause-leaves_held
 returns-clause-leaves_held g c =
-    leaves_held_all (parts_of c.args.self.now) (parts_of c.stock.new.self) (parts_of c.pop_block.new.self) c.stock.ensures.held c.stock.ensures.leaves_held c.pop_block.ensures.leaves_held
+    leaves_held_all (parts_of c.args.self.now) (parts_of c.stock.new.self)
+    (parts_of c.pop_block.new.self) c.stock.ensures.held c.stock.ensures.leaves_held c.pop_block.ensures.leaves_held
 
 pub returns-clause-ok : goal.returns-clause-ok
 returns-clause-ok g c =
@@ -36,7 +40,8 @@ returns-clause-drains g c =
     let p = parts_of c.args.self.now in
     let q = parts_of c.stock.new.self in
     let r = parts_of c.pop_block.new.self in (
-      drains_block c.args.class.number c.in_ok-pop_block.field-0 p q r c.stock.ensures.leaves_held.capacity c.in_ok-stock.ensures.refilling c.in_ok-pop_block.ensures.ok,
+      drains_block c.args.class.number c.in_ok-pop_block.field-0 p q r c.stock.ensures.leaves_held.capacity c.in_ok-stock.ensures.refilling
+          c.in_ok-pop_block.ensures.ok,
       costs_of c.args.class.number c.in_ok-stock.field-0 p q r c.if-not-branch.false c.in_ok-stock.ensures.left c.in_ok-stock.ensures.steps
           c.pop_block.ensures.leaves_held.capacity c.in_ok-pop_block.ensures.ok.volatile c.in_ok-pop_block.ensures.runs_within.few,
     )
@@ -48,6 +53,7 @@ pub returns-clause-order : goal.returns-clause-order
 returns-clause-order g c = record {
   between = parts_of c.stock.new.self;
   stocked = c.in_ok-stock.ensures.order c.if-not-branch.false;
-  takes = takes_first c.args.class.number c.in_ok-pop_block.field-0 (parts_of c.stock.new.self) (parts_of c.pop_block.new.self) c.pop_block.ensures.leaves_held.capacity
+  takes = takes_first c.args.class.number c.in_ok-pop_block.field-0 (parts_of c.stock.new.self)
+      (parts_of c.pop_block.new.self) c.pop_block.ensures.leaves_held.capacity
       c.in_ok-pop_block.ensures.ok;
 }

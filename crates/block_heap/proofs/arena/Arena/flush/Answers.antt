@@ -22,17 +22,22 @@ returns-in_err-prefix-clause-leaves_held g c = flushed_leaves_held c.args.class.
 
 pub loop-class-preserved : goal.loop-class-preserved
 loop-class-preserved g c =
-    flushed_more c.args.class.number (parts_of c.args.self.now) (parts_of c.loop-class.self) (parts_of c.longest_prefix.new.self) c.in_ok-prefix.prefix c.loop-class.invariant
-    c.in_ok-prefix.ensures.ok c.in_ok-prefix.ensures.running c.in_ok-prefix.ensures.keeps c.longest_prefix.ensures.caches c.in_ok-prefix.ensures.runs_within c.longest_prefix.ensures.held
+    flushed_more c.args.class.number (parts_of c.args.self.now) (parts_of c.loop-class.self)
+    (parts_of c.longest_prefix.new.self) c.in_ok-prefix.prefix c.loop-class.invariant
+    c.in_ok-prefix.ensures.ok c.in_ok-prefix.ensures.running c.in_ok-prefix.ensures.keeps c.longest_prefix.ensures.caches
+    c.in_ok-prefix.ensures.runs_within c.longest_prefix.ensures.held
     c.longest_prefix.ensures.leaves_held c.longest_prefix.ensures.taken
-    (parts_of c.give.new.self) c.in_ok-give.ensures.running c.in_ok-give.ensures.gives c.in_ok-give.ensures.runs_within c.give.ensures.held c.give.ensures.leaves_held
-    c.give.ensures.taken c.args.class.is c.requires c.in_ok-prefix.ensures.words c.in_ok-prefix.ensures.longest c.in_ok-give.ensures.order c.in_ok-give.ensures.in_front
+    (parts_of c.give.new.self) c.in_ok-give.ensures.running c.in_ok-give.ensures.gives c.in_ok-give.ensures.runs_within c.give.ensures.held
+    c.give.ensures.leaves_held
+    c.give.ensures.taken c.args.class.is c.requires c.in_ok-prefix.ensures.words c.in_ok-prefix.ensures.longest c.in_ok-give.ensures.order
+    c.in_ok-give.ensures.in_front
 
 pub returns-in_err-give-clause-stopped : goal.returns-in_err-give-clause-stopped
 returns-in_err-give-clause-stopped g c =
     let stops_within = give_stops_within c.args.class.number (parts_of c.args.self.now) (parts_of c.loop-class.self)
     (parts_of c.longest_prefix.new.self) c.in_ok-prefix.prefix c.loop-class.invariant
-    c.in_ok-prefix.ensures.ok c.in_ok-prefix.ensures.running c.in_ok-prefix.ensures.keeps c.longest_prefix.ensures.caches c.in_ok-prefix.ensures.runs_within
+    c.in_ok-prefix.ensures.ok c.in_ok-prefix.ensures.running c.in_ok-prefix.ensures.keeps c.longest_prefix.ensures.caches
+    c.in_ok-prefix.ensures.runs_within
     c.longest_prefix.ensures.held c.longest_prefix.ensures.leaves_held c.longest_prefix.ensures.taken
     (medium_view c.give.new.self.medium) c.in_err-give.field-0.0.step c.args.class.is c.requires c.in_err-give.ensures.stopped in
     let p = err_from_is_err_and c.from_residual-in_err-give.result c.from_residual-in_err-give.ensures.1 in
@@ -40,8 +45,10 @@ returns-in_err-give-clause-stopped g c =
 
 pub returns-in_err-give-clause-leaves_held : goal.returns-in_err-give-clause-leaves_held
 returns-in_err-give-clause-leaves_held g c =
-    give_leaves_held c.args.class.number (parts_of c.args.self.now) (parts_of c.loop-class.self) (parts_of c.longest_prefix.new.self) c.in_ok-prefix.prefix c.loop-class.invariant
-    c.in_ok-prefix.ensures.ok c.in_ok-prefix.ensures.running c.in_ok-prefix.ensures.keeps c.longest_prefix.ensures.caches c.in_ok-prefix.ensures.runs_within c.longest_prefix.ensures.held
+    give_leaves_held c.args.class.number (parts_of c.args.self.now) (parts_of c.loop-class.self)
+    (parts_of c.longest_prefix.new.self) c.in_ok-prefix.prefix c.loop-class.invariant
+    c.in_ok-prefix.ensures.ok c.in_ok-prefix.ensures.running c.in_ok-prefix.ensures.keeps c.longest_prefix.ensures.caches
+    c.in_ok-prefix.ensures.runs_within c.longest_prefix.ensures.held
     c.longest_prefix.ensures.leaves_held c.longest_prefix.ensures.taken
     (parts_of c.give.new.self) c.give.ensures.leaves_held
 

@@ -25,5 +25,6 @@ returns-in-Some-clause-order g c =
 
 pub returns-in-None-clause-order : goal.returns-in-None-clause-order
 returns-in-None-clause-order g c =
-    on_ok_weaker c.free_large.result (comes_as_large c.args.b (parts_of c.args.self.now) (parts_of c.free_large.new.self) (c.in-None.ensures.none.0 refl))
+    on_ok_weaker c.free_large.result (comes_as_large c.args.b (parts_of c.args.self.now) (parts_of c.free_large.new.self)
+    (c.in-None.ensures.none.0 refl))
     c.free_large.ensures.order

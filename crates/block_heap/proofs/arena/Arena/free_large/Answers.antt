@@ -28,18 +28,21 @@ returns-in_err-split-clause-freed g c =
 pub returns-in_err-split-clause-leaves_held : goal.returns-in_err-split-clause-leaves_held
 returns-in_err-split-clause-leaves_held g c =
     freed_leaves_held c.superblock_of-first.result c.loop-d.d (c.superblock_of-first.result + c.args.b.words / 8192) c.remove.new.self
-    (parts_of c.args.self.now) (parts_of c.loop-d.self) (parts_of c.split.new.self) c.loop-d.invariant c.in_err-split.ensures.held c.in_err-split.ensures.leaves_held
+    (parts_of c.args.self.now) (parts_of c.loop-d.self) (parts_of c.split.new.self)
+    c.loop-d.invariant c.in_err-split.ensures.held c.in_err-split.ensures.leaves_held
 
 pub loop-d-preserved : goal.loop-d-preserved
 loop-d-preserved g c =
     let kept = c.in_ok-split.ensures in
     freed_more c.superblock_of-first.result c.loop-d.d (c.superblock_of-first.result + c.args.b.words / 8192)
-    (record (parts_of c.args.self.now) { blocks = c.remove.new.self }) (parts_of c.loop-d.self) (parts_of c.split.new.self) c.loop-d-test.true c.loop-d.invariant
+    (record (parts_of c.args.self.now) { blocks = c.remove.new.self }) (parts_of c.loop-d.self)
+    (parts_of c.split.new.self) c.loop-d-test.true c.loop-d.invariant
     kept.running kept.others kept.gives kept.order kept.runs_within kept.held kept.leaves_held kept.caches kept.taken
 
 pub returns-clause-freed : goal.returns-clause-freed
 returns-clause-freed g c =
-    freed_takes (parts_of c.args.self.now) (parts_of c.loop-d.self) c.args.b c.remove.new.self c.requires.holds c.remove.ensures.held c.loop-d.invariant.blocks
+    freed_takes (parts_of c.args.self.now) (parts_of c.loop-d.self)
+    c.args.b c.remove.new.self c.requires.holds c.remove.ensures.held c.loop-d.invariant.blocks
 
 pub returns-clause-accounted : goal.returns-clause-accounted
 returns-clause-accounted g c =

@@ -145,7 +145,8 @@ pub returns-in_ok-flush-clause-accounted : goal.returns-in_ok-flush-clause-accou
 returns-in_ok-flush-clause-accounted g c = λ before.
     let p = parts_of c.args.self.now in
     let is = read_cache p c.args.class.number c.index-cache.result.now c.args.class.is c.requires.running c.index-cache.ensures in
-    c.in_ok-flush.ensures.keeps.accounted (freed_accounted p c.args.class.number c.args.class.is c.requires.running c.args.b c.requires.holds c.requires.size
+    c.in_ok-flush.ensures.keeps.accounted (freed_accounted p c.args.class.number c.args.class.is c.requires.running c.args.b c.requires.holds
+    c.requires.size
     c.remove.new.self c.remove.ensures.held c.remove.ensures.words c.remove.ensures.start
     c.index-cache.result.now is (medium_view c.store.new.self) c.in_ok-store.ensures.ok c.store.ensures.others c.requires.short before)
 

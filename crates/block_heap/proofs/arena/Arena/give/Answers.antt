@@ -19,13 +19,16 @@ give_blocks-requires-clause-anchor g c = prefix_anchor (parts_of c.args.self.now
     c.requires.prefix
 
 pub give_blocks-requires-clause-first : goal.give_blocks-requires-clause-first
-give_blocks-requires-clause-first g c = prefix_first (parts_of c.args.self.now) c.args.class.number c.args.class.is c.requires.running c.args.prefix c.requires.prefix
+give_blocks-requires-clause-first g c = prefix_first (parts_of c.args.self.now)
+    c.args.class.number c.args.class.is c.requires.running c.args.prefix c.requires.prefix
 
 pub give_blocks-requires-clause-last : goal.give_blocks-requires-clause-last
-give_blocks-requires-clause-last g c = prefix_last (parts_of c.args.self.now) c.args.class.number c.args.class.is c.requires.running c.args.prefix c.requires.prefix
+give_blocks-requires-clause-last g c = prefix_last (parts_of c.args.self.now)
+    c.args.class.number c.args.class.is c.requires.running c.args.prefix c.requires.prefix
 
 pub give_blocks-requires-clause-fits : goal.give_blocks-requires-clause-fits
-give_blocks-requires-clause-fits g c = prefix_fits (parts_of c.args.self.now) c.args.class.number c.args.class.is c.requires.running c.args.prefix c.requires.prefix
+give_blocks-requires-clause-fits g c = prefix_fits (parts_of c.args.self.now)
+    c.args.class.number c.args.class.is c.requires.running c.args.prefix c.requires.prefix
 
 pub returns-in_err-anchor-clause-leaves_held : goal.returns-in_err-anchor-clause-leaves_held
 returns-in_err-anchor-clause-leaves_held g c =
@@ -45,7 +48,8 @@ returns-in_ok-push-clause-running g c =
     let all = c.blocks_of.ensures in
     let same = c.eq.ensures in
     let full : c.in_ok-anchor.anchor.state ≡ Full = search rules in
-    elim c.if-all.branch as (λ _. IsRunning (changed p (medium_view c.push.new.self) (set p.caches c.args.class.number c.args.prefix.rest) c.args.self.now.held)) [
+    elim c.if-all.branch as (λ _. IsRunning (changed p (medium_view c.push.new.self)
+    (set p.caches c.args.class.number c.args.prefix.rest) c.args.self.now.held)) [
       | then-all w ↦
           pushed_all p c.args.class.number c.args.class.is c.requires.running c.args.prefix c.requires.prefix
           (medium_view c.give_blocks.new.self) c.in_ok-anchor.anchor
@@ -85,7 +89,8 @@ returns-in_ok-push-clause-gives g c =
     let same = c.eq.ensures in
     let full : c.in_ok-anchor.anchor.state ≡ Full = search rules in
     gives_back p c.args.class.number c.args.prefix (medium_view c.push.new.self) c.args.class.is c.requires.running
-    (elim c.if-all.branch as (λ _. AreAccounted p → AreAccounted (changed p (medium_view c.push.new.self) (set p.caches c.args.class.number c.args.prefix.rest) c.args.self.now.held)) [
+    (elim c.if-all.branch as (λ _. AreAccounted p → AreAccounted (changed p (medium_view c.push.new.self)
+    (set p.caches c.args.class.number c.args.prefix.rest) c.args.self.now.held)) [
       | then-all w ↦
           all_accounted p c.args.class.number c.args.class.is c.requires.running c.args.prefix c.requires.prefix
           (medium_view c.give_blocks.new.self) c.in_ok-anchor.anchor
@@ -113,7 +118,8 @@ returns-in_ok-push-clause-order g c =
     let all = c.blocks_of.ensures in
     let same = c.eq.ensures in
     let full : c.in_ok-anchor.anchor.state ≡ Full = search rules in
-    elim c.if-all.branch as (λ _. GivesTo c.args.class.number c.args.prefix p (changed p (medium_view c.push.new.self) (set p.caches c.args.class.number c.args.prefix.rest) c.args.self.now.held)) [
+    elim c.if-all.branch as (λ _. GivesTo c.args.class.number c.args.prefix p
+    (changed p (medium_view c.push.new.self) (set p.caches c.args.class.number c.args.prefix.rest) c.args.self.now.held)) [
       | then-all w ↦
           all_to p c.args.class.number c.args.class.is c.requires.running c.args.prefix c.requires.prefix
           (medium_view c.give_blocks.new.self) c.in_ok-anchor.anchor
@@ -140,7 +146,8 @@ returns-in_ok-push-clause-in_front g c =
     let all = c.blocks_of.ensures in
     let same = c.eq.ensures in
     let full : c.in_ok-anchor.anchor.state ≡ Full = search rules in
-    elim c.if-all.branch as (λ _. GivesPrefix c.args.class.number c.args.prefix p (changed p (medium_view c.push.new.self) (set p.caches c.args.class.number c.args.prefix.rest) c.args.self.now.held)) [
+    elim c.if-all.branch as (λ _. GivesPrefix c.args.class.number c.args.prefix p
+    (changed p (medium_view c.push.new.self) (set p.caches c.args.class.number c.args.prefix.rest) c.args.self.now.held)) [
       | then-all w ↦
           all_prefix p c.args.class.number c.args.class.is c.requires.running c.args.prefix c.requires.prefix
           (medium_view c.give_blocks.new.self) c.in_ok-anchor.anchor

@@ -28,7 +28,12 @@ loop-count-init g c =
     let p = parts_of c.args.self.now in
     let is = read_cache p c.args.class.number c.index-cache.result.now c.args.class.is c.requires.running c.index-cache.ensures in
     record {
-      loaded = record { same = refl; runs_within = c.in_ok-next.ensures.ok.runs_within; volatile = c.in_ok-next.ensures.ok.volatile; stores = c.load.ensures.unchanged };
+      loaded = record {
+        same = refl;
+        runs_within = c.in_ok-next.ensures.ok.runs_within;
+        volatile = c.in_ok-next.ensures.ok.volatile;
+        stores = c.load.ensures.unchanged;
+      };
       walked = walked_one p c.args.class.number c.args.class.is c.requires.running c.index-cache.result.now is c.requires.some c.superblock_of-d.result
           c.in_ok-next.next c.superblock_of-d.ensures c.in_ok-next.ensures.ok.seen;
       cache_is = is;
@@ -38,7 +43,8 @@ pub superblock_of-requires : goal.superblock_of-requires
 superblock_of-requires g c =
     let p = parts_of c.args.self.now in
     let inv = c.loop-count.invariant in
-    let at = next_placed p c.args.class.number c.args.class.is c.requires.running c.index-cache.result.now inv.cache_is c.superblock_of-d.result c.loop-count.last
+    let at = next_placed p c.args.class.number c.args.class.is c.requires.running c.index-cache.result.now inv.cache_is c.superblock_of-d.result
+    c.loop-count.last
     c.loop-count.next c.loop-count.count inv.walked c.loop-count-test.true in
     let capacity : c.loop-count.self.geometry.capacity ≡ c.args.self.now.geometry.capacity = loaded_capacity (parts_of c.args.self.now)
     (parts_of c.loop-count.self) c.loop-count.count inv.loaded in
@@ -49,7 +55,8 @@ pub load-requires-in-loop-count-clause-within : goal.load-requires-in-loop-count
 load-requires-in-loop-count-clause-within g c =
     let p = parts_of c.args.self.now in
     let inv = c.loop-count.invariant in
-    let at = next_placed p c.args.class.number c.args.class.is c.requires.running c.index-cache.result.now inv.cache_is c.superblock_of-d.result c.loop-count.last
+    let at = next_placed p c.args.class.number c.args.class.is c.requires.running c.index-cache.result.now inv.cache_is c.superblock_of-d.result
+    c.loop-count.last
     c.loop-count.next c.loop-count.count inv.walked c.loop-count-test.true in
     let below = first_below p c.args.class.number at.d c.loop-count.next c.args.class.is c.requires.running at.within at.first in
     let long = c.requires.running.words_open.long in
@@ -58,7 +65,8 @@ load-requires-in-loop-count-clause-within g c =
 
 pub returns-in_err-next-2-clause-leaves_held : goal.returns-in_err-next-2-clause-leaves_held
 returns-in_err-next-2-clause-leaves_held g c =
-    stopped_leaves_held (parts_of c.args.self.now) (parts_of c.loop-count.self) c.loop-count.count c.requires.running c.loop-count.invariant.loaded _ refl
+    stopped_leaves_held (parts_of c.args.self.now) (parts_of c.loop-count.self)
+    c.loop-count.count c.requires.running c.loop-count.invariant.loaded _ refl
     c.load-in-loop-count.ensures.unchanged
 
 pub loop-count-preserved : goal.loop-count-preserved
@@ -73,7 +81,8 @@ loop-count-preserved g c =
     record {
       loaded = loaded_more p q _ c.loop-count.count c.loop-count.next c.in_ok-next-2.next inv.loaded refl c.in_ok-next-2.ensures.ok
           c.load-in-loop-count.ensures.unchanged;
-      walked = walked_more p c.args.class.number c.args.class.is c.requires.running c.index-cache.result.now inv.cache_is c.superblock_of-d.result c.loop-count.last
+      walked = walked_more p c.args.class.number c.args.class.is c.requires.running c.index-cache.result.now inv.cache_is
+          c.superblock_of-d.result c.loop-count.last
           c.loop-count.next c.loop-count.count inv.walked
           c.in_ok-next-2.next c.loop-count-test.true at
           (c.in_ok-next-2.ensures.ok.seen ∙ ap (λ (xs : List ℕ). get_or xs c.loop-count.next 0) inv.loaded.volatile);
@@ -104,7 +113,8 @@ returns-clause-ok g c =
     let capacity : c.loop-count.self.geometry.capacity ≡ c.args.self.now.geometry.capacity = loaded_capacity (parts_of c.args.self.now)
     (parts_of c.loop-count.self) c.loop-count.count inv.loaded in
     loaded_prefix p q c.loop-count.count c.requires.running inv.loaded c.args.class.number _
-    (walked_prefix p c.args.class.number c.args.class.is c.requires.running c.index-cache.result.now inv.cache_is c.superblock_of-d.result c.loop-count.last
+    (walked_prefix p c.args.class.number c.args.class.is c.requires.running c.index-cache.result.now inv.cache_is c.superblock_of-d.result
+    c.loop-count.last
     c.loop-count.next c.loop-count.count inv.walked
     c.start.result c.block_words-words.result (c.start.ensures ∙ ap (λ n. start_word n c.superblock_of-d.result) capacity)
     c.block_words-words.ensures.words)
@@ -124,7 +134,8 @@ returns-clause-keeps g c = loaded_keeps (parts_of c.args.self.now) (parts_of c.l
 pub returns-in_err-next-clause-leaves_held : goal.returns-in_err-next-clause-leaves_held
 returns-in_err-next-clause-leaves_held g c =
     let p = parts_of c.args.self.now in
-    leaves_held_of p (record p { words = medium_view c.load.new.self }) (held_in p) (λ _. ⊥) c.requires.running refl refl refl (λ word out. absurd out) (λ out. out)
+    leaves_held_of p (record p { words = medium_view c.load.new.self }) (held_in p) (λ _. ⊥) c.requires.running refl refl refl
+    (λ word out. absurd out) (λ out. out)
     c.load.ensures.unchanged
 
 pub returns-clause-longest : goal.returns-clause-longest

@@ -21,7 +21,8 @@ returns g c =
     c.index.ensures ∙ ap (λ ws. get_or ws used_word c.index.result.now) same
     ∙ used_there words c.args.ready.held c.index.result.now c.into_parts-words.ensures.ready in
     let is : IsHeldOf words c.args.ready.held c.in_ok-held.held = c.in_ok-held.ensures in
-    opens_with words c.args.ready.held c.args.budget c.in_ok-held.held c.in_ok-vec.field-0.items c.opening_look-used_look.result c.loop-list.head_looks.items
+    opens_with words c.args.ready.held c.args.budget c.in_ok-held.held c.in_ok-vec.field-0.items c.opening_look-used_look.result
+    c.loop-list.head_looks.items
     c.into_parts-words.ensures.ready c.requires is caches looks
     (c.opening_look-used_look.ensures ∙ ap opened_look used)
     (λ list less. c.loop-list.invariant.each list (omega arith) ∙ ap (λ ws. opened_look (slice_index ws (head_word list))) same)

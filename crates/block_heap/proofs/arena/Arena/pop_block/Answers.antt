@@ -9,7 +9,8 @@ load-requires-clause-within g c =
     let p = parts_of c.args.self.now in
     let is = read_cache p c.args.class.number c.index-cache.result.now c.args.class.is c.requires.running c.index-cache.ensures in
     let front = first_cached p c.args.class.number c.args.class.is c.requires.running c.index-cache.result.now is c.requires.some in
-    let below = first_below p c.args.class.number front.d c.index-cache.result.now.first c.args.class.is c.requires.running front.within front.is_first in
+    let below = first_below p c.args.class.number front.d c.index-cache.result.now.first c.args.class.is c.requires.running front.within
+    front.is_first in
     let words = c.requires.running.words_open.long in
     omega arith
 
@@ -18,7 +19,8 @@ add-requires g c =
     let p = parts_of c.args.self.now in
     let is = read_cache p c.args.class.number c.index-cache.result.now c.args.class.is c.requires.running c.index-cache.ensures in
     let front = first_cached p c.args.class.number c.args.class.is c.requires.running c.index-cache.result.now is c.requires.some in
-    first_mark p c.args.class.number front.d c.index-cache.result.now.first c.args.class.is c.requires.running front.within front.is_first c.args.self.now.held refl
+    first_mark p c.args.class.number front.d c.index-cache.result.now.first c.args.class.is c.requires.running front.within front.is_first
+    c.args.self.now.held refl
     refl
 
 pub at-requires : goal.at-requires
@@ -26,7 +28,8 @@ at-requires g c =
     let p = parts_of c.args.self.now in
     let is = read_cache p c.args.class.number c.index-cache.result.now c.args.class.is c.requires.running c.index-cache.ensures in
     let front = first_cached p c.args.class.number c.args.class.is c.requires.running c.index-cache.result.now is c.requires.some in
-    first_mark p c.args.class.number front.d c.index-cache.result.now.first c.args.class.is c.requires.running front.within front.is_first c.add.new.self
+    first_mark p c.args.class.number front.d c.index-cache.result.now.first c.args.class.is c.requires.running front.within front.is_first
+    c.add.new.self
     c.add.ensures.start c.add.ensures.words
 
 pub returns-clause-ok : goal.returns-clause-ok

@@ -23,9 +23,12 @@ pub returns-then-branch-clause-refilling : goal.returns-then-branch-clause-refil
 returns-then-branch-clause-refilling g c =
     let p = parts_of c.args.self.now in
     elim c.then-branch.branch as (λ _. IsRefilling c.args.class.number p (parts_of c.then-branch.self)) [
-      | then-branch-via-then-branch w ↦ subst (λ (a : Arena _). IsRefilling c.args.class.number p (parts_of a)) (sym w.self-is) c.in_ok-take_partial.ensures.refilling
-      | then-branch-via-else-branch+in_ok-cut_free+then-branch-2 w ↦ subst (λ (a : Arena _). IsRefilling c.args.class.number p (parts_of a)) (sym w.self-is)
-          (refilling_then c.args.class.number p (parts_of c.take_partial.new.self) (parts_of w.cut_free.new.self) c.take_partial.ensures.leaves_held.capacity
+      | then-branch-via-then-branch w ↦ subst (λ (a : Arena _). IsRefilling c.args.class.number p (parts_of a))
+          (sym w.self-is) c.in_ok-take_partial.ensures.refilling
+      | then-branch-via-else-branch+in_ok-cut_free+then-branch-2 w ↦ subst (λ (a : Arena _). IsRefilling c.args.class.number p (parts_of a))
+          (sym w.self-is)
+          (refilling_then c.args.class.number p (parts_of c.take_partial.new.self)
+          (parts_of w.cut_free.new.self) c.take_partial.ensures.leaves_held.capacity
           c.in_ok-take_partial.ensures.refilling w.in_ok-cut_free.ensures.refilling)
     ]
 
@@ -33,9 +36,11 @@ pub returns-then-branch-clause-leaves_held : goal.returns-then-branch-clause-lea
 returns-then-branch-clause-leaves_held g c =
     let p = parts_of c.args.self.now in
     elim c.then-branch.branch as (λ _. LeavesHeld (held_in p) p (parts_of c.then-branch.self)) [
-      | then-branch-via-then-branch w ↦ subst (λ (a : Arena _). LeavesHeld (held_in p) p (parts_of a)) (sym w.self-is) c.take_partial.ensures.leaves_held
+      | then-branch-via-then-branch w ↦ subst (λ (a : Arena _). LeavesHeld (held_in p) p (parts_of a))
+          (sym w.self-is) c.take_partial.ensures.leaves_held
       | then-branch-via-else-branch+in_ok-cut_free+then-branch-2 w ↦ subst (λ (a : Arena _). LeavesHeld (held_in p) p (parts_of a)) (sym w.self-is)
-          (leaves_held_all p (parts_of c.take_partial.new.self) (parts_of w.cut_free.new.self) c.take_partial.ensures.held c.take_partial.ensures.leaves_held
+          (leaves_held_all p (parts_of c.take_partial.new.self) (parts_of w.cut_free.new.self)
+          c.take_partial.ensures.held c.take_partial.ensures.leaves_held
           w.cut_free.ensures.leaves_held)
     ]
 
@@ -45,7 +50,8 @@ returns-clause-ok g c =
     let a = parts_of c.take_partial.new.self in
     let b = parts_of c.cut_free.new.self in
     IfOk-weaker c.cut_fresh.result _ _
-    (fresh_refills c.args.class.number p a b c.args.class.is c.take_partial.ensures.leaves_held c.in_ok-take_partial.ensures.taken c.cut_free.ensures.leaves_held
+    (fresh_refills c.args.class.number p a b c.args.class.is c.take_partial.ensures.leaves_held c.in_ok-take_partial.ensures.taken
+    c.cut_free.ensures.leaves_held
     (parts_of c.cut_fresh.new.self) c.in_ok-cut_free.ensures.taken c.cut_fresh.ensures.leaves_held
     (subst (λ some. FindsPartial c.args.class.number some p a) c.if-branch.false c.in_ok-take_partial.ensures.ok)
     (subst (λ some. FindsFree c.args.class.number some a b) c.if-branch-2.false c.in_ok-cut_free.ensures.ok) c.requires.empty)
@@ -56,7 +62,8 @@ returns-clause-refilling g c =
     let p = parts_of c.args.self.now in
     let a = parts_of c.take_partial.new.self in
     let b = parts_of c.cut_free.new.self in
-    let then = refilling_then c.args.class.number p a b c.take_partial.ensures.leaves_held.capacity c.in_ok-take_partial.ensures.refilling c.in_ok-cut_free.ensures.refilling in
+    let then = refilling_then c.args.class.number p a b c.take_partial.ensures.leaves_held.capacity c.in_ok-take_partial.ensures.refilling
+    c.in_ok-cut_free.ensures.refilling in
     on_ok_weaker c.cut_fresh.result (refilling_then c.args.class.number p b (parts_of c.cut_fresh.new.self)
     (c.cut_free.ensures.leaves_held.capacity ∙ c.take_partial.ensures.leaves_held.capacity) then) c.cut_fresh.ensures.refilling
 
@@ -100,12 +107,14 @@ returns-then-branch-clause-order g c = λ is.
     let class = c.args.class.number in
     elim c.then-branch.branch as (λ _. RefillsFrom class p (parts_of c.then-branch.self)) [
       | then-branch-via-then-branch w ↦ subst (λ (x : Arena _). RefillsFrom class p (parts_of x)) (sym w.self-is)
-          (let takes = subst (λ some. OrdersPartial class some p a) w.if-branch.true c.in_ok-take_partial.ensures.order in from_class_list takes.0 takes.1)
+          (let takes = subst (λ some. OrdersPartial class some p a) w.if-branch.true c.in_ok-take_partial.ensures.order in
+          from_class_list takes.0 takes.1)
       | then-branch-via-else-branch+in_ok-cut_free+then-branch-2 w ↦ subst (λ (x : Arena _). RefillsFrom class p (parts_of x)) (sym w.self-is)
           (let found = subst (λ some. OrdersPartial class some p a) w.if-branch.false c.in_ok-take_partial.ensures.order in
           let cuts = subst (λ some. OrdersFree class some a (parts_of w.cut_free.new.self)) w.if-branch-2.true w.in_ok-cut_free.ensures.order in
           let part = subst (λ some. FindsPartial class some p a) w.if-branch.false c.in_ok-take_partial.ensures.ok in
-          refills_from_free class p a (parts_of w.cut_free.new.self) found.0 found.1 c.in_ok-take_partial.ensures.taken c.requires.running part.1.0 cuts.0 cuts.1
+          refills_from_free class p a (parts_of w.cut_free.new.self) found.0 found.1 c.in_ok-take_partial.ensures.taken c.requires.running
+          part.1.0 cuts.0 cuts.1
           w.in_ok-cut_free.ensures.taken)
     ]
 
@@ -115,7 +124,8 @@ returns-clause-order g c =
     let a = parts_of c.take_partial.new.self in
     let b = parts_of c.cut_free.new.self in
     IfOk-weaker c.cut_fresh.result _ _
-    (refills_from_fresh c.args.class.number p a b c.args.class.is c.take_partial.ensures.leaves_held c.in_ok-take_partial.ensures.taken c.cut_free.ensures.leaves_held
+    (refills_from_fresh c.args.class.number p a b c.args.class.is c.take_partial.ensures.leaves_held c.in_ok-take_partial.ensures.taken
+    c.cut_free.ensures.leaves_held
     (parts_of c.cut_fresh.new.self) c.in_ok-cut_free.ensures.taken c.cut_fresh.ensures.leaves_held
     (subst (λ some. FindsPartial c.args.class.number some p a) c.if-branch.false c.in_ok-take_partial.ensures.ok)
     (subst (λ some. FindsFree c.args.class.number some a b) c.if-branch-2.false c.in_ok-cut_free.ensures.ok)
@@ -128,8 +138,10 @@ returns-then-branch-clause-ok g c =
     let a = parts_of c.take_partial.new.self in
     elim c.then-branch.branch as (λ _. Refills c.args.class.number true p (parts_of c.then-branch.self)) [
       | then-branch-via-then-branch w ↦ subst (λ (m : Arena _). Refills c.args.class.number true p (parts_of m)) (sym w.self-is)
-          (partial_refills c.args.class.number p a (subst (λ some. FindsPartial c.args.class.number some p a) w.if-branch.true c.in_ok-take_partial.ensures.ok))
-      | then-branch-via-else-branch+in_ok-cut_free+then-branch-2 w ↦ subst (λ (m : Arena _). Refills c.args.class.number true p (parts_of m)) (sym w.self-is)
+          (partial_refills c.args.class.number p a (subst (λ some. FindsPartial c.args.class.number some p a)
+          w.if-branch.true c.in_ok-take_partial.ensures.ok))
+      | then-branch-via-else-branch+in_ok-cut_free+then-branch-2 w ↦ subst (λ (m : Arena _). Refills c.args.class.number true p (parts_of m))
+          (sym w.self-is)
           (free_refills c.args.class.number p a (parts_of w.cut_free.new.self)
           (subst (λ some. FindsPartial c.args.class.number some p a) w.if-branch.false c.in_ok-take_partial.ensures.ok)
           (subst (λ some. FindsFree c.args.class.number some a (parts_of w.cut_free.new.self)) w.if-branch-2.true w.in_ok-cut_free.ensures.ok))

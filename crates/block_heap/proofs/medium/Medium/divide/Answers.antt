@@ -19,13 +19,16 @@ returns-in_err-chain-clause-others g c =
     (stores_more (IsInSuperblock c.args.geometry.capacity c.args.d) to u t (λ word h. inl h) c.chain.ensures.others)
 
 -- the info is that of the class
-persisted : (g : Over) (c : goal.After-store g) → IsPersisted c.info.result c.args.class.number (medium_view c.args.self.now) (medium_view c.persist.new.self)
-persisted g c = subst (λ word. IsPersisted c.info.result word (medium_view c.args.self.now) (medium_view c.persist.new.self)) c.pack.ensures c.in_ok-persist.ensures.ok
+persisted : (g : Over) (c : goal.After-store g) → IsPersisted c.info.result c.args.class.number (medium_view c.args.self.now)
+    (medium_view c.persist.new.self)
+persisted g c = subst (λ word. IsPersisted c.info.result word (medium_view c.args.self.now) (medium_view c.persist.new.self))
+    c.pack.ensures c.in_ok-persist.ensures.ok
 
 pub returns-clause-ok : goal.returns-clause-ok
 returns-clause-ok g c =
     on_ok_weaker c.store.result
-    (divided c.args.geometry.capacity c.args.class.number c.args.d (medium_view c.args.self.now) (medium_view c.persist.new.self) (medium_view c.chain.new.self) (medium_view c.store.new.self)
+    (divided c.args.geometry.capacity c.args.class.number c.args.d (medium_view c.args.self.now) (medium_view c.persist.new.self)
+    (medium_view c.chain.new.self) (medium_view c.store.new.self)
     c.info.result c.anchor.result c.pack-2.result c.args.class.is c.requires.superblock c.requires.open c.info.ensures c.anchor.ensures c.pack-2.ensures
     (persisted g c) c.persist.ensures.others c.in_ok-chain.ensures.ok c.store.ensures.others)
     c.store.ensures.ok
@@ -33,7 +36,8 @@ returns-clause-ok g c =
 pub returns-clause-stopped : goal.returns-clause-stopped
 returns-clause-stopped g c =
     IfErr-weaker c.store.result _ _
-    (λ e. divide_stops_within c.args.geometry.capacity c.args.class.number c.args.d (medium_view c.args.self.now) (medium_view c.persist.new.self) (medium_view c.chain.new.self) (medium_view c.store.new.self)
+    (λ e. divide_stops_within c.args.geometry.capacity c.args.class.number c.args.d (medium_view c.args.self.now)
+    (medium_view c.persist.new.self) (medium_view c.chain.new.self) (medium_view c.store.new.self)
     c.info.result c.anchor.result c.pack-2.result c.args.class.is c.requires.superblock c.requires.open c.info.ensures c.anchor.ensures c.pack-2.ensures
     (persisted g c) c.persist.ensures.others c.in_ok-chain.ensures.ok c.store.ensures.others e.step)
     c.store.ensures.stopped

@@ -15,11 +15,13 @@ returns-clause-others g c =
 
 pub returns-in_err-write_back-clause-crash : goal.returns-in_err-write_back-clause-crash
 returns-in_err-write_back-clause-crash g c =
-    may_then c.args.word c.args.value (medium_view c.args.self.now) (medium_view c.store.new.self) (medium_view c.write_back.new.self) c.store.ensures.crash c.write_back.ensures.unchanged
+    may_then c.args.word c.args.value (medium_view c.args.self.now) (medium_view c.store.new.self)
+    (medium_view c.write_back.new.self) c.store.ensures.crash c.write_back.ensures.unchanged
 
 pub returns-clause-crash : goal.returns-clause-crash
 returns-clause-crash g c =
     let v = medium_view c.args.self.now in
     let u = medium_view c.store.new.self in
     let t = medium_view c.write_back.new.self in
-    may_then c.args.word c.args.value v t (medium_view c.fence.new.self) (may_then c.args.word c.args.value v u t c.store.ensures.crash c.write_back.ensures.unchanged) c.fence.ensures.unchanged
+    may_then c.args.word c.args.value v t (medium_view c.fence.new.self)
+    (may_then c.args.word c.args.value v u t c.store.ensures.crash c.write_back.ensures.unchanged) c.fence.ensures.unchanged

@@ -7,7 +7,8 @@ pub returns-clause-others : goal.returns-clause-others
 returns-clause-others g c = (store_is _ c.args.word c.args.value (view_of c.args.self.now.memory) (view_of c.store.new.self) c.in_ok-store.ensures.ok).1
 
 pub returns-clause-crash : goal.returns-clause-crash
-returns-clause-crash g c = store_may_store _ c.args.word c.args.value (view_of c.args.self.now.memory) (view_of c.store.new.self) c.requires.within c.in_ok-store.ensures.ok
+returns-clause-crash g c = store_may_store _ c.args.word c.args.value (view_of c.args.self.now.memory)
+    (view_of c.store.new.self) c.requires.within c.in_ok-store.ensures.ok
 
 pub returns-in_err-store-clause-crash : goal.returns-in_err-store-clause-crash
 returns-in_err-store-clause-crash g c =

@@ -25,7 +25,8 @@ overflow_mul-most g c =
     omega arith
 
 pub invariant_of-asked-clause-served : goal.invariant_of-asked-clause-served
-invariant_of-asked-clause-served g c = λ class one. size_served c.args.class c.size_of.result c.new.result class c.requires c.size_of.ensures c.new.ensures one
+invariant_of-asked-clause-served g c = λ class one. size_served c.args.class c.size_of.result c.new.result class c.requires c.size_of.ensures
+    c.new.ensures one
 
 pub overflow_mul-b : goal.overflow_mul-b
 overflow_mul-b g c =
@@ -43,9 +44,11 @@ loop-offsets-init g c = (
 
 pub loop-offsets-preserved : goal.loop-offsets-preserved
 loop-offsets-preserved g c = (
-  draining_more c.args.class c.size_of.result _ c.args.self.now c.loop-offsets.self c.request.new.self c.loop-offsets.offsets.items c.push.new.self.items
+  draining_more c.args.class c.size_of.result _ c.args.self.now c.loop-offsets.self c.request.new.self c.loop-offsets.offsets.items
+      c.push.new.self.items
       c.in_ok-b.field-0 c.in-Some.b c.in-Ok.ensures.items c.loop-offsets.invariant.0 c.in-Some.is c.in_ok-b.ensures.ok
-      (c.in_ok-b.ensures.drains c.args.class c.requires c.size_of.ensures) c.requires c.size_of.ensures c.in_ok-b.ensures.runs c.request.ensures.counted,
+      (c.in_ok-b.ensures.drains c.args.class c.requires c.size_of.ensures)
+      c.requires c.size_of.ensures c.in_ok-b.ensures.runs c.request.ensures.counted,
   keeps_row_law c.args.self.now c.loop-offsets.self c.request.new.self c.loop-offsets.invariant.1 c.request.ensures.kept,
   kept_pushed c.args.class c.size_of.result c.args.self.now c.loop-offsets.self c.request.new.self c.loop-offsets.offsets.items c.push.new.self.items
       c.in_ok-b.field-0 c.in-Some.b c.in-Ok.ensures.items c.loop-offsets.invariant.2 c.in-Some.is c.in_ok-b.ensures.ok c.request.ensures.words
@@ -56,25 +59,30 @@ loop-offsets-preserved g c = (
 pub returns-clause-ok : goal.returns-clause-ok
 returns-clause-ok g c = λ drainable.
     drains_last c.args.class c.args.self.now c.loop-offsets.self c.loop-offsets.offsets.items (c.loop-offsets.invariant.0.0 drainable)
-    (subst (λ a. DrainsAs c.args.class a c.loop-offsets.self.parts c.request.new.self.parts) c.in_default.is (c.in_ok-b.ensures.drains c.args.class c.requires c.size_of.ensures)).0
+    (subst (λ a. DrainsAs c.args.class a c.loop-offsets.self.parts c.request.new.self.parts) c.in_default.is
+    (c.in_ok-b.ensures.drains c.args.class c.requires c.size_of.ensures)).0
 
 pub returns-in_err-b-clause-few : goal.returns-in_err-b-clause-few
 returns-in_err-b-clause-few g c =
-    drawn_few c.args.class c.args.self.now c.loop-offsets.self c.request.new.self c.loop-offsets.offsets.items c.loop-offsets.invariant.0.1 c.request.ensures.draws
+    drawn_few c.args.class c.args.self.now c.loop-offsets.self c.request.new.self c.loop-offsets.offsets.items c.loop-offsets.invariant.0.1
+    c.request.ensures.draws
 
 pub returns-in-Err-clause-few : goal.returns-in-Err-clause-few
 returns-in-Err-clause-few g c =
-    drawn_few c.args.class c.args.self.now c.loop-offsets.self c.request.new.self c.loop-offsets.offsets.items c.loop-offsets.invariant.0.1 c.request.ensures.draws
+    drawn_few c.args.class c.args.self.now c.loop-offsets.self c.request.new.self c.loop-offsets.offsets.items c.loop-offsets.invariant.0.1
+    c.request.ensures.draws
 
 pub returns-clause-few : goal.returns-clause-few
 returns-clause-few g c =
-    drawn_few c.args.class c.args.self.now c.loop-offsets.self c.request.new.self c.loop-offsets.offsets.items c.loop-offsets.invariant.0.1 c.request.ensures.draws
+    drawn_few c.args.class c.args.self.now c.loop-offsets.self c.request.new.self c.loop-offsets.offsets.items c.loop-offsets.invariant.0.1
+    c.request.ensures.draws
 
 pub returns-in_err-b-clause-above : goal.returns-in_err-b-clause-above
 returns-in_err-b-clause-above g c =
     let told = err_from_is_err_and c.from_residual-in_err-b.result c.from_residual-in_err-b.ensures.1 in
     rw (told.1, told.2)
-    (λ e one running. drawn_stops_within c.args.class _ c.in_err-b.field-0.0 e c.args.self.now c.loop-offsets.self c.request.new.self c.loop-offsets.offsets.items
+    (λ e one running. drawn_stops_within c.args.class _ c.in_err-b.field-0.0 e c.args.self.now c.loop-offsets.self c.request.new.self
+    c.loop-offsets.offsets.items
     c.loop-offsets.invariant.0.1 c.request.ensures.draws c.request.ensures.counted c.in_err-b.ensures.stopped one running)
 
 pub returns-in_err-b-clause-stops : goal.returns-in_err-b-clause-stops
@@ -114,7 +122,8 @@ returns-clause-full g c =
 
 pub returns-in-Err-clause-memory : goal.returns-in-Err-clause-memory
 returns-in-Err-clause-memory g c = absurd (
-    let room = room_for_one c.args.class c.size_of.result _ (c.capacity.result * c.blocks_of.result) c.args.self.now c.loop-offsets.self c.request.new.self
+    let room = room_for_one c.args.class c.size_of.result _ (c.capacity.result * c.blocks_of.result)
+    c.args.self.now c.loop-offsets.self c.request.new.self
     c.loop-offsets.offsets.items c.in_ok-b.field-0 c.in-Some.b c.loop-offsets.invariant.0 c.in-Some.is c.in_ok-b.ensures.ok
     (c.in_ok-b.ensures.drains c.args.class c.requires c.size_of.ensures) c.requires c.size_of.ensures c.in_ok-b.ensures.runs c.request.ensures.counted
     (ap (λ n. n * c.blocks_of.result) (c.capacity.ensures ∙ ap (λ (s : SeqState). s.parts.capacity) c.self.view_is)

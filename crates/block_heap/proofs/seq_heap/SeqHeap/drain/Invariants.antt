@@ -6,7 +6,8 @@ use Rattle.block_heap.proofs.DrawnLemmas.{Draining}
 use Rattle.block_heap.proofs.seq_heap.SeqHeap.drain.Given as goal
 
 abbrev pub invariant-loop-offsets : goal.invariant-loop-offsets
-invariant-loop-offsets g l = Draining l.class l.fn.self l.self l.offsets.items × KeepsFixed l.fn.self l.self × HasKept l.class l.fn.self l.self l.offsets.items
+invariant-loop-offsets g l = Draining l.class l.fn.self l.self l.offsets.items × KeepsFixed l.fn.self l.self
+    × HasKept l.class l.fn.self l.self l.offsets.items
     × (l.most ≤ vec_capacity l.offsets)
 
 abbrev pub decreases-loop-offsets : goal.decreases-loop-offsets

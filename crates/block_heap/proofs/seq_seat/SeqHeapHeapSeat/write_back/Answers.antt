@@ -17,31 +17,42 @@ word-requires g c = own_short _ c.args.s c.self.invariant (subst (λ (s : SeqSta
 pub write_back-answer-requires-clause-within : goal.write_back-answer-requires-clause-within
 write_back-answer-requires-clause-within g c =
     subst (λ word. word < word_count (medium_view c.self.inside.arena.medium)) (sym c.word.ensures)
-    (own_within _ c.args.s c.self.invariant (ap (λ (s : SeqState). s.stopped) c.self.view_is ∙ c.in_ok-check_running.ensures.ok) (subst (λ (s : SeqState). IsOwnSpot (seat_of s) c.args.s) (sym c.self.view_is) c.requires))
+    (own_within _ c.args.s c.self.invariant (ap (λ (s : SeqState). s.stopped) c.self.view_is ∙ c.in_ok-check_running.ensures.ok)
+    (subst (λ (s : SeqState). IsOwnSpot (seat_of s) c.args.s) (sym c.self.view_is) c.requires))
 
 pub invariant_of-self-inside : goal.invariant_of-self-inside
 invariant_of-self-inside g c = (
-  ∣ small_lasts (parts_of c.self.inside.arena) (medium_view c.write_back-answer.new.self) (λ _. ⊥) c.self.inside.stopped c.stop_of-self-inside.result c.self.invariant.lasts c.write_back-answer.ensures.unchanged (λ word t. absurd t)
-      (stop_above c.write_back-answer.result c.stop_of-self-inside.result 1 (medium_view c.self.inside.arena.medium) (medium_view c.write_back-answer.new.self) c.stop_of-self-inside.ensures.ok c.stop_of-self-inside.ensures.stopped c.write_back-answer.ensures.stopped) ∣₁,
+  ∣ small_lasts (parts_of c.self.inside.arena) (medium_view c.write_back-answer.new.self)
+      (λ _. ⊥) c.self.inside.stopped c.stop_of-self-inside.result c.self.invariant.lasts c.write_back-answer.ensures.unchanged (λ word t. absurd t)
+      (stop_above c.write_back-answer.result c.stop_of-self-inside.result 1 (medium_view c.self.inside.arena.medium)
+      (medium_view c.write_back-answer.new.self) c.stop_of-self-inside.ensures.ok c.stop_of-self-inside.ensures.stopped
+      c.write_back-answer.ensures.stopped) ∣₁,
   tt,
 )
 
 pub invariant_of-self : goal.invariant_of-self
 invariant_of-self g c =
-    quiet_heap c.write_back-answer.result _ (medium_view c.write_back-answer.new.self) c.stop_of-self-inside.result _ c.self.invariant (ap (λ (s : SeqState). s.stopped) c.self.view_is ∙ c.in_ok-check_running.ensures.ok)
-    (on_ok_weaker c.write_back-answer.result (λ f. f.runs_within) c.write_back-answer.ensures.ok) (on_ok_weaker c.write_back-answer.result (λ f. f.volatile) c.write_back-answer.ensures.ok)
+    quiet_heap c.write_back-answer.result _ (medium_view c.write_back-answer.new.self) c.stop_of-self-inside.result _ c.self.invariant
+    (ap (λ (s : SeqState). s.stopped) c.self.view_is ∙ c.in_ok-check_running.ensures.ok)
+    (on_ok_weaker c.write_back-answer.result (λ f. f.runs_within) c.write_back-answer.ensures.ok)
+    (on_ok_weaker c.write_back-answer.result (λ f. f.volatile) c.write_back-answer.ensures.ok)
     c.write_back-answer.ensures.stopped c.write_back-answer.ensures.unchanged c.stop_of-self-inside.ensures.ok c.stop_of-self-inside.ensures.stopped
 
 pub returns-clause-ok : goal.returns-clause-ok
 returns-clause-ok g c =
-    write_back_ok c.write_back-answer.result _ c.args.self.now (medium_view c.write_back-answer.new.self) c.stop_of-self-inside.result c.args.s c.self.invariant c.self.view_is c.in_ok-check_running.ensures.ok c.requires
-    c.stop_of-self-inside.ensures.ok (subst (λ word. OnOk c.write_back-answer.result (IsWritten word (medium_view c.self.inside.arena.medium) (medium_view c.write_back-answer.new.self))) c.word.ensures c.write_back-answer.ensures.ok)
+    write_back_ok c.write_back-answer.result _ c.args.self.now (medium_view c.write_back-answer.new.self)
+    c.stop_of-self-inside.result c.args.s c.self.invariant c.self.view_is c.in_ok-check_running.ensures.ok c.requires
+    c.stop_of-self-inside.ensures.ok (subst (λ word. OnOk c.write_back-answer.result
+    (IsWritten word (medium_view c.self.inside.arena.medium) (medium_view c.write_back-answer.new.self)))
+    c.word.ensures c.write_back-answer.ensures.ok)
 
 pub returns-clause-kept : goal.returns-clause-kept
 returns-clause-kept g c =
     fixed_by (λ _. ⊥) _ c.args.self.now _ c.self.view_is refl c.write_back-answer.ensures.unchanged (λ word t. absurd t) refl
-    (let few = few_drawn c.write_back-answer.result 1 _ _ (on_ok_weaker c.write_back-answer.result (λ f. f.runs_within) c.write_back-answer.ensures.ok) c.write_back-answer.ensures.stopped in omega arith)
+    (let few = few_drawn c.write_back-answer.result 1 _ _ (on_ok_weaker c.write_back-answer.result
+    (λ f. f.runs_within) c.write_back-answer.ensures.ok) c.write_back-answer.ensures.stopped in omega arith)
 
 pub returns-clause-counted : goal.returns-clause-counted
 returns-clause-counted g c =
-    small_counted _ c.args.self.now _ c.stop_of-self-inside.result (λ _. ⊥) c.self.view_is c.in_ok-check_running.ensures.ok c.write_back-answer.ensures.unchanged (returns-clause-kept g c)
+    small_counted _ c.args.self.now _ c.stop_of-self-inside.result
+    (λ _. ⊥) c.self.view_is c.in_ok-check_running.ensures.ok c.write_back-answer.ensures.unchanged (returns-clause-kept g c)

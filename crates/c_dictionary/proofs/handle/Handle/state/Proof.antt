@@ -42,10 +42,12 @@ state_spec 𝓤 𝓛 𝓜 𝓡 wired =
     let hs : Stays ended.signature.params ended.kept = (stay_ref (0 ∷ []) tt (plain (λ _. Hd)), tt) in
     proved_at 𝓛 ended hs c 𝓜 𝓡 (Goes-ref 𝓛 1 0 tt (plain (λ _. Hd)), tt) #self fn (code.unfolded 𝓤 H 𝓜 𝓡 wired) (λ z are.
     let κs = z.0.0 in let qs = z.0.1 in let v = z.0.3.0 in let h = v.now in let rb = v.ref_ptr.0 in let ro = v.ref_ptr.1 in
-    let Post : Val → SProp 𝓤 = (walk_of 𝓛 ended hs c).post z in let Run : List Val → SProp 𝓤 = λ ws. WpFn 𝓤 H 𝓣.C 𝓣.Λ fn ws Post in let r : Val = vptr rb ro in
+    let Post : Val → SProp 𝓤 = (walk_of 𝓛 ended hs c).post z in let Run : List Val → SProp 𝓤 = λ ws. WpFn 𝓤 H 𝓣.C 𝓣.Λ fn ws Post in
+    let r : Val = vptr rb ro in
     qed 𝓛 (((‵ (flft κs.0 qs.0) ⊛ ‵ ftrue) ⊛ ‵ (owns (types_at ended.signature.params κs) z.0.3 z.0.4)) ∷ ‵ ftrue ∷ []) ∵
     split ! $ split ! $ move ! (2 ∷ []) $ fsplit ! $ keep ! (0 ∷ 2 ∷ []) $
-    suffices ! (Run (r ∷ [])) (subst (λ (xs : List Val). ent 𝓤 (Run (r ∷ [])) (Run (xs ++ []))) (sym (mut_Tells (named 0) κs.0 Hd v z.0.4.0 are.0)) (id⊢ 𝓤 (Run (r ∷ [])))) $
+    suffices ! (Run (r ∷ [])) (subst (λ (xs : List Val). ent 𝓤 (Run (r ∷ [])) (Run (xs ++ [])))
+    (sym (mut_Tells (named 0) κs.0 Hd v z.0.4.0 are.0)) (id⊢ 𝓤 (Run (r ∷ [])))) $
     fsplit3 ! $ move ! (1 ∷ 2 ∷ 3 ∷ []) $
     enter ! 𝓣.C 𝓣.Λ fn (r ∷ []) Post $ alloc_all ! (λ l. pass_all ! refl ((tt, tt), tt) $
     opens ! tt Hd rb ro (λ ws. move ! (1 ∷ []) $ peeks ! Hd _ (shows 𝓛 Hd) h ws (λ is. fsplit ! $ move ! (1 ∷ []) $
@@ -60,5 +62,6 @@ state_spec 𝓤 𝓛 𝓜 𝓡 wired =
     returns ! (look_at ! 0 refl) $ free_all ! refl $
     move ! (3 ∷ 0 ∷ 1 ∷ []) $ fjoin3 ! $ nothing ! $ move ! (1 ∷ 0 ∷ []) $ fjoin ! $ nothing ! $ move ! (2 ∷ 0 ∷ []) $ join ! $
     Steps.owned ! u64 (Is u64) (uint_Makes 𝓛 w64) h.state (vint w64 h.state ∷ []) (refl, fits) $
-    use0 𝓛 (raw (fact 𝓤 (Told 𝓛 h.state h.value × (h.value ≡ h.value)))) (fact_i 𝓤 (Told 𝓛 h.state h.value × (h.value ≡ h.value)) (emp 𝓤) (says_some, refl)) $ keep ! (2 ∷ 3 ∷ 1 ∷ 0 ∷ []) $
+    use0 𝓛 (raw (fact 𝓤 (Told 𝓛 h.state h.value × (h.value ≡ h.value))))
+    (fact_i 𝓤 (Told 𝓛 h.state h.value × (h.value ≡ h.value)) (emp 𝓤) (says_some, refl)) $ keep ! (2 ∷ 3 ∷ 1 ∷ 0 ∷ []) $
     by ! (leaves 𝓛 ended hs c z (vint w64 h.state) h.state (h, tt) (tt, tt)))))))

@@ -21,7 +21,8 @@ returns-in_err-place-clause-crash g c =
     let u = view c.search.new.seat in
     let seat = g.met.H.HeapSeat.seat c.search.new.seat in
     let kinds = quiet.calls.goes_on.kinds in
-    λ value node. quiet_left v u (g.met.H.HeapSeat.seat c.args.seat.now) seat c.args.key c.args.node c.requires.shard c.requires.loose (let fits = c.requires.node.1.fits in omega arith)
+    λ value node. quiet_left v u (g.met.H.HeapSeat.seat c.args.seat.now) seat c.args.key c.args.node c.requires.shard c.requires.loose
+    (let fits = c.requires.node.1.fits in omega arith)
     quiet.unchanged kinds (λ map. with_key map c.args.key value)
 
 pub bring_over-requires-clause-shard : goal.bring_over-requires-clause-shard
@@ -95,7 +96,8 @@ bring_first-requires-clause-missing g c =
     let searches = subst (λ (e : SearchEnd). Searches c.args.key e v u) c.in-Missing.is c.in_ok-place.ensures.ok in
     record {
       come = searches.ends.0;
-      none = λ map gives. same_map u seat (shard_of c.args.key) map c.requires.shard.map gives (gives_grown v u (grown_keeps v u quiet.unchanged) (shard_of c.args.key) c.requires.shard.map c.requires.shard.gives) c.args.key
+      none = λ map gives. same_map u seat (shard_of c.args.key) map c.requires.shard.map gives
+          (gives_grown v u (grown_keeps v u quiet.unchanged) (shard_of c.args.key) c.requires.shard.map c.requires.shard.gives) c.args.key
           ∙ searches.ends.1 c.requires.shard.map c.requires.shard.gives;
     }
 
@@ -108,7 +110,8 @@ returns-in-Found-clause-ok g c =
     let seat = g.met.H.HeapSeat.seat c.search.new.seat in
     let kinds = quiet.calls.goes_on.kinds in
     on_ok_weaker c.bring_over.result
-    (λ done value node. changes_after (shard_of c.args.key) (λ map. with_key map c.args.key value) v u (view c.bring_over.new.seat) (grown_keeps v u quiet.unchanged)
+    (λ done value node. changes_after (shard_of c.args.key) (λ map. with_key map c.args.key value) v u (view c.bring_over.new.seat)
+    (grown_keeps v u quiet.unchanged)
     (done value (node_still v u c.args.node seat quiet.unchanged kinds value c.requires.loose.held node))) c.bring_over.ensures.ok
 
 pub returns-in-Found-clause-exact : goal.returns-in-Found-clause-exact
@@ -120,7 +123,8 @@ returns-in-Found-clause-exact g c =
     let seat = g.met.H.HeapSeat.seat c.search.new.seat in
     let kinds = quiet.calls.goes_on.kinds in
     on_ok_weaker c.bring_over.result
-    (λ exact all. exact c.requires.node.0 (node_still v u c.args.node seat quiet.unchanged kinds c.requires.node.0 c.requires.loose.held c.requires.node.1)
+    (λ exact all. exact c.requires.node.0 (node_still v u c.args.node seat quiet.unchanged kinds c.requires.node.0 c.requires.loose.held
+    c.requires.node.1)
     (all_but_still v u c.args.node seat quiet.unchanged kinds all)) c.bring_over.ensures.exact
 
 pub returns-in-Found-clause-crash : goal.returns-in-Found-clause-crash
@@ -131,7 +135,8 @@ returns-in-Found-clause-crash g c =
     let u = view c.search.new.seat in
     let seat = g.met.H.HeapSeat.seat c.search.new.seat in
     let kinds = quiet.calls.goes_on.kinds in
-    λ value node. bring_after v u c.args.node seat quiet.unchanged kinds (shard_of c.args.key) (λ map. with_key map c.args.key value) (view c.bring_over.new.seat) c.requires.shard.only c.requires.loose.held
+    λ value node. bring_after v u c.args.node seat quiet.unchanged kinds (shard_of c.args.key) (λ map. with_key map c.args.key value)
+    (view c.bring_over.new.seat) c.requires.shard.only c.requires.loose.held
     (c.bring_over.ensures.crash value (node_still v u c.args.node seat quiet.unchanged kinds value c.requires.loose.held node))
 
 pub returns-in-Missing-clause-ok : goal.returns-in-Missing-clause-ok
@@ -143,7 +148,8 @@ returns-in-Missing-clause-ok g c =
     let seat = g.met.H.HeapSeat.seat c.search.new.seat in
     let kinds = quiet.calls.goes_on.kinds in
     on_ok_weaker c.bring_first.result
-    (λ done value node. changes_after (shard_of c.args.key) (λ map. with_key map c.args.key value) v u (view c.bring_first.new.seat) (grown_keeps v u quiet.unchanged)
+    (λ done value node. changes_after (shard_of c.args.key) (λ map. with_key map c.args.key value) v u (view c.bring_first.new.seat)
+    (grown_keeps v u quiet.unchanged)
     (done value (node_still v u c.args.node seat quiet.unchanged kinds value c.requires.loose.held node))) c.bring_first.ensures.ok
 
 pub returns-in-Missing-clause-exact : goal.returns-in-Missing-clause-exact
@@ -155,7 +161,8 @@ returns-in-Missing-clause-exact g c =
     let seat = g.met.H.HeapSeat.seat c.search.new.seat in
     let kinds = quiet.calls.goes_on.kinds in
     on_ok_weaker c.bring_first.result
-    (λ exact all. exact c.requires.node.0 (node_still v u c.args.node seat quiet.unchanged kinds c.requires.node.0 c.requires.loose.held c.requires.node.1)
+    (λ exact all. exact c.requires.node.0 (node_still v u c.args.node seat quiet.unchanged kinds c.requires.node.0 c.requires.loose.held
+    c.requires.node.1)
     (all_but_still v u c.args.node seat quiet.unchanged kinds all)) c.bring_first.ensures.exact
 
 pub returns-in-Missing-clause-crash : goal.returns-in-Missing-clause-crash
@@ -166,13 +173,15 @@ returns-in-Missing-clause-crash g c =
     let u = view c.search.new.seat in
     let seat = g.met.H.HeapSeat.seat c.search.new.seat in
     let kinds = quiet.calls.goes_on.kinds in
-    λ value node. bring_after v u c.args.node seat quiet.unchanged kinds (shard_of c.args.key) (λ map. with_key map c.args.key value) (view c.bring_first.new.seat) c.requires.shard.only c.requires.loose.held
+    λ value node. bring_after v u c.args.node seat quiet.unchanged kinds (shard_of c.args.key) (λ map. with_key map c.args.key value)
+    (view c.bring_first.new.seat) c.requires.shard.only c.requires.loose.held
     (c.bring_first.ensures.crash value (node_still v u c.args.node seat quiet.unchanged kinds value c.requires.loose.held node))
 
 pub returns-in-Found-clause-calls : goal.returns-in-Found-clause-calls
 returns-in-Found-clause-calls g c =
     let view = g.H.HeapSeat.view in
-    moves_few 11 1 (shard_of c.args.key) (view c.args.seat.now) (view c.search.new.seat) (view c.bring_over.new.seat) (omega arith) c.search.ensures.quiet c.bring_over.ensures.calls
+    moves_few 11 1 (shard_of c.args.key) (view c.args.seat.now) (view c.search.new.seat) (view c.bring_over.new.seat)
+    (omega arith) c.search.ensures.quiet c.bring_over.ensures.calls
 
 pub returns-in-Missing-clause-calls : goal.returns-in-Missing-clause-calls
 returns-in-Missing-clause-calls g c =
@@ -190,4 +199,5 @@ unreachable-requires g c =
     let v = view c.args.seat.now in
     let u = view c.search.new.seat in
     let searches = subst (λ (e : SearchEnd). Searches c.args.key e v u) c.in-NoTable.is c.in_ok-place.ensures.ok in
-    not_null_still v u c.args.node (g.met.H.HeapSeat.seat c.search.new.seat) quiet.unchanged quiet.calls.goes_on.kinds (shard_of c.args.key) c.requires.shard.owned c.requires.table searches.ends.root.seen
+    not_null_still v u c.args.node (g.met.H.HeapSeat.seat c.search.new.seat) quiet.unchanged quiet.calls.goes_on.kinds
+    (shard_of c.args.key) c.requires.shard.owned c.requires.table searches.ends.root.seen

@@ -37,7 +37,8 @@ returns-in_err-remove-in-Found-clause-crash g c =
     let keeps = c.search.ensures.quiet.quiet.unchanged in
     let kinds = c.search.ensures.quiet.quiet.calls.goes_on.kinds in
     let seat = g.met.H.HeapSeat.seat c.search.new.seat in
-    change_after (shard_of c.args.key) (λ map. without_key map c.args.key) v u (view c.remove.new.seat) (grown_keeps v u keeps) kinds seat c.requires.shard.only c.remove.ensures.crash
+    change_after (shard_of c.args.key) (λ map. without_key map c.args.key) v u (view c.remove.new.seat)
+    (grown_keeps v u keeps) kinds seat c.requires.shard.only c.remove.ensures.crash
 
 pub returns-in_ok-remove-in-Found-clause-crash : goal.returns-in_ok-remove-in-Found-clause-crash
 returns-in_ok-remove-in-Found-clause-crash g c =
@@ -47,7 +48,8 @@ returns-in_ok-remove-in-Found-clause-crash g c =
     let keeps = c.search.ensures.quiet.quiet.unchanged in
     let kinds = c.search.ensures.quiet.quiet.calls.goes_on.kinds in
     let seat = g.met.H.HeapSeat.seat c.search.new.seat in
-    change_after (shard_of c.args.key) (λ map. without_key map c.args.key) v u (view c.remove.new.seat) (grown_keeps v u keeps) kinds seat c.requires.shard.only c.remove.ensures.crash
+    change_after (shard_of c.args.key) (λ map. without_key map c.args.key) v u (view c.remove.new.seat)
+    (grown_keeps v u keeps) kinds seat c.requires.shard.only c.remove.ensures.crash
 
 pub returns-in-Missing-clause-crash : goal.returns-in-Missing-clause-crash
 returns-in-Missing-clause-crash g c =
@@ -77,7 +79,8 @@ returns-in_ok-remove-in-Found-clause-ok g c =
     let keeps = c.search.ensures.quiet.quiet.unchanged in
     let seat = g.met.H.HeapSeat.seat c.search.new.seat in
     let searches = subst (λ (e : SearchEnd). Searches c.args.key e v u) c.in-Found.is c.in_ok-place.ensures.ok in
-    deletes_node v u (view c.remove.new.seat) c.args.key c.in-Found.place seat keeps searches.goes.runs searches.ends c.in_ok-remove-in-Found.ensures.ok c.in_ok-remove-in-Found.ensures.runs
+    deletes_node v u (view c.remove.new.seat) c.args.key c.in-Found.place seat keeps searches.goes.runs searches.ends
+    c.in_ok-remove-in-Found.ensures.ok c.in_ok-remove-in-Found.ensures.runs
 
 pub returns-in-Missing-clause-ok : goal.returns-in-Missing-clause-ok
 returns-in-Missing-clause-ok g c =
@@ -132,4 +135,5 @@ returns-in_ok-remove-in-Found-clause-exact g c =
 pub returns-in_ok-remove-in-Found-clause-calls : goal.returns-in_ok-remove-in-Found-clause-calls
 returns-in_ok-remove-in-Found-clause-calls g c =
     let view = g.H.HeapSeat.view in
-    few_calls 7 1 0 0 (shard_of c.args.key) (view c.args.seat.now) (view c.search.new.seat) (view c.remove.new.seat) (omega arith) (omega arith) c.search.ensures.quiet c.remove.ensures.calls
+    few_calls 7 1 0 0 (shard_of c.args.key) (view c.args.seat.now) (view c.search.new.seat) (view c.remove.new.seat) (omega arith)
+    (omega arith) c.search.ensures.quiet c.remove.ensures.calls

@@ -16,7 +16,8 @@ returns-clause-crash g c =
     let view = g.H.HeapSeat.view in
     let v = view c.args.seat.now in
     let w = view c.find_value.new.seat in
-    change_none (shard_of c.args.key) (λ map. map) v w (grown_keeps v w c.find_value.ensures.unchanged) c.find_value.ensures.kinds (g.met.H.HeapSeat.seat c.find_value.new.seat) c.requires.shard.only
+    change_none (shard_of c.args.key) (λ map. map) v w (grown_keeps v w c.find_value.ensures.unchanged) c.find_value.ensures.kinds
+    (g.met.H.HeapSeat.seat c.find_value.new.seat) c.requires.shard.only
 
 pub returns-clause-exact : goal.returns-clause-exact
 returns-clause-exact g c =

@@ -22,7 +22,8 @@ returns-in_err-search-clause-crash g c = λ after.
     let v = view c.args.seat.now in
     let u = view c.search.new.seat in
     let quiet = c.search.ensures.quiet.quiet in
-    change_none (shard_of c.args.key) after v u (grown_keeps v u quiet.unchanged) quiet.calls.goes_on.kinds (g.met.H.HeapSeat.seat c.search.new.seat) c.requires.shard.only
+    change_none (shard_of c.args.key) after v u (grown_keeps v u quiet.unchanged) quiet.calls.goes_on.kinds
+    (g.met.H.HeapSeat.seat c.search.new.seat) c.requires.shard.only
 
 pub returns-in_err-search-clause-exact : goal.returns-in_err-search-clause-exact
 returns-in_err-search-clause-exact g c =
@@ -46,7 +47,8 @@ returns-in-Found-clause-crash g c = λ after.
     let v = view c.args.seat.now in
     let u = view c.search.new.seat in
     let quiet = c.search.ensures.quiet.quiet in
-    change_none (shard_of c.args.key) after v u (grown_keeps v u quiet.unchanged) quiet.calls.goes_on.kinds (g.met.H.HeapSeat.seat c.search.new.seat) c.requires.shard.only
+    change_none (shard_of c.args.key) after v u (grown_keeps v u quiet.unchanged) quiet.calls.goes_on.kinds
+    (g.met.H.HeapSeat.seat c.search.new.seat) c.requires.shard.only
 
 pub returns-in-Found-clause-exact : goal.returns-in-Found-clause-exact
 returns-in-Found-clause-exact g c =
@@ -70,7 +72,8 @@ returns-in-Missing-clause-crash g c = λ after.
     let v = view c.args.seat.now in
     let u = view c.search.new.seat in
     let quiet = c.search.ensures.quiet.quiet in
-    change_none (shard_of c.args.key) after v u (grown_keeps v u quiet.unchanged) quiet.calls.goes_on.kinds (g.met.H.HeapSeat.seat c.search.new.seat) c.requires.shard.only
+    change_none (shard_of c.args.key) after v u (grown_keeps v u quiet.unchanged) quiet.calls.goes_on.kinds
+    (g.met.H.HeapSeat.seat c.search.new.seat) c.requires.shard.only
 
 pub returns-in-Missing-clause-exact : goal.returns-in-Missing-clause-exact
 returns-in-Missing-clause-exact g c =
@@ -94,7 +97,8 @@ returns-in-NoTable-clause-crash g c = λ after.
     let v = view c.args.seat.now in
     let u = view c.search.new.seat in
     let quiet = c.search.ensures.quiet.quiet in
-    change_none (shard_of c.args.key) after v u (grown_keeps v u quiet.unchanged) quiet.calls.goes_on.kinds (g.met.H.HeapSeat.seat c.search.new.seat) c.requires.shard.only
+    change_none (shard_of c.args.key) after v u (grown_keeps v u quiet.unchanged) quiet.calls.goes_on.kinds
+    (g.met.H.HeapSeat.seat c.search.new.seat) c.requires.shard.only
 
 pub returns-in-NoTable-clause-exact : goal.returns-in-NoTable-clause-exact
 returns-in-NoTable-clause-exact g c =

@@ -7,5 +7,6 @@ use Rattle.dictionary.proofs.walk.Walk.table.Goals as goal
 
 pub returns-else-block-eq-BUCKETS : goal.returns-else-block-eq-BUCKETS
 returns-else-block-eq-BUCKETS c =
-    not_wanted (LeadsAlone (slice_index c.args.self.now.scan.words.now) c.args.self.now.shard) (alone_once (slice_index c.args.self.now.scan.words.now) c.args.self.now.shard)
+    not_wanted (LeadsAlone (slice_index c.args.self.now.scan.words.now) c.args.self.now.shard)
+    (alone_once (slice_index c.args.self.now.scan.words.now) c.args.self.now.shard)
     (λ b. b.words ≡ buckets) c.args.word c.in-To.block c.in-To.ensures.0 c.if-block-eq-BUCKETS.false

@@ -10,5 +10,6 @@ del-answer-requires-clause-shard g c = (c.self.invariant c.in_default.is).each _
 
 pub invariant_of-self-in_default-answer : goal.invariant_of-self-in_default-answer
 invariant_of-self-in_default-answer g c = λ running.
-    shards_on (seat_of c.self.inside.heap) (seat_of c.del-answer.new.seat) _ _ (seat_law c.self.inside.heap) (mod-lt c.args.key (omega arith)) c.del-answer.ensures.crash _ (c.self.invariant running)
+    shards_on (seat_of c.self.inside.heap) (seat_of c.del-answer.new.seat) _ _ (seat_law c.self.inside.heap)
+    (mod-lt c.args.key (omega arith)) c.del-answer.ensures.crash _ (c.self.invariant running)
     (record { gives = c.in_default-answer.ensures.ok.gives })

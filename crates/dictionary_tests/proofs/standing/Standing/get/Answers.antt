@@ -7,5 +7,6 @@ use Rattle.dictionary_tests.proofs.standing.Standing.get.Goals as goal
 
 pub invariant_of-self-in_default-answer : goal.invariant_of-self-in_default-answer
 invariant_of-self-in_default-answer g c = λ running.
-    shards_on (seat_of c.self.inside.heap) (seat_of c.get-answer.new.seat) _ _ (seat_law c.self.inside.heap) (mod-lt c.args.key (omega arith)) c.get-answer.ensures.crash _ (c.self.invariant running)
+    shards_on (seat_of c.self.inside.heap) (seat_of c.get-answer.new.seat) _ _ (seat_law c.self.inside.heap)
+    (mod-lt c.args.key (omega arith)) c.get-answer.ensures.crash _ (c.self.invariant running)
     c.get-answer.ensures.maps

@@ -22,9 +22,11 @@ put-requires-clause-shard g c = (c.self.invariant c.in_default.is).each _ (mod-l
 
 pub invariant_of-self : goal.invariant_of-self
 invariant_of-self g c = λ running.
-    shards_on (seat_of c.self.inside.heap) (seat_of c.put.new.seat) _ _ (seat_law c.self.inside.heap) (mod-lt c.args.key (omega arith)) c.put.ensures.crash _ (c.self.invariant running) c.in-Ok.ensures.ok
+    shards_on (seat_of c.self.inside.heap) (seat_of c.put.new.seat) _ _ (seat_law c.self.inside.heap)
+    (mod-lt c.args.key (omega arith)) c.put.ensures.crash _ (c.self.invariant running) c.in-Ok.ensures.ok
 
 pub invariant_of-self-in-Err-Full : goal.invariant_of-self-in-Err-Full
 invariant_of-self-in-Err-Full g c = λ running.
-    shards_on (seat_of c.self.inside.heap) (seat_of c.put.new.seat) _ _ (seat_law c.self.inside.heap) (mod-lt c.args.key (omega arith)) c.put.ensures.crash (λ map. map) (c.self.invariant running)
+    shards_on (seat_of c.self.inside.heap) (seat_of c.put.new.seat) _ _ (seat_law c.self.inside.heap)
+    (mod-lt c.args.key (omega arith)) c.put.ensures.crash (λ map. map) (c.self.invariant running)
     (record { gives = full_gives _ _ c.in-Err-Full.field-0 c.in-Err-Full.looks _ _ c.in-Err-Full.field-0-is c.in-Err-Full.ensures.cause })

@@ -33,9 +33,12 @@ returns-in-Some c l is =
           },
       λ reached.
           let one : reached.block ≡ block = same_index l c.args.superblock c.args.index reached.block block reached.indexed indexed in
-          let here : Contains c.args.self.now.pairs (block, reached.kind) = subst (λ b. Contains c.args.self.now.pairs (b, reached.kind)) one reached.pair in
-          let pair : Contains found.pairs.items (block, reached.kind) = subst (λ (m : Traced). Contains m.pairs (block, reached.kind)) (sym c.self.view_is) here in
-          c.holds_at.ensures.each reached.kind (c.self.invariant.marked.blocks block reached.kind pair).1 (c.self.invariant.marked.marked block reached.kind pair),
+          let here : Contains c.args.self.now.pairs (block, reached.kind) =
+          subst (λ b. Contains c.args.self.now.pairs (b, reached.kind)) one reached.pair in
+          let pair : Contains found.pairs.items (block, reached.kind) =
+          subst (λ (m : Traced). Contains m.pairs (block, reached.kind)) (sym c.self.view_is) here in
+          c.holds_at.ensures.each reached.kind (c.self.invariant.marked.blocks block reached.kind pair).1
+          (c.self.invariant.marked.marked block reached.kind pair),
     )
 
 pub returns-in-None : goal.returns-in-None

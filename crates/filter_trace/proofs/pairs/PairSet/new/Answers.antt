@@ -9,7 +9,8 @@ as_many marks n are = ap (λ (l : List Bool). length l) are ∙ length-replicate
 pub returns-clause-room : goal.returns-clause-room
 returns-clause-room c =
     let long = as_many c.in_ok-new.field-0 (c.args.words * c.args.kinds) c.in_ok-new.ensures in
-    let few : c.args.words * c.args.kinds < 2147483648 * 4294967296 = mul-lt c.args.words c.args.kinds 2147483648 4294967296 (omega arith) (omega arith) in
+    let few : c.args.words * c.args.kinds < 2147483648 * 4294967296 =
+    mul-lt c.args.words c.args.kinds 2147483648 4294967296 (omega arith) (omega arith) in
     record { long = omega arith; short = omega arith }
 
 pub returns-clause-clear : goal.returns-clause-clear

@@ -13,7 +13,8 @@ pub returns-clause-carrier : goal.returns-clause-carrier
 returns-clause-carrier c = subst (λ (x : CarrierView). IsCarrier x.view) c.self.view_is c.self.invariant.carrier
 
 pub returns-clause-alone : goal.returns-clause-alone
-returns-clause-alone c = subst (λ (x : CarrierView). (h : Holding) × HoldsAlone x.view x.block h) c.self.view_is (c.self.inside.holding, c.self.invariant.alone)
+returns-clause-alone c = subst (λ (x : CarrierView). (h : Holding) × HoldsAlone x.view x.block h) c.self.view_is
+    (c.self.inside.holding, c.self.invariant.alone)
 
 pub returns-clause-held : goal.returns-clause-held
 returns-clause-held c = subst (λ (x : CarrierView). IsHeld x.view x.block) c.self.view_is

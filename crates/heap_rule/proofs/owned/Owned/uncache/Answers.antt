@@ -6,7 +6,8 @@ use Rattle.heap_rule.proofs.owned.Owned.uncache.Goals as goal
 
 pub returns : goal.returns
 returns c =
-    let same = λ (x : Stack) (at : get_or c.args.self.now.stacks.items c.args.class x ≡ x). the_entry c.args.self.now.stacks.items c.args.class c.index_mut.result.now x c.requires (sym c.index_mut.ensures.value) at in record {
+    let same = λ (x : Stack) (at : get_or c.args.self.now.stacks.items c.args.class x ≡ x). the_entry c.args.self.now.stacks.items c.args.class
+    c.index_mut.result.now x c.requires (sym c.index_mut.ensures.value) at in record {
       others = refl;
       stacks = record {
         stack = c.pop.new.self;

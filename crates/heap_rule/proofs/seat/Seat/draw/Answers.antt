@@ -13,4 +13,5 @@ returns-clause-event g c = λ going.
     (c.draw-number.result, c.draw-number.ensures, (c.settle_early.new.self, c.settle_early.ensures.early, done.0, done.1))
 
 pub returns-clause-had_stopped : goal.returns-clause-had_stopped
-returns-clause-had_stopped g c = λ step stopped. absurd (c.in_default.not-Some step (sym c.self.invariant.seat.kept.notes_are.stopped ∙ ap (λ (s : SeatView). s.view.stopped) c.self.view_is ∙ stopped))
+returns-clause-had_stopped g c = λ step stopped. absurd (c.in_default.not-Some step (sym c.self.invariant.seat.kept.notes_are.stopped
+    ∙ ap (λ (s : SeatView). s.view.stopped) c.self.view_is ∙ stopped))

@@ -18,12 +18,35 @@ loop-word-smaller c = let gone = c.in-Some.ensures.some in
 pub loop-word-preserved : goal.loop-word-preserved
 loop-word-preserved c = let gone = c.in-Some.ensures.some in record {
   seat = c.settle_own.ensures.seat;
-  row = row_step c.args.self.now (record { table = c.self.inside.table_seat.table_id; view = view_in c.self.inside.table_seat.me.0; stores = c.self.inside.recent; marks = c.self.inside.pending }) c.settle_own.new.self c.loop-word.invariant.row.0 c.in-Some.word
-      (subst (λ (s : SeatView). IsRow c.args.self.now s c.loop-word.invariant.row.0) (sym c.self.view_is) c.loop-word.invariant.row.1) gone.0 c.settle_own.ensures.stores.stores
-      (c.settle_own.ensures.stores.marks ∙ gone.1) (settles_at c.in-Some.word _ (record { table = c.self.inside.table_seat.table_id; view = view_in c.self.inside.table_seat.me.0; stores = c.self.inside.recent; marks = c.self.inside.pending }) c.settle_own.new.self refl c.settle_own.ensures.done);
+  row = row_step c.args.self.now (record {
+    table = c.self.inside.table_seat.table_id;
+    view = view_in c.self.inside.table_seat.me.0;
+    stores = c.self.inside.recent;
+    marks = c.self.inside.pending;
+  }) c.settle_own.new.self c.loop-word.invariant.row.0 c.in-Some.word
+      (subst (λ (s : SeatView). IsRow c.args.self.now s c.loop-word.invariant.row.0) (sym c.self.view_is) c.loop-word.invariant.row.1)
+      gone.0 c.settle_own.ensures.stores.stores
+      (c.settle_own.ensures.stores.marks ∙ gone.1) (settles_at c.in-Some.word _
+      (record {
+        table = c.self.inside.table_seat.table_id;
+        view = view_in c.self.inside.table_seat.me.0;
+        stores = c.self.inside.recent;
+        marks = c.self.inside.pending;
+      }) c.settle_own.new.self refl c.settle_own.ensures.done);
 }
 
 pub returns-clause-fence : goal.returns-clause-fence
 returns-clause-fence c = let none = c.in_default.ensures.none refl in
-    subst (λ m. IsSeatFence c.args.self.now (record { table = c.self.inside.table_seat.table_id; view = view_in c.self.inside.table_seat.me.0; stores = c.self.inside.recent; marks = m })) (sym none.1)
-    (row_whole c.args.self.now (record { table = c.self.inside.table_seat.table_id; view = view_in c.self.inside.table_seat.me.0; stores = c.self.inside.recent; marks = c.self.inside.pending }) c.loop-word.invariant.row.0 (subst (λ (s : SeatView). IsRow c.args.self.now s c.loop-word.invariant.row.0) (sym c.self.view_is) c.loop-word.invariant.row.1) none.0)
+    subst (λ m. IsSeatFence c.args.self.now (record {
+      table = c.self.inside.table_seat.table_id;
+      view = view_in c.self.inside.table_seat.me.0;
+      stores = c.self.inside.recent;
+      marks = m;
+    })) (sym none.1)
+    (row_whole c.args.self.now (record {
+      table = c.self.inside.table_seat.table_id;
+      view = view_in c.self.inside.table_seat.me.0;
+      stores = c.self.inside.recent;
+      marks = c.self.inside.pending;
+    }) c.loop-word.invariant.row.0
+    (subst (λ (s : SeatView). IsRow c.args.self.now s c.loop-word.invariant.row.0) (sym c.self.view_is) c.loop-word.invariant.row.1) none.0)

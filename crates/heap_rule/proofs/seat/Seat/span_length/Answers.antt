@@ -13,6 +13,7 @@ index-requires c = let held = subst (λ (s : SeatView). 1 ≤ span_count c.args.
 
 pub returns : goal.returns
 returns c = let held = subst (λ (s : SeatView). 1 ≤ span_count c.args.d s.view.large) (sym c.self.view_is) c.requires.held in
-    span_of (view_in c.self.inside.table_seat.me.0) c.self.invariant.seat.kept.has c.self.inside.owned c.self.invariant.own c.args.d c.count.result c.index.result.now
+    span_of (view_in c.self.inside.table_seat.me.0) c.self.invariant.seat.kept.has c.self.inside.owned c.self.invariant.own c.args.d
+    c.count.result c.index.result.now
     (span_below (view_in c.self.inside.table_seat.me.0) c.self.invariant.seat.kept.has c.args.d held) c.index.ensures c.count.ensures
     ∙ ap (λ (s : SeatView). span_count c.args.d s.view.large) c.self.view_is

@@ -6,4 +6,5 @@ pub returns-then-self-len-clause-rest : goal.returns-then-self-len-clause-rest
 returns-then-self-len-clause-rest c = λ cache top. popped c.args.self.now cache top (let t = c.if-self-len.true in let l = c.len.ensures in omega arith)
 
 pub returns-else-self-len-clause-rest : goal.returns-else-self-len-clause-rest
-returns-else-self-len-clause-rest c = λ cache top. popped_none c.args.self.now cache top (let t = c.if-self-len.false in let l = c.len.ensures in omega arith)
+returns-else-self-len-clause-rest c = λ cache top. popped_none c.args.self.now cache top (let t = c.if-self-len.false in
+    let l = c.len.ensures in omega arith)

@@ -11,10 +11,12 @@ returns c =
       volatile = refl;
       durable = λ word h.
           rw whole
-          (c.complete.ensures.completed word ∙ completed_pending c.args.self.now.pending c.deref.result.now c.deref_mut.result.now word h ∙ ap (λ (x : List ℕ). get_or x word 0) c.deref.ensures.value);
+          (c.complete.ensures.completed word ∙ completed_pending c.args.self.now.pending c.deref.result.now c.deref_mut.result.now word h
+          ∙ ap (λ (x : List ℕ). get_or x word 0) c.deref.ensures.value);
       others = λ word h.
           rw whole
-          (c.complete.ensures.completed word ∙ completed_other c.args.self.now.pending c.deref.result.now c.deref_mut.result.now word h ∙ ap (λ (x : List ℕ). get_or x word 0) c.deref_mut.ensures.value);
+          (c.complete.ensures.completed word ∙ completed_other c.args.self.now.pending c.deref.result.now c.deref_mut.result.now word h
+          ∙ ap (λ (x : List ℕ). get_or x word 0) c.deref_mut.ensures.value);
       pending = marked_words-none c.complete.new.self c.complete.ensures.clear;
       recent = refl;
       tickets = record { drawn = refl; budget = refl; stopped = refl };

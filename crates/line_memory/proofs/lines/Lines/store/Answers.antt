@@ -5,11 +5,13 @@ use Rattle.line_memory.proofs.lines.Lines.store.Goals as goal
 
 pub invariant_of-self-clause-marks : goal.invariant_of-self-clause-marks
 invariant_of-self-clause-marks c =
-    lengths_stay c.args.self.now.pending c.unmark.new.self c.args.self.now.volatile.items c.args.word c.args.value c.args.self.now.marks c.unmark.ensures
+    lengths_stay c.args.self.now.pending c.unmark.new.self c.args.self.now.volatile.items c.args.word c.args.value c.args.self.now.marks
+    c.unmark.ensures
 
 pub invariant_of-self-clause-recent_within : goal.invariant_of-self-clause-recent_within
 invariant_of-self-clause-recent_within c =
-    recent_pushed c.args.self.now.recent c.push.new.self c.args.word (length c.args.self.now.volatile.items) _ c.args.self.now.recent_within c.requires c.push.ensures
+    recent_pushed c.args.self.now.recent c.push.new.self c.args.word
+    (length c.args.self.now.volatile.items) _ c.args.self.now.recent_within c.requires c.push.ensures
     (length-set c.args.self.now.volatile.items c.args.word c.args.value)
 
 pub returns : goal.returns

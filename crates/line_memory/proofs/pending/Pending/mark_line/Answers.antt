@@ -23,7 +23,8 @@ invariant_of-self c =
     let same : (k : ℕ) → k / 4096 ≢ c.args.line / 512 → get_or c.set_eight.new.self k false ≡ get_or c.self.inside.marks k false =
     λ k other. c.set_eight.ensures.others k (λ here. other (omega (arith, here))) in (
       subst (λ (gs : List Bool). CoversGroups c.set_eight.new.self gs) (sym c.set.ensures)
-          (cover_line c.self.inside.marks c.set_eight.new.self c.self.inside.groups c.args.line c.self.invariant.0 c.set_eight.ensures.len l c.set_eight.ensures.others),
+          (cover_line c.self.inside.marks c.set_eight.new.self c.self.inside.groups c.args.line c.self.invariant.0 c.set_eight.ensures.len l
+          c.set_eight.ensures.others),
       marked_first c.self.inside.marks c.self.inside.marks c.set_eight.new.self _ _ _ _ _ (c.args.line / 512) h
           refl c.set_eight.ensures.len same off inside (omega (arith, p.capacity)) p.items,
     )

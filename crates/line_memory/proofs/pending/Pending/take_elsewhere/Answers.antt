@@ -9,6 +9,7 @@ loop-page-preserved c =
     let marks = c.loop-page.self-inside.marks in
     record {
       covered = c.in_default-first_marked.ensures.covers;
-      listed = completed_last marks marks marks _ _ _ _ _ c.in-Some.page h p.items p.capacity refl refl (c.in_default-first_marked.ensures.none refl) (λ k other. refl);
+      listed = completed_last marks marks marks _ _ _ _ _ c.in-Some.page h p.items p.capacity refl refl
+          (c.in_default-first_marked.ensures.none refl) (λ k other. refl);
       marks = c.loop-page.invariant.marks;
     }

@@ -10,4 +10,5 @@ invariant_of-result g c = new_box g.J.HeapOf.table g.Q.QueuesOf.queues c.args.qu
   kept = c.args.kept.items;
   spare = vec_capacity c.args.kept - vec_len c.args.kept;
   workers = c.args.workers;
-}) c.new.ensures.0 c.new.ensures.1 c.requires.queues c.requires.workers c.requires.each c.requires.passes c.requires.parts c.requires.rightly c.requires.kept
+}) c.new.ensures.0 c.new.ensures.1 c.requires.queues c.requires.workers c.requires.each c.requires.passes c.requires.parts c.requires.rightly
+    c.requires.kept

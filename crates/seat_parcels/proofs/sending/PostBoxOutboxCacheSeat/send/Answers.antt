@@ -31,7 +31,8 @@ returns-clause-added g c = λ room.
       added = λ value is.
           let brings = brings_value carrier c.args.node value sent.block
           (c.a_node_goes_with_its_value.ensures.goes (heap_view c.args.seat.now.state) c.args.node (contents_of carrier) value sent.contents is) in
-          subst (λ (v : List ℕ). IsPermutation (record { number = c.args.number; key = c.args.key; value = v } ∷ sent_by old) (sent_by new)) (sym brings) order;
+          subst (λ (v : List ℕ). IsPermutation (record { number = c.args.number; key = c.args.key; value = v } ∷ sent_by old) (sent_by new))
+          (sym brings) order;
     }
 
 pub returns-clause-ready_on : goal.returns-clause-ready_on

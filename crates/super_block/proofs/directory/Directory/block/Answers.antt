@@ -20,7 +20,8 @@ returns-clause-some c l is =
         taken = divided.0;
         begins = divided.1;
         below = c.if-index-division.false;
-        at = ap (λ start. start + c.args.index * c.in-Some.division.words) (c.start_of.ensures ∙ ap (λ n. start_word n c.args.superblock) is_inside.capacity_is);
+        at = ap (λ start. start + c.args.index * c.in-Some.division.words) (c.start_of.ensures
+            ∙ ap (λ n. start_word n c.args.superblock) is_inside.capacity_is);
         size = refl;
       };
     }

@@ -8,7 +8,8 @@ use Rattle.super_block.proofs.directory.Directory.name.Goals as goal
 pub returns-in_default-clause-none : goal.returns-in_default-clause-none
 returns-in_default-clause-none c l is =
     let is_inside = subst (λ (v : Divisions). Describes v l) (sym c.self.view_is) is in
-    nowhere l c.args.offset (subst (λ capacity. (d within : ℕ) → c.args.offset ≡ 8 * (start_word capacity d + within) → ⊥) is_inside.capacity_is c.in_default.ensures.none)
+    nowhere l c.args.offset (subst (λ capacity. (d within : ℕ) → c.args.offset ≡ 8 * (start_word capacity d + within)
+    → ⊥) is_inside.capacity_is c.in_default.ensures.none)
 
 pub returns-in_default-division-clause-none : goal.returns-in_default-division-clause-none
 returns-in_default-division-clause-none c l is =

@@ -18,4 +18,5 @@ block-requires-clause-held g c =
 
 pub returns-clause-held : goal.returns-clause-held
 returns-clause-held g c =
-    subst (λ (s : CacheState). Contains (held_blocks s.view) c.block.result) (state_is c.self.view_is) (listed c.self.inside.seat.view c.block.result c.block.ensures.held)
+    subst (λ (s : CacheState). Contains (held_blocks s.view) c.block.result) (state_is c.self.view_is)
+    (listed c.self.inside.seat.view c.block.result c.block.ensures.held)

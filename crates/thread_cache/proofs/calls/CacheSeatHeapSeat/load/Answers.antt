@@ -15,7 +15,8 @@ word-word-requires g c = spot_low c.args.self.now.state c.args.s c.requires
 pub load-answer-requires-clause-own : goal.load-answer-requires-clause-own
 load-answer-requires-clause-own g c =
     subst (Owns c.self.inside.seat.view) (sym c.word-word.ensures) (owns_held c.self.inside.seat.view (word_of c.args.s)
-    (subst (λ (v : View). IsHeldWord v (word_of c.args.s)) (sym (ap (λ (s : CacheState). s.view) (state_is c.self.view_is))) (spot_held c.args.self.now.state c.args.s c.requires)))
+    (subst (λ (v : View). IsHeldWord v (word_of c.args.s)) (sym (ap (λ (s : CacheState). s.view) (state_is c.self.view_is)))
+    (spot_held c.args.self.now.state c.args.s c.requires)))
 
 pub invariant_of-self-inside : goal.invariant_of-self-inside
 invariant_of-self-inside g c =
@@ -25,27 +26,44 @@ invariant_of-self-inside g c =
         ∣ c.recall_soundness-2.ensures ∣₁,
         (
           between_then c.self.inside.seat.view c.load-answer.new.seat.view c.load-answer.ensures.drew ran c.self.inside.between,
-          (counts_then c.self.inside.small_calls c.self.inside.large_calls c.self.inside.refusals c.self.inside.seat.view c.load-answer.new.seat.view (c.load-answer.ensures.drew.drew ran) c.self.inside.counted, tt),
+          (
+            counts_then c.self.inside.small_calls c.self.inside.large_calls c.self.inside.refusals c.self.inside.seat.view
+                c.load-answer.new.seat.view (c.load-answer.ensures.drew.drew ran) c.self.inside.counted,
+            tt,
+          ),
         ),
       ),
     )
 
 pub returns-clause-unchanged : goal.returns-clause-unchanged
-returns-clause-unchanged g c = small_own c.args.self.now.state c.self.inside.seat c.load-answer.new.seat _ (small_step _ c.args.self.now.state (state_is c.self.view_is) c.self.inside.seat c.load-answer.new.seat refl refl c.recall_soundness-2.ensures c.in_ok-check_running.ensures.ok) c.load-answer.ensures.row.view.passes c.load-answer.ensures.row
+returns-clause-unchanged g c = small_own c.args.self.now.state c.self.inside.seat c.load-answer.new.seat _
+    (small_step _ c.args.self.now.state (state_is c.self.view_is) c.self.inside.seat c.load-answer.new.seat refl refl
+    c.recall_soundness-2.ensures c.in_ok-check_running.ensures.ok) c.load-answer.ensures.row.view.passes c.load-answer.ensures.row
 
 pub returns-clause-counted : goal.returns-clause-counted
-returns-clause-counted g c = small_counted c.args.self.now.state c.self.inside.seat c.load-answer.new.seat _ (small_step _ c.args.self.now.state (state_is c.self.view_is) c.self.inside.seat c.load-answer.new.seat refl refl c.recall_soundness-2.ensures c.in_ok-check_running.ensures.ok) c.load-answer.ensures.row.view.passes c.load-answer.ensures.looks
+returns-clause-counted g c = small_counted c.args.self.now.state c.self.inside.seat c.load-answer.new.seat _
+    (small_step _ c.args.self.now.state (state_is c.self.view_is) c.self.inside.seat c.load-answer.new.seat refl refl
+    c.recall_soundness-2.ensures c.in_ok-check_running.ensures.ok) c.load-answer.ensures.row.view.passes c.load-answer.ensures.looks
 
 pub returns-clause-kept : goal.returns-clause-kept
 returns-clause-kept g c = record {
   heap = kept_with (c.load-answer.ensures.seat.table ∙ sym c.self.inside.of.table ∙ ap (λ (s : CacheState). s.table) (state_is c.self.view_is))
-      (small_keeps c.args.self.now.state c.self.inside.seat c.load-answer.new.seat _ (small_step _ c.args.self.now.state (state_is c.self.view_is) c.self.inside.seat c.load-answer.new.seat refl refl c.recall_soundness-2.ensures c.in_ok-check_running.ensures.ok) c.load-answer.ensures.row.view.passes c.load-answer.ensures.row.view.large);
+      (small_keeps c.args.self.now.state c.self.inside.seat c.load-answer.new.seat _
+      (small_step _ c.args.self.now.state (state_is c.self.view_is)
+      c.self.inside.seat c.load-answer.new.seat refl refl c.recall_soundness-2.ensures c.in_ok-check_running.ensures.ok)
+      c.load-answer.ensures.row.view.passes c.load-answer.ensures.row.view.large);
   asked = asked_at c.self.view_is c.load-answer.ensures.asked;
 }
 
 pub returns-clause-stopped : goal.returns-clause-stopped
-returns-clause-stopped g c = small_stops c.args.self.now.state c.self.inside.seat c.load-answer.new.seat _ (small_step _ c.args.self.now.state (state_is c.self.view_is) c.self.inside.seat c.load-answer.new.seat refl refl c.recall_soundness-2.ensures c.in_ok-check_running.ensures.ok) c.load-answer.ensures.row.view.passes c.load-answer.result c.load-answer.ensures.stopped
+returns-clause-stopped g c = small_stops c.args.self.now.state c.self.inside.seat c.load-answer.new.seat _
+    (small_step _ c.args.self.now.state (state_is c.self.view_is) c.self.inside.seat c.load-answer.new.seat refl refl
+    c.recall_soundness-2.ensures c.in_ok-check_running.ensures.ok)
+    c.load-answer.ensures.row.view.passes c.load-answer.result c.load-answer.ensures.stopped
 
 pub returns-clause-ok : goal.returns-clause-ok
-returns-clause-ok g c = small_loads c.args.self.now.state c.self.inside.seat c.load-answer.new.seat _ (small_step _ c.args.self.now.state (state_is c.self.view_is) c.self.inside.seat c.load-answer.new.seat refl refl c.recall_soundness-2.ensures c.in_ok-check_running.ensures.ok) (word_of c.args.s) c.load-answer.result c.load-answer.ensures.marks
-    (subst (λ word. IfOk c.load-answer.result (λ value. HasValue word value c.self.inside.seat.view c.load-answer.new.seat.view)) c.word-word.ensures c.load-answer.ensures.loaded)
+returns-clause-ok g c = small_loads c.args.self.now.state c.self.inside.seat c.load-answer.new.seat _
+    (small_step _ c.args.self.now.state (state_is c.self.view_is) c.self.inside.seat c.load-answer.new.seat refl refl
+    c.recall_soundness-2.ensures c.in_ok-check_running.ensures.ok) (word_of c.args.s) c.load-answer.result c.load-answer.ensures.marks
+    (subst (λ word. IfOk c.load-answer.result (λ value. HasValue word value c.self.inside.seat.view c.load-answer.new.seat.view))
+    c.word-word.ensures c.load-answer.ensures.loaded)
