@@ -1,11 +1,12 @@
 #!/usr/bin/env python3
 """Times a move beside a get, a del and a put of the same value, by 1, 2 and 4 workers, with values of 64 bytes and of 64 KiB.
-Values of 64 bytes are timed once more where their nodes lie as far apart as pages, as those of 64 KiB do.
+Values of 64 bytes are timed twice more: where each node has pages of its own, and where nodes lie two superblocks apart, as
+those of 64 KiB do.
 
-Each request is asked once of each of COUNT keys, or of as many as a trace has room for, over a heap that several runs have filled, and that is as it was before
-each call. A moved key goes to the next shard, so all shards send and receive. What is told is the time of the calls that
-have the workers make tables, work off their requests and bring in what they sent each other (stops.py stops the process
-there), less those calls on an empty trace, by request: the median of RUNS.
+Each request is asked once of each of COUNT keys, or of as many as a trace has room for, over a heap that several runs have
+filled, and that is as it was before each call. A moved key goes to the next shard, so all shards send and receive. What is
+told is the time of the calls that have the workers make tables, work off their requests and bring in what they sent each
+other (stops.py stops the process there), less those calls on an empty trace, by request: the median of RUNS.
 
 usage: moving.py [RUNS [COUNT]]      (make comes first)
 """
@@ -15,6 +16,7 @@ import statistics
 import subprocess
 import sys
 import tempfile
+from functools import partial
 
 from process import shared_memory
 from stops import calls_of, can_stop, places_of
@@ -22,8 +24,9 @@ from workers import RUN_JOBS, TOOL
 
 WORKERS = 1, 2, 4
 OTHER_KEYS = 8 * 10**6 + 1
-# So many nodes of 64 bytes are put between two, and taken out: each node that stays has pages of its own.
-BETWEEN, FIRST_BETWEEN = 85, 8 * 10**7
+# So many nodes of 64 bytes are put between two, and taken out. A superblock has 682 of them.
+OWN_PAGES, TWO_SUPERBLOCKS = 85, 2 * 682 - 1
+FIRST_BETWEEN = 8 * 10**7
 LONGEST_TRACE = 1 << 24
 
 
@@ -64,16 +67,17 @@ def fill(image, count, asked):
             run(image, "".join(requests))
 
 
-def fill_apart(image, count, asked):
-    """The same, but each node had others of its size put behind it, which are taken out at the end."""
+def fill_apart(image, count, asked, between):
+    """The same, but each node had so many others of its size put behind it, which are taken out at the end."""
     format_whole(image)
     mixed, gone = [], []
     for key, put in enumerate(asked["put"]):
-        others = [FIRST_BETWEEN + BETWEEN * key + i for i in range(BETWEEN)]
+        others = [FIRST_BETWEEN + between * key + i for i in range(between)]
         mixed += [put, *(f"put {other} {'cd' * 64}\n" for other in others)]
         gone += [f"del {other}\n" for other in others]
     for requests in (mixed, asked["put"], asked["del"], asked["put"], gone):
-        run(image, "".join(requests))
+        for trace in in_traces(requests):
+            run(image, "".join(trace))
 
 
 def time_of(places, room, trace, workers, runs):
@@ -87,7 +91,12 @@ def time_of(places, room, trace, workers, runs):
     return statistics.median(spent)
 
 
-ROWS = (64, fill, "64"), (64, fill_apart, "64, nodes apart"), (65536, fill, "65,536")
+ROWS = (
+    (64, fill, "64"),
+    (64, partial(fill_apart, between=OWN_PAGES), "64, pages of their own"),
+    (64, partial(fill_apart, between=TWO_SUPERBLOCKS), "64, two superblocks apart"),
+    (65536, fill, "65,536"),
+)
 
 
 def main(runs="5", count="500"):

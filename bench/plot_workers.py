@@ -24,7 +24,8 @@ METRICS = {"whole": "whole process", "requests": "the requests alone"}
 def draw(axes, rows, size, metric):
     for name in dict.fromkeys(row[1] for row in rows):
         points = [(int(row[2]), 1e3 / float(row[4])) for row in rows if (row[0], row[1], row[3]) == (size, name, metric)]
-        axes.plot(*zip(*points), marker="o", linewidth=2.5 if name == "heap_tool" else 1.2, label=name)
+        if points:
+            axes.plot(*zip(*points), marker="o", linewidth=2.5 if name == "heap_tool" else 1.2, label=name)
     workers = sorted({int(row[2]) for row in rows})
     axes.set(title=f"{METRICS[metric]}, {size} superblocks", xlabel="workers", ylabel="million requests a second")
     axes.set(xscale="log", yscale="log")

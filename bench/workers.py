@@ -11,6 +11,9 @@ process. net: that less the process on an empty trace. requests: from the beginn
 the last one, without reading, parsing, opening, closing and printing. The other stores tell that time themselves. Of
 heap_tool it is that of the calls which have the workers do their work, one for each row: stops.py stops the process there.
 
+What processors share is told beside: as many processes of heap_tool at once, each with one worker and a store of its own,
+and their requests' time by all their requests together.
+
 usage: workers.py [RUNS [FILE [REQUESTS]]]      (make comes first; FILE gets what plot_workers.py draws)
 """
 import os
@@ -20,6 +23,7 @@ import statistics
 import subprocess
 import sys
 import tempfile
+from multiprocessing import Pool
 
 from process import shared_memory, took
 from stops import calls_of, can_stop, places_of
@@ -34,6 +38,7 @@ CUT_TO = 8
 RUN_JOBS = "std::thread::fork::run_jobs"
 METRICS = ("whole", "net", "requests", "cpu")
 OURS = "heap_tool"
+APART = "heap_tool, a process each"
 PEERS = {"libpmemobj": "peer_pmemobj", "LMDB": "peer_lmdb", "plain map": "peer_mem"}
 
 
@@ -43,6 +48,7 @@ class Store:
     def __init__(self, name, room, superblocks, program):
         self.name, self.superblocks, self.program = name, superblocks, str(program)
         self.path, self.told = str(room / "store"), str(room / "told")
+        room.mkdir(exist_ok=True)
 
     def make(self):
         for file in pathlib.Path(self.path).parent.glob("store*"):
@@ -82,6 +88,19 @@ class Store:
     def replies(self, room, workers, trace, requests):
         self.run(workers, trace, stdout=str(room / "replies"))
         return (room / "replies").read_text().split("\n")[:requests]
+
+
+def nanoseconds_of_one(job):
+    """Those of one worker's requests, on a store in this folder."""
+    room, superblocks, places, trace = job
+    return Store(OURS, room, superblocks, TOOL).nanoseconds_of_requests(places, 1, trace)
+
+
+def nanoseconds_apart(room, superblocks, places, processes, trace):
+    """The mean of so many at once, by the processes."""
+    jobs = [(room / f"apart{number}", superblocks, places, trace) for number in range(processes)]
+    with Pool(processes) as pool:
+        return statistics.mean(pool.map(nanoseconds_of_one, jobs, chunksize=1)) / processes
 
 
 def places_of_work():
@@ -147,6 +166,9 @@ def main(runs="9", path=None, requests="100000"):
                     for store in stores[size]:
                         for metric, value in store.measure(places, workers, traces[size], requests).items():
                             series.setdefault((size, store.name, workers, metric), []).append(value)
+                    if places:
+                        apart = nanoseconds_apart(room, size, places, workers, traces[size]) / requests
+                        series.setdefault((size, APART, workers, "requests"), []).append(apart)
     print(f"medians of {runs} runs, {requests:,} requests; load {os.getloadavg()[0]:.1f}")
     tell(path, {key: statistics.median(values) for key, values in series.items()})
 
