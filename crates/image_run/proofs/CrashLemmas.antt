@@ -33,19 +33,24 @@ first_owns held seats some = record {
 }
 
 -- what the core does is what the seats do
-pub ended : (words : List ℕ) (held : List Block) (seats : ℕ) (lines : List (ℕ × Event)) (block_owners root_owners : List ℕ)
-    (events : List (ℕ × Event)) (answers : List StepAnswer)
-    (old new : CoreState) → block_owners ≡ replicate (length held) 0 → root_owners ≡ replicate roots 0 → events ≡ events_of lines
-    → Represents old (replay_setup words seats) (opened_state (replay_setup words seats) held block_owners root_owners seats)
+pub opened_by_first : (words : List ℕ) (held : List Block) (seats : ℕ) (block_owners root_owners : List ℕ) (core : CoreState)
+    → block_owners ≡ replicate (length held) 0 → root_owners ≡ replicate roots 0
+    → Represents core (replay_setup words seats) (opened_state (replay_setup words seats) held block_owners root_owners seats)
+    → Represents core (replay_setup words seats) (replay_opening words held seats)
+opened_by_first words held seats block_owners root_owners core blocks_are roots_are stands =
+    subst (λ (l : List ℕ). Represents core (replay_setup words seats)
+    (opened_state (replay_setup words seats) held l (replicate roots 0) seats)) blocks_are
+    (subst (λ (l : List ℕ). Represents core (replay_setup words seats) (opened_state (replay_setup words seats) held block_owners l seats))
+    roots_are stands)
+
+pub ended : (words : List ℕ) (held : List Block) (seats : ℕ) (lines : List (ℕ × Event)) (events : List (ℕ × Event))
+    (answers : List StepAnswer) (old new : CoreState) → events ≡ events_of lines
+    → Represents old (replay_setup words seats) (replay_opening words held seats)
     → RunsOn old events answers new
     → (s : TableState) × Runs (replay_setup words seats) (replay_opening words held seats) (events_of lines) answers s
     × Represents new (replay_setup words seats) s
-ended words held seats lines block_owners root_owners events answers old new blocks_are roots_are events_are stands runs =
-    let here = subst (λ (l : List ℕ). Represents old (replay_setup words seats)
-    (opened_state (replay_setup words seats) held l (replicate roots 0) seats)) blocks_are
-    (subst (λ (l : List ℕ). Represents old (replay_setup words seats) (opened_state (replay_setup words seats) held block_owners l seats))
-    roots_are stands) in
-    let ran = runs (replay_setup words seats) (replay_opening words held seats) here in (
+ended words held seats lines events answers old new events_are stands runs =
+    let ran = runs (replay_setup words seats) (replay_opening words held seats) stands in (
       ran.0,
       subst (λ (es : List (ℕ × Event)). Runs (replay_setup words seats) (replay_opening words held seats) es answers ran.0)
           events_are ran.1,

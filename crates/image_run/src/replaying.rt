@@ -1,5 +1,5 @@
 //! Replays a schedule over a heap at rest, and makes what is printed.
-ghost use Rattle.std.specs.Prelude.{◌≡◌, ◌*◌, ◌++◌, Some, None, length, map, replicate, slice_index, IfOk, IfErr, IsErr, ℕ};
+ghost use Rattle.std.specs.Prelude.{◌≡◌, ◌*◌, ◌++◌, ◌≤◌, Some, None, length, map, replicate, slice_index, IfOk, IfErr, IsErr, ℕ};
 ghost use Rattle.heap_model.specs.Durability.{IsCrashImage};
 ghost use Rattle.heap_model.specs.Geometry.{image_words, roots, version, version_word};
 ghost use Rattle.heap_model.specs.Header.{capacity_of, header_fault, HasKindsBelow};
@@ -11,7 +11,8 @@ ghost use Rattle.crash_core.specs.Standing.{Represents};
 ghost use Rattle.dict_model.specs.Links.{kind_count};
 ghost use Rattle.tool_ports.specs.Chances.{ComesFrom, ComesFromSeed};
 ghost use Rattle.trace_text.specs.Answered.{answers_text_of, tickets_line_of};
-ghost use Rattle.image_run.specs.Replaying.{CanBeReplayed, IsReplayed, LeavesOutside, ReplayAsks, Replays, StopsReplay};
+ghost use Rattle.image_run.specs.Replaying.{CanBeReplayed, IsReplayed, LeavesOutside, ReplayAsks, Replays, StopsReplay, replay_opening, replay_setup};
+ghost use Rattle.heap_model.specs.Rest.{IsReady};
 
 use crate::fault::ReplayFault;
 use crate::lines::{events_of, last_answers};
@@ -41,24 +42,24 @@ struct Replayed {
 /// seed.
 pub fn replay_image<C: Chances>(
     alloc: Global,
-    heap: &Ready,
+    heap: Ready,
     schedule: &Schedule,
     seed: u64,
     chances: &mut C,
 ) -> Result<Product, ReplayFault>
     requires schedule { CanBeReplayed schedule.now.seats schedule.now.lines.items }
-    requires kinds { HasKindsBelow (Some kind_count) (slice_index heap.now.words) }
-    ensures ok { IfOk result (λ product. Replays heap.now.words heap.now.held
+    requires kinds { HasKindsBelow (Some kind_count) (slice_index heap.words) }
+    ensures ok { IfOk result (λ product. Replays heap.words heap.held
         schedule.now.seats schedule.now.lines.items product.text) }
     ensures no_image { IfOk result (λ product. product.image ≡ None) }
-    ensures err { IfErr result (StopsReplay heap.now.words heap.now.held
+    ensures err { IfErr result (StopsReplay heap.words heap.held
         schedule.now.seats schedule.now.lines.items) }
-    ensures always_outside { (at value : ℕ) → LeavesOutside heap.now.words heap.now.held
+    ensures always_outside { (at value : ℕ) → LeavesOutside heap.words heap.held
         schedule.now.seats schedule.now.lines.items at value → IsErr result }
     ensures seeded { ComesFromSeed C.seed_gives C.chance_gives C.word_gives
         chances.old seed chances.new }
     ensures asked { IfOk result (λ product. ReplayAsks C.seed_gives C.word_gives
-        heap.now.words heap.now.held schedule.now.seats schedule.now.lines.items seed
+        heap.words heap.held schedule.now.seats schedule.now.lines.items seed
         product.text chances.old chances.new) }
 {
     chances.seed(seed);
@@ -73,13 +74,13 @@ pub fn replay_image<C: Chances>(
 // Takes the steps, and crashes.
 fn replay_lines<C: Chances>(
     alloc: Global,
-    heap: &Ready,
+    heap: Ready,
     schedule: &Schedule,
     chances: &mut C,
 ) -> Result<Replayed, AllocError>
     requires schedule { CanBeReplayed schedule.now.seats schedule.now.lines.items }
-    requires kinds { HasKindsBelow (Some kind_count) (slice_index heap.now.words) }
-    ensures replayed { IfOk result (λ r. IsReplayed heap.now.words heap.now.held
+    requires kinds { HasKindsBelow (Some kind_count) (slice_index heap.words) }
+    ensures replayed { IfOk result (λ r. IsReplayed heap.words heap.held
         schedule.now.seats schedule.now.lines.items r.answers.items r.tickets r.left.items) }
     ensures good { IfOk result (λ r. header_fault (Some kind_count) (8 * length r.left.items)
         (slice_index r.left.items) ≡ None) }
@@ -87,10 +88,9 @@ fn replay_lines<C: Chances>(
     ensures chances { ComesFrom C.chance_gives C.word_gives chances.old chances.new }
     ensures drawn { IfOk result (λ r. GivesAll C.word_gives chances.old
         (map (slice_index r.left.items)
-        (transient_words (capacity_of (slice_index heap.now.words)))) chances.new) }
+        (transient_words (capacity_of (slice_index heap.words)))) chances.new) }
 {
-    let owners = owned_by_the_first(alloc, heap.held().len())?;
-    let mut core = Core::of(alloc, heap, &owners, schedule.seats, MOST_BUDGET)?;
+    let mut core = core_over(alloc, heap, schedule.seats)?;
     let events = events_of(alloc, &schedule.lines)?;
     let answers = core.replay(alloc, &events)?;
     let mut scramble = CrashWords { chances };
@@ -101,6 +101,19 @@ fn replay_lines<C: Chances>(
         tickets,
         left,
     })
+}
+
+// The core opened over the heap. It has words of its own, so the heap's are gone before its steps.
+fn core_over(alloc: Global, heap: Ready, seats: usize) -> Result<Core, AllocError>
+    requires some { 1 ≤ seats }
+    requires few { seats ≤ 8 }
+    ensures ready { IsReady heap.words heap.held }
+    ensures ok { IfOk result (λ core. Represents core.state (replay_setup heap.words seats)
+        (replay_opening heap.words heap.held seats)) }
+    ensures seats { IfOk result (λ core. length core.state.seats.items ≡ seats) }
+{
+    let owners = owned_by_the_first(alloc, heap.held().len())?;
+    Core::of(alloc, &heap, &owners, seats, MOST_BUDGET)
 }
 
 // The image that a crash leaves, with the chances that something else has.

@@ -60,7 +60,7 @@ pub fn replay_named<I: ImageStore, T: Source, C: Chances>(
 {
     let recovered = recover_image(alloc, name, images)?;
     let schedule = read_schedule(alloc, source)?;
-    let product = replay_image(alloc, &recovered.heap, &schedule, seed, chances)?;
+    let product = replay_image(alloc, recovered.heap, &schedule, seed, chances)?;
     Ok(product)
 }
 

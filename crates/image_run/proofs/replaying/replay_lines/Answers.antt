@@ -1,23 +1,13 @@
-use Rattle.std.proofs.Common.{rules, ◌≡◌, ◌∙◌, ℕ, ◌<◌, List, length, map, replicate, slice_index, ap, sym, subst}
+use Rattle.std.proofs.Common.{rules, ◌≡◌, ◌∙◌, ℕ, ◌<◌, List, map, slice_index, ap, sym, subst}
 use Rattle.std.specs.Prelude.{Contains}
 use Rattle.heap_model.specs.Header.{capacity_of}
 use Rattle.crash_image.specs.Crash.{GivesAll, transient_words}
 use Rattle.core_model.specs.declared.event.Event.{Event}
-use Rattle.core_model.specs.Opening.{AreOwners}
 use Rattle.tool_ports.specs.Chances.{unasked}
 use Rattle.image_run.specs.Replaying.{events_of, replay_setup}
 use Rattle.image_run.proofs.LineLemmas.{seats_below}
-use Rattle.image_run.proofs.CrashLemmas.{first_owns, ended, replayed, left_good, left_new}
+use Rattle.image_run.proofs.CrashLemmas.{ended, replayed, left_good, left_new}
 use Rattle.image_run.proofs.replaying.replay_lines.Goals as goal
-
-pub of-requires-clause-owners : goal.of-requires-clause-owners
-of-requires-clause-owners g c =
-    let held = c.args.heap.now.held in
-    let seats = c.args.schedule.now.seats in
-    let blocks_are = c.in_ok-owners.ensures.held ∙ ap (λ (bs : List _). replicate (length bs) 0) c.held.ensures.held in
-    subst (λ (l : List ℕ). AreOwners held seats l c.in_ok-owners.owners.roots) (sym blocks_are)
-    (subst (λ (l : List ℕ). AreOwners held seats (replicate (length held) 0) l) (sym c.in_ok-owners.ensures.roots)
-    (first_owns held seats c.requires.schedule.some))
 
 pub replay-requires : goal.replay-requires
 replay-requires g c =
@@ -32,32 +22,27 @@ pub returns-clause-replayed : goal.returns-clause-replayed
 returns-clause-replayed g c =
     let lines = c.args.schedule.now.lines.items in
     let events_are : c.deref-2.result.now ≡ events_of lines = c.deref-2.ensures.value ∙ c.in_ok-events.ensures ∙ ap events_of c.deref.ensures.value in
-    let blocks_are = c.in_ok-owners.ensures.held ∙ ap (λ (bs : List _). replicate (length bs) 0) c.held.ensures.held in
-    let end = ended c.args.heap.now.words c.args.heap.now.held c.args.schedule.now.seats lines _ _ c.deref-2.result.now _ _ _ blocks_are
-    c.in_ok-owners.ensures.roots events_are c.in_ok-core.ensures.ok c.in_ok-answers.ensures.runs in
-    replayed c.args.heap.now.words c.args.heap.now.held c.args.schedule.now.seats lines _ _ _ _ end c.tickets-tickets.ensures
+    let end = ended c.args.heap.words c.args.heap.held c.args.schedule.now.seats lines c.deref-2.result.now _ _ _ events_are
+    c.in_ok-core.ensures.ok c.in_ok-answers.ensures.runs in
+    replayed c.args.heap.words c.args.heap.held c.args.schedule.now.seats lines _ _ _ _ end c.tickets-tickets.ensures
     c.in_ok-left.ensures.ok c.in_ok-left.ensures.length
 
 pub returns-clause-drawn : goal.returns-clause-drawn
 returns-clause-drawn g c =
     let lines = c.args.schedule.now.lines.items in
     let events_are : c.deref-2.result.now ≡ events_of lines = c.deref-2.ensures.value ∙ c.in_ok-events.ensures ∙ ap events_of c.deref.ensures.value in
-    let blocks_are = c.in_ok-owners.ensures.held ∙ ap (λ (bs : List _). replicate (length bs) 0) c.held.ensures.held in
-    let end = ended c.args.heap.now.words c.args.heap.now.held c.args.schedule.now.seats lines _ _ c.deref-2.result.now _ _ _ blocks_are
-    c.in_ok-owners.ensures.roots events_are c.in_ok-core.ensures.ok c.in_ok-answers.ensures.runs in
-    let numbers = map (slice_index c.in_ok-left.left.items) (transient_words (capacity_of (slice_index c.args.heap.now.words))) in
+    let end = ended c.args.heap.words c.args.heap.held c.args.schedule.now.seats lines c.deref-2.result.now _ _ _ events_are
+    c.in_ok-core.ensures.ok c.in_ok-answers.ensures.runs in
+    let numbers = map (slice_index c.in_ok-left.left.items) (transient_words (capacity_of (slice_index c.args.heap.words))) in
     let drawn : GivesAll g.C.Chances.word_gives c.args.chances.now numbers c.left_by_words.new.scramble.chances.now =
-    c.in_ok-left.ensures.drawn (replay_setup c.args.heap.now.words c.args.schedule.now.seats) end.0 end.2 in
+    c.in_ok-left.ensures.drawn (replay_setup c.args.heap.words c.args.schedule.now.seats) end.0 end.2 in
     subst (λ (to : _). GivesAll g.C.Chances.word_gives c.args.chances.now numbers to) (search rules) drawn
 
 pub returns-clause-good : goal.returns-clause-good
-returns-clause-good g c = left_good _ _ _ _ _ _ _ c.held.ensures.ready c.requires.kinds c.requires.schedule.some (returns-clause-replayed g c)
+returns-clause-good g c = left_good _ _ _ _ _ _ _ c.core_over.ensures.ready c.requires.kinds c.requires.schedule.some (returns-clause-replayed g c)
 
 pub returns-clause-version : goal.returns-clause-version
 returns-clause-version g c = left_new _ _ (returns-clause-replayed g c).long (returns-clause-good g c)
-
-pub returns-in_err-owners-clause-chances : goal.returns-in_err-owners-clause-chances
-returns-in_err-owners-clause-chances g c = unasked
 
 pub returns-in_err-core-clause-chances : goal.returns-in_err-core-clause-chances
 returns-in_err-core-clause-chances g c = unasked
