@@ -126,9 +126,7 @@ fn write_back_early(number: u64, recent: &RecentStores, volatile: &[u64], durabl
     requires lengths { length durable.old ≡ length volatile.now }
     ensures { durable.new ≡ durable_after number recent.now volatile.now durable.old }
 {
-    if number % 2 == 1
-        && let Some(word) = recent.get((number / 2 % 16) as usize)
-    {
+    if let Some(word) = recent.early_word(number) {
         durable[word as usize] = volatile[word as usize];
     }
 }

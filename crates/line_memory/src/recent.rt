@@ -1,5 +1,6 @@
 //! The words of the last stores.
 ghost use Rattle.std.specs.Prelude.{◌≡◌, ℕ, List, [], ◌∷◌, ◌≤◌, take, slice_get, IfOk};
+ghost use Rattle.line_memory.specs.Steps.{early_word};
 
 use std::alloc::{AllocError, Global};
 use std::collections::VecDeque;
@@ -39,6 +40,18 @@ impl RecentStores {
         ensures { result ≡ slice_get self.now number }
     {
         self.words.get(number).copied()
+    }
+
+    /// The word that a draw of the number writes back early, if it names one: an odd number names
+    /// one of the last sixteen stores, by the four bits above its lowest.
+    pub fn early_word(&self, number: u64) -> Option<u64>
+        ensures { result ≡ early_word number self.now }
+    {
+        if number % 2 == 1 {
+            self.get((number / 2 % REMEMBERED as u64) as usize)
+        } else {
+            None
+        }
     }
 
     pub fn push(&mut self, word: u64)
