@@ -29,6 +29,7 @@ pub fn constants_agree()
     ensures state_word { STATE_WORD ≡ state_word }
     ensures used_word { USED_WORD ≡ used_word }
     ensures head_word { (list : ℕ) → HEAD_WORD + list ≡ head_word list }
+    ensures free_list { HEAD_WORD + FREE_LIST ≡ head_word 0 }
     ensures root_word { (i : ℕ) → ROOT_WORD + i ≡ root_word i }
 
     // descriptors and superblocks

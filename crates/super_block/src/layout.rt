@@ -73,8 +73,11 @@ pub const STATE_WORD: u64 = 3;
 /// Where the high-water mark stands: the superblocks below it have been taken.
 pub const USED_WORD: u64 = 8;
 
-/// The first list head: that of the free superblocks. The head of class `c` is `c` words behind it.
+/// The first list head. The head of list `n` is `n` words behind it.
 pub const HEAD_WORD: u64 = 16;
+
+/// Which list has the free superblocks. The list of each class has the class's number.
+pub const FREE_LIST: u64 = 0;
 
 /// How many lists of superblocks there are: the free ones, and one list for each class.
 pub const LISTS: u64 = LAST_CLASS + 1;
