@@ -22,7 +22,7 @@ pub fn superblock_owners(
     let mut superblocks = vec![in alloc; NO_SUPERBLOCK; geometry.capacity() as usize]?;
     for (i, block) in heap.held().iter().enumerate() {
         if block.words >= SUPERBLOCK_WORDS {
-            let d = (block.first_word - geometry.start(0)) / SUPERBLOCK_WORDS;
+            let d = geometry.superblock_of(block.first_word);
             let count = block.words / SUPERBLOCK_WORDS;
             give_large(&mut superblocks, owners[i] as usize, d, count);
         }

@@ -4,6 +4,8 @@ ghost use Rattle.std.specs.Prelude.{◌≡◌, ◌+◌};
 ghost use Rattle.heap_model.specs.Counting.{one_if};
 ghost use Rattle.seat_state.specs.Superblocks.{raw_in, split_in, cutting_in, classed_in, large_in, count_in, listed, anchored};
 
+use super_block::FREE_LIST;
+
 /// What a seat has of a superblock, and uses it for.
 #[derive(Clone, Copy)]
 pub enum SuperblockUsage {
@@ -104,7 +106,7 @@ impl SuperblockUsage {
     pub fn listed(list: u64) -> SuperblockUsage
         ensures { result ≡ listed list }
     {
-        if list == 0 {
+        if list == FREE_LIST {
             SuperblockUsage::Raw
         } else {
             SuperblockUsage::Classed { class: list }

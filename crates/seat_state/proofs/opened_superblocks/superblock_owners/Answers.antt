@@ -9,13 +9,13 @@ use Rattle.seat_state.proofs.OpenedSuperblocks.{large_at, small_given, large_giv
 use Rattle.seat_state.proofs.opened_superblocks.superblock_owners.Goals.{then-block-ge-SUPERBLOCK_WORDS, else-block-ge-SUPERBLOCK_WORDS}
 use Rattle.seat_state.proofs.opened_superblocks.superblock_owners.Goals as goal
 
-pub overflow_sub-d : goal.overflow_sub-d
-overflow_sub-d c =
+pub superblock_of-d-requires : goal.superblock_of-d-requires
+superblock_of-d-requires c =
     let at = entry_of _ c.args.heap.now.held c.loop-i.i (record { first_word = 0; words = 0 }) c.held-block-items.ensures.held c.loop-i-test.true in
     let e = ap length c.held-block-items.ensures.held in let t = c.loop-i-test.true in
     let l = large_at c.args.heap.now.words c.args.heap.now.held c.args.owners.now c.held-block-items.ensures.ready c.requires _
     (block_there c.args.heap.now.held c.loop-i.i _ (omega arith) at) (not-lt _ 8192 c.if-block-ge-SUPERBLOCK_WORDS.true) in
-    let s = c.start.ensures in let g = c.geometry-geometry.ensures in omega (arith, l.0)
+    let g = c.geometry-geometry.ensures in omega (arith, l.0)
 
 pub give_large-requires-clause-inside : goal.give_large-requires-clause-inside
 give_large-requires-clause-inside c =
@@ -23,7 +23,7 @@ give_large-requires-clause-inside c =
     let e = ap length c.held-block-items.ensures.held in let t = c.loop-i-test.true in
     let l = large_at c.args.heap.now.words c.args.heap.now.held c.args.owners.now c.held-block-items.ensures.ready c.requires _
     (block_there c.args.heap.now.held c.loop-i.i _ (omega arith) at) (not-lt _ 8192 c.if-block-ge-SUPERBLOCK_WORDS.true) in
-    let s = c.start.ensures in let g = c.geometry-geometry.ensures in let n = c.loop-i.invariant.long in omega (arith, l.2)
+    let s = c.superblock_of-d.ensures in let g = c.geometry-geometry.ensures in let n = c.loop-i.invariant.long in omega (arith, l.2)
 
 pub loop-i-preserved : goal.loop-i-preserved
 loop-i-preserved c =
@@ -35,9 +35,9 @@ loop-i-preserved c =
           (slice_index c.args.heap.now.words capacity_word) c.args.heap.now.held c.args.owners.now (c.loop-i.i + 1) ss.items) (sym w.superblocks-is)
           (large_given c.args.heap.now.words c.args.heap.now.held c.args.owners.now c.held-block-items.ensures.ready c.requires c.loop-i.i _ _
           (omega arith) at at_o (not-lt _ 8192 w.if-block-ge-SUPERBLOCK_WORDS.true) c.loop-i.superblocks.items c.loop-i.invariant _
-          (subst (λ n. IsLargeGiven c.loop-i.superblocks.items w.give_large.new.superblocks.items _
-          (((get_or c.held-block-items.result.now c.loop-i.i (record { first_word = 0; words = 0 })).first_word - n) / 8192) _)
-          (w.start.ensures ∙ ap (λ n. start_word n 0) c.geometry-geometry.ensures) w.give_large.ensures))
+          (subst (λ d. IsLargeGiven c.loop-i.superblocks.items w.give_large.new.superblocks.items _ d _)
+          (w.superblock_of-d.ensures ∙ ap (λ n. ((get_or c.held-block-items.result.now c.loop-i.i
+          (record { first_word = 0; words = 0 })).first_word - start_word n 0) / 8192) c.geometry-geometry.ensures) w.give_large.ensures))
       | else-block-ge-SUPERBLOCK_WORDS w ↦ subst (λ ss. HaveSuperblocks
           (slice_index c.args.heap.now.words capacity_word) c.args.heap.now.held c.args.owners.now (c.loop-i.i + 1) ss.items) (sym w.superblocks-is)
           (small_given c.args.heap.now.words c.args.heap.now.held c.args.owners.now c.held-block-items.ensures.ready c.requires c.loop-i.i _ _
