@@ -11,7 +11,6 @@ use crate::state::CoreState;
 use crate::usages::{place, usage};
 use core_model::StepAnswer;
 use seat_state::{SeatNotes, SuperblockOwner, SuperblockUsage, give_range};
-use super_block::SUPERBLOCK_WORDS;
 
 /// Offers the held block that begins at a word to a new carrier, if the seat may do so now.
 pub(crate) fn offer(core: &mut CoreState, seat: usize, block: u64) -> StepAnswer
@@ -70,7 +69,7 @@ fn offer_large(core: &mut CoreState, seat: usize, block: u64)
 {
     let notes = core.seats[seat];
     let carrier = core.seats.len() + core.carriers;
-    let d = (block - core.geometry.start(0)) / SUPERBLOCK_WORDS;
+    let d = core.geometry.superblock_of(block);
     let count = usage(core, seat, d).large_count();
     let rest = SuperblockOwner {
         seat: carrier,

@@ -13,7 +13,7 @@ use crate::reads::{info, next};
 use crate::state::CoreState;
 use crate::usages::place;
 use seat_state::{BatchEnds, Cache, SeatNotes};
-use super_block::{LAST_CLASS, SUPERBLOCK_WORDS};
+use super_block::LAST_CLASS;
 
 /// Whether the seat may hold the first block of the cache.
 pub(crate) fn may_alloc(core: &CoreState, seat: usize, class: u64) -> bool
@@ -64,7 +64,7 @@ fn held_class(core: &CoreState, seat: usize, block: u64) -> u64
     ensures from { start_word core.now.geometry.capacity 0 ≤ block }
     ensures until { block < superblocks_end core.now.geometry.capacity }
 {
-    let d = (block - core.geometry.start(0)) / SUPERBLOCK_WORDS;
+    let d = core.geometry.superblock_of(block);
     info(core, d)
 }
 
@@ -130,7 +130,7 @@ pub(crate) fn may_lift(core: &CoreState, seat: usize, class: u64) -> bool
     if !notes.batch.linked {
         return false;
     }
-    let d = (cache.first - core.geometry.start(0)) / SUPERBLOCK_WORDS;
+    let d = core.geometry.superblock_of(cache.first);
     if notes.batch.descriptor != d {
         return false;
     }
@@ -146,7 +146,7 @@ pub(crate) fn lift(core: &mut CoreState, seat: usize, class: u64)
 {
     let notes = core.seats[seat];
     let cache = notes.caches[class as usize];
-    let d = (cache.first - core.geometry.start(0)) / SUPERBLOCK_WORDS;
+    let d = core.geometry.superblock_of(cache.first);
     let first = next(core, cache.first);
     core.blocks[cache.first as usize] = BlockOwner {
         seat,

@@ -11,7 +11,7 @@ use crate::state::CoreState;
 use crate::usages::{place, usage};
 use seat_state::{Part, part_at};
 use size_table::SizeClass;
-use super_block::{LAST_CLASS, SUPERBLOCK_WORDS, block_words};
+use super_block::{LAST_CLASS, block_words};
 
 /// Whether the word is the seat's own.
 pub(crate) fn is_own(core: &CoreState, seat: usize, word: u64) -> bool
@@ -38,7 +38,7 @@ fn is_own_data(core: &CoreState, seat: usize, word: u64) -> bool
     requires until { word < superblocks_end core.now.geometry.capacity }
     ensures { Decides core.now seat (λ m v. IsOwn v (data_cell word)) result }
 {
-    let d = (word - core.geometry.start(0)) / SUPERBLOCK_WORDS;
+    let d = core.geometry.superblock_of(word);
     if usage(core, seat, d).has_words() {
         return true;
     }

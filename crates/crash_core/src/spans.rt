@@ -26,7 +26,7 @@ pub(crate) fn may_split(core: &CoreState, seat: usize, block: u64) -> bool
     if (block - start) % SUPERBLOCK_WORDS != 0 {
         return false;
     }
-    usage(core, seat, (block - start) / SUPERBLOCK_WORDS).large_count() > 0
+    usage(core, seat, core.geometry.superblock_of(block)).large_count() > 0
 }
 
 /// Claims the superblocks of a held large block.
@@ -38,7 +38,7 @@ pub(crate) fn split(core: &mut CoreState, seat: usize, block: u64)
         (superblock_at v.setup.capacity block)) core.new }
 {
     let notes = core.seats[seat];
-    let d = (block - core.geometry.start(0)) / SUPERBLOCK_WORDS;
+    let d = core.geometry.superblock_of(block);
     let count = usage(core, seat, d).large_count();
     let owner = SuperblockOwner {
         seat,

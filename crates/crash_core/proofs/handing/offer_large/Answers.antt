@@ -1,4 +1,4 @@
-use Rattle.std.proofs.Common.{◌≡◌, ◌-◌, ◌+◌, ◌/◌, ◌<◌, get_or, length, length-set, refl, ap, sym, ◌∙◌, arith}
+use Rattle.std.proofs.Common.{◌≡◌, ◌+◌, ◌<◌, get_or, length, length-set, refl, ap, sym, ◌∙◌, arith}
 use Rattle.seat_state.specs.declared.superblocks.SuperblockUsage.TheVariants as usage
 use Rattle.seat_state.specs.Superblocks.{usage_for, no_superblock, count_in}
 use Rattle.core_model.specs.Cells.{superblock_at}
@@ -11,18 +11,18 @@ use Rattle.crash_core.proofs.SplitSteps.{split_fits, split_count}
 use Rattle.crash_core.proofs.StandingLemmas.{among, seat_capacity, seat_is}
 use Rattle.crash_core.proofs.handing.offer_large.Goals as goal
 
-pub overflow_sub-d : goal.overflow_sub-d
-overflow_sub-d c = let f = (split_fits c.args.core.now c.args.seat c.args.block c.index-notes.result.now
+pub superblock_of-d-requires : goal.superblock_of-d-requires
+superblock_of-d-requires c = let f = (split_fits c.args.core.now c.args.seat c.args.block c.index-notes.result.now
     (core_of c.args.core.now c.requires.core) c.requires.seat (seat_is c.requires.seat (sym c.index-notes.ensures)) c.requires.held).from in
-    let e = c.start.ensures in omega arith
+    omega arith
 
 pub give_range-requires : goal.give_range-requires
 give_range-requires c = let f = (split_fits c.args.core.now c.args.seat c.args.block c.index-notes.result.now
     (core_of c.args.core.now c.requires.core) c.requires.seat (seat_is c.requires.seat (sym c.index-notes.ensures)) c.requires.held).range in
-    let e = c.start.ensures in
+    let e = c.superblock_of-d.ensures in
     let g = c.large_count-count.ensures ∙ ap count_in (c.usage.ensures
-    ∙ ap (λ n. usage_for c.args.seat (get_or c.args.core.now.superblocks.items ((c.args.block - n) / 8192) no_superblock)) c.start.ensures) in
-    let h = ap (λ n. (c.args.block - n) / 8192) c.start.ensures in omega arith
+    ∙ ap (λ d. usage_for c.args.seat (get_or c.args.core.now.superblocks.items d no_superblock)) c.superblock_of-d.ensures) in
+    let h = c.superblock_of-d.ensures in omega arith
 
 pub returns : goal.returns
 returns c = λ k s stands.
@@ -35,20 +35,20 @@ returns c = λ k s stands.
     let none = (o.kept.blocks c.args.block).held ∙ c.requires.no_small in
     let cap = seat_capacity c.args.core.now k s.views c.args.seat o.view stands.keeps below o.at in
     let number : c.len.result + c.args.core.now.carriers ≡ length s.views = (let l = c.len.ensures in let n = stands.keeps.seats in omega arith) in
-    let d_is : (c.args.block - c.start.result) / 8192 ≡ superblock_at o.view.setup.capacity c.args.block =
-    ap (λ n. (c.args.block - n) / 8192) c.start.ensures ∙ ap (λ n. superblock_at n c.args.block) (sym cap) in
+    let d_is : c.superblock_of-d.result ≡ superblock_at o.view.setup.capacity c.args.block =
+    c.superblock_of-d.ensures ∙ ap (λ n. superblock_at n c.args.block) (sym cap) in
     let n_is : c.large_count-count.result ≡ span_count (superblock_at o.view.setup.capacity c.args.block) o.view.large =
     c.large_count-count.ensures ∙ ap count_in (c.usage.ensures ∙ ap
-    (λ n. usage_for c.args.seat (get_or c.args.core.now.superblocks.items ((c.args.block - n) / 8192) no_superblock)) c.start.ensures)
+    (λ d. usage_for c.args.seat (get_or c.args.core.now.superblocks.items d no_superblock)) c.superblock_of-d.ensures)
     ∙ sym (split_count c.args.core.now k s.views c.args.seat o.view c.index-notes.result.now stands.keeps below o.at at_t c.args.block holds)
     ∙ ap (λ n. span_count (superblock_at n c.args.block) o.view.large) (sym cap) in
     let some = holds.held in
-    let long : (c.args.block - c.start.result) / 8192 < length c.give_range.new.owners.items =
+    let long : c.superblock_of-d.result < length c.give_range.new.owners.items =
     (let f = (split_fits c.args.core.now c.args.seat c.args.block c.index-notes.result.now
     (core_of c.args.core.now c.requires.core) c.requires.seat (seat_is c.requires.seat (sym c.index-notes.ensures)) c.requires.held).range in
     let g = c.large_count-count.ensures ∙ ap count_in (c.usage.ensures
-    ∙ ap (λ n. usage_for c.args.seat (get_or c.args.core.now.superblocks.items ((c.args.block - n) / 8192) no_superblock)) c.start.ensures) in
-    let h = ap (λ n. (c.args.block - n) / 8192) c.start.ensures in let l = c.give_range.ensures.long in omega arith) in (
+    ∙ ap (λ d. usage_for c.args.seat (get_or c.args.core.now.superblocks.items d no_superblock)) c.superblock_of-d.ensures) in
+    let h = c.superblock_of-d.ensures in let l = c.give_range.ensures.long in omega arith) in (
       after_offer s c.args.seat o.view c.args.block,
       is_offered o.view o.at (large_may c.args.core.now k s c.args.seat o.view c.index-notes.result.now c.args.block stands o.at at_t hand holds none),
       large_at c.args.core.now k s c.args.seat o.view c.index-notes.result.now c.args.block stands o.at at_t hand holds none _
@@ -59,11 +59,11 @@ returns c = λ k s stands.
             seats = refl;
             carriers = refl;
             blocks = refl;
-            superblocks = length-set c.give_range.new.owners.items ((c.args.block - c.start.result) / 8192)
+            superblocks = length-set c.give_range.new.owners.items c.superblock_of-d.result
                 (record { seat = c.len.result + c.args.core.now.carriers; usage = usage.Large c.large_count-count.result }) ∙ c.give_range.ensures.long;
             roots = refl;
           })
-          refl c.give_range.new.owners.items ((c.args.block - c.start.result) / 8192) c.large_count-count.result
+          refl c.give_range.new.owners.items c.superblock_of-d.result c.large_count-count.result
           (c.len.result + c.args.core.now.carriers) d_is n_is number c.give_range.ensures refl long,
     )
 
@@ -77,11 +77,11 @@ index_mut-requires c =
     let cap = seat_capacity c.args.core.now core.setup core.state.views c.args.seat o.view core.stands.keeps below o.at in
     let n_is : c.large_count-count.result ≡ span_count (superblock_at o.view.setup.capacity c.args.block) o.view.large =
     c.large_count-count.ensures ∙ ap count_in (c.usage.ensures ∙ ap
-    (λ n. usage_for c.args.seat (get_or c.args.core.now.superblocks.items ((c.args.block - n) / 8192) no_superblock)) c.start.ensures)
+    (λ d. usage_for c.args.seat (get_or c.args.core.now.superblocks.items d no_superblock)) c.superblock_of-d.ensures)
     ∙ sym (split_count c.args.core.now core.setup core.state.views c.args.seat o.view c.index-notes.result.now core.stands.keeps below o.at at_t
     c.args.block holds) ∙ ap (λ n. span_count (superblock_at n c.args.block) o.view.large) (sym cap) in
     let some = holds.held in let f = (split_fits c.args.core.now c.args.seat c.args.block c.index-notes.result.now
     (core_of c.args.core.now c.requires.core) c.requires.seat (seat_is c.requires.seat (sym c.index-notes.ensures)) c.requires.held).range in
     let g = c.large_count-count.ensures ∙ ap count_in (c.usage.ensures
-    ∙ ap (λ n. usage_for c.args.seat (get_or c.args.core.now.superblocks.items ((c.args.block - n) / 8192) no_superblock)) c.start.ensures) in
-    let h = ap (λ n. (c.args.block - n) / 8192) c.start.ensures in let l = c.give_range.ensures.long in omega arith
+    ∙ ap (λ d. usage_for c.args.seat (get_or c.args.core.now.superblocks.items d no_superblock)) c.superblock_of-d.ensures) in
+    let h = c.superblock_of-d.ensures in let l = c.give_range.ensures.long in omega arith

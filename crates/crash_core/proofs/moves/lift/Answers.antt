@@ -1,4 +1,4 @@
-use Rattle.std.proofs.Common.{◌≡◌, ◌-◌, ◌/◌, get_or, refl, ap, sym, ◌∙◌, arith}
+use Rattle.std.proofs.Common.{◌≡◌, refl, sym, ◌∙◌, arith}
 use Rattle.heap_model.specs.Geometry.{largest_capacity_fits}
 use Rattle.seat_state.proofs.WordLemmas.{entry_is, entry_there}
 use Rattle.crash_core.proofs.MoveSteps.{alloc_fits, retold}
@@ -16,10 +16,10 @@ bounds-notes-class c = (alloc_fits c.args.core.now c.args.seat c.args.class c.in
     (seat_is c.requires.seat (sym c.index.ensures)) (lift_allocs c.args.core.now c.args.seat c.args.class c.index.result.now c.requires.seat
     (seat_is c.requires.seat (sym c.index.ensures)) c.requires.may)).last
 
-pub overflow_sub-d : goal.overflow_sub-d
-overflow_sub-d c = let f = (alloc_fits c.args.core.now c.args.seat c.args.class c.index.result.now c.requires.core c.requires.seat
+pub superblock_of-d-requires : goal.superblock_of-d-requires
+superblock_of-d-requires c = let f = (alloc_fits c.args.core.now c.args.seat c.args.class c.index.result.now c.requires.core c.requires.seat
     (seat_is c.requires.seat (sym c.index.ensures)) (lift_allocs c.args.core.now c.args.seat c.args.class c.index.result.now c.requires.seat
-    (seat_is c.requires.seat (sym c.index.ensures)) c.requires.may)).from in let e = c.start.ensures in omega arith
+    (seat_is c.requires.seat (sym c.index.ensures)) c.requires.may)).from in omega arith
 
 pub next-first-requires-clause-from : goal.next-first-requires-clause-from
 next-first-requires-clause-from c = (alloc_fits c.args.core.now c.args.seat c.args.class c.index.result.now c.requires.core c.requires.seat
@@ -63,6 +63,5 @@ returns c = λ k views v t keeps below at at_t.
     retold _ _ views c.args.seat c.index.result.now t _ same (lift c.args.core.now k views c.args.seat v c.index.result.now keeps below at
     (seat_is c.requires.seat (sym c.index.ensures)) c.args.class (lift_alloc c.args.core.now k views c.args.seat v c.index.result.now keeps
     below at (seat_is c.requires.seat (sym c.index.ensures)) c.args.class ((c.requires.may k views v keeps below at).0 refl))
-    c.next-first.result (((get_or c.index.result.now.caches c.args.class (record { first = 0; count = 0 })).first - c.start.result) / 8192)
-    c.first_with.result c.next-first.ensures (ap (λ n. ((get_or c.index.result.now.caches c.args.class
-    (record { first = 0; count = 0 })).first - n) / 8192) c.start.ensures) c.first_with.ensures)
+    c.next-first.result c.superblock_of-d.result
+    c.first_with.result c.next-first.ensures c.superblock_of-d.ensures c.first_with.ensures)

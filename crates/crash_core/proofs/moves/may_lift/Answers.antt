@@ -1,4 +1,4 @@
-use Rattle.std.proofs.Common.{◌-◌, ◌/◌, get_or, refl, ap, sym, true≢false, arith}
+use Rattle.std.proofs.Common.{refl, sym, true≢false, arith}
 use Rattle.seat_state.proofs.DecisionLemmas.{refused}
 use Rattle.seat_state.proofs.WordLemmas.{entry_there}
 use Rattle.crash_core.proofs.MoveSteps.{alloc_fits}
@@ -25,15 +25,15 @@ returns-then-not-notes c = λ k views v keeps below at. refused (lift_unlinked c
     below at (seat_is c.requires.seat (sym c.index.ensures)) c.args.class
     ((c.if-not-may_alloc.ensures k views v keeps below at).0 refl) c.if-notes-eq0.false c.if-not-notes.true)
 
-pub overflow_sub-d : goal.overflow_sub-d
-overflow_sub-d c = let f = (alloc_fits c.args.core.now c.args.seat c.args.class c.index.result.now c.requires.core c.requires.seat
-    (seat_is c.requires.seat (sym c.index.ensures)) c.if-not-may_alloc.ensures).from in let e = c.start.ensures in omega arith
+pub superblock_of-d-requires : goal.superblock_of-d-requires
+superblock_of-d-requires c = let f = (alloc_fits c.args.core.now c.args.seat c.args.class c.index.result.now c.requires.core c.requires.seat
+    (seat_is c.requires.seat (sym c.index.ensures)) c.if-not-may_alloc.ensures).from in omega arith
 
 pub returns-then-notes-d : goal.returns-then-notes-d
 returns-then-notes-d c = λ k views v keeps below at. refused (lift_apart c.args.core.now k views c.args.seat v c.index.result.now keeps below at
     (seat_is c.requires.seat (sym c.index.ensures)) c.args.class ((c.if-not-may_alloc.ensures k views v keeps below at).0 refl)
-    c.if-notes-eq0.false (((get_or c.index.result.now.caches c.args.class (record { first = 0; count = 0 })).first - c.start.result) / 8192)
-    (ap (λ n. ((get_or c.index.result.now.caches c.args.class (record { first = 0; count = 0 })).first - n) / 8192) c.start.ensures) c.if-notes-d.true)
+    c.if-notes-eq0.false c.superblock_of-d.result
+    c.superblock_of-d.ensures c.if-notes-d.true)
 
 pub next-requires-clause-from : goal.next-requires-clause-from
 next-requires-clause-from c = let r = c.requires.core in let b = among r.keeps c.requires.seat in
@@ -48,9 +48,8 @@ next-requires-clause-until c = let r = c.requires.core in let b = among r.keeps 
 pub returns : goal.returns
 returns c = λ k views v keeps below at. lift_behind c.args.core.now k views c.args.seat v c.index.result.now keeps below at
     (seat_is c.requires.seat (sym c.index.ensures)) c.args.class ((c.if-not-may_alloc.ensures k views v keeps below at).0 refl)
-    c.if-notes-eq0.false c.if-not-notes.false (((get_or c.index.result.now.caches c.args.class
-    (record { first = 0; count = 0 })).first - c.start.result) / 8192)
-    (ap (λ n. ((get_or c.index.result.now.caches c.args.class (record { first = 0; count = 0 })).first - n) / 8192) c.start.ensures)
+    c.if-notes-eq0.false c.if-not-notes.false c.superblock_of-d.result
+    c.superblock_of-d.ensures
     (let e = c.if-notes-d.false in omega arith) c.next.result c.next.ensures
 
 pub offset_bounds-notes-class : goal.offset_bounds-notes-class

@@ -1,4 +1,4 @@
-use Rattle.std.proofs.Common.{◌-◌, ◌/◌, ◌%◌, get_or, ap, sym, ◌∙◌, arith}
+use Rattle.std.proofs.Common.{◌-◌, ◌%◌, get_or, ap, sym, ◌∙◌, arith}
 use Rattle.seat_state.specs.Superblocks.{usage_for, no_superblock}
 use Rattle.seat_state.proofs.DecisionLemmas.{refused}
 use Rattle.seat_state.proofs.WordLemmas.{entry_there}
@@ -19,8 +19,8 @@ returns c = λ k views v keeps below at. split_there c.args.core.now k views c.a
     (let e = c.start-start.ensures in let f = c.if-block-start.false in omega arith)
     (let e = c.start-start.ensures in let f = c.if-block-start-ne0.false in
     ap (λ n. (c.args.block - n) % 8192) (sym e) ∙ f) c.usage.result c.large_count.result
-    (c.usage.ensures ∙ ap (λ n. usage_for c.args.seat (get_or c.args.core.now.superblocks.items ((c.args.block - n) / 8192) no_superblock))
-    c.start-start.ensures) c.large_count.ensures
+    (c.usage.ensures ∙ ap (λ d. usage_for c.args.seat (get_or c.args.core.now.superblocks.items d no_superblock)) c.superblock_of.ensures)
+    c.large_count.ensures
 
 pub returns-then-block-start-ne0 : goal.returns-then-block-start-ne0
 returns-then-block-start-ne0 c = λ k views v keeps below at. refused

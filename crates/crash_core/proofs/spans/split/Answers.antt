@@ -1,4 +1,4 @@
-use Rattle.std.proofs.Common.{◌≡◌, ◌-◌, ◌/◌, get_or, refl, ap, sym, subst, ◌∙◌, arith}
+use Rattle.std.proofs.Common.{◌≡◌, get_or, refl, ap, sym, subst, ◌∙◌, arith}
 use Rattle.seat_state.specs.declared.superblocks.SuperblockUsage.TheVariants as usage
 use Rattle.core_model.specs.Cells.{superblock_at}
 use Rattle.core_model.specs.Effects.{cleared, span_count}
@@ -10,9 +10,9 @@ use Rattle.crash_core.proofs.SplitSteps.{split, split_fits, split_count}
 use Rattle.crash_core.proofs.spans.split.Goals as goal
 use Rattle.crash_core.proofs.StandingLemmas.{seat_is}
 
-pub overflow_sub-d : goal.overflow_sub-d
-overflow_sub-d c = let f = (split_fits c.args.core.now c.args.seat c.args.block c.index-notes.result.now c.requires.core c.requires.seat
-    (seat_is c.requires.seat (sym c.index-notes.ensures)) c.requires.may).from in let e = c.start.ensures in omega arith
+pub superblock_of-d-requires : goal.superblock_of-d-requires
+superblock_of-d-requires c = let f = (split_fits c.args.core.now c.args.seat c.args.block c.index-notes.result.now c.requires.core c.requires.seat
+    (seat_is c.requires.seat (sym c.index-notes.ensures)) c.requires.may).from in omega arith
 
 pub returns : goal.returns
 returns c = λ k views v t keeps below at at_t.
@@ -21,20 +21,20 @@ returns c = λ k views v t keeps below at at_t.
     let may = (c.requires.may k views v keeps below at).0 refl in
     let count : c.large_count-count.result ≡ span_count (superblock_at c.args.core.now.geometry.capacity c.args.block) v.large =
     c.large_count-count.ensures ∙ ap count_in (c.usage.ensures ∙ ap
-    (λ n. usage_for c.args.seat (get_or c.args.core.now.superblocks.items ((c.args.block - n) / 8192) no_superblock)) c.start.ensures)
+    (λ d. usage_for c.args.seat (get_or c.args.core.now.superblocks.items d no_superblock)) c.superblock_of-d.ensures)
     ∙ sym (split_count c.args.core.now k views c.args.seat v c.index-notes.result.now keeps below at
     (seat_is c.requires.seat (sym c.index-notes.ensures)) c.args.block may) in
     retold _ _ views c.args.seat c.index-notes.result.now t _ same
     (split c.args.core.now k views c.args.seat v c.index-notes.result.now keeps below at
     (seat_is c.requires.seat (sym c.index-notes.ensures)) c.args.block may c.large_count-count.result count c.give_range.new.owners c.cleared.result
-    (subst (λ n. IsRange c.args.core.now.superblocks.items c.give_range.new.owners.items ((c.args.block - n) / 8192) c.large_count-count.result
-    (record { seat = c.args.seat; usage = usage.Split })) c.start.ensures c.give_range.ensures)
-    (c.cleared.ensures ∙ ap (λ n. cleared ((c.args.block - n) / 8192) c.large_count-count.result
-    (snapshot c.index-notes.result.now.seen_anchor)) c.start.ensures))
+    (subst (λ d. IsRange c.args.core.now.superblocks.items c.give_range.new.owners.items d c.large_count-count.result
+    (record { seat = c.args.seat; usage = usage.Split })) c.superblock_of-d.ensures c.give_range.ensures)
+    (c.cleared.ensures ∙ ap (λ d. cleared d c.large_count-count.result
+    (snapshot c.index-notes.result.now.seen_anchor)) c.superblock_of-d.ensures))
 
 pub give_range-requires : goal.give_range-requires
 give_range-requires c = let f = (split_fits c.args.core.now c.args.seat c.args.block c.index-notes.result.now c.requires.core c.requires.seat
-    (seat_is c.requires.seat (sym c.index-notes.ensures)) c.requires.may).range in let e = c.start.ensures in
+    (seat_is c.requires.seat (sym c.index-notes.ensures)) c.requires.may).range in let e = c.superblock_of-d.ensures in
     let g = c.large_count-count.ensures ∙ ap count_in (c.usage.ensures
-    ∙ ap (λ n. usage_for c.args.seat (get_or c.args.core.now.superblocks.items ((c.args.block - n) / 8192) no_superblock)) c.start.ensures) in
-    let h = ap (λ n. (c.args.block - n) / 8192) c.start.ensures in omega arith
+    ∙ ap (λ d. usage_for c.args.seat (get_or c.args.core.now.superblocks.items d no_superblock)) c.superblock_of-d.ensures) in
+    let h = c.superblock_of-d.ensures in omega arith
