@@ -1,8 +1,7 @@
 -- What a view shows for a shift is shown after a word was settled too: what was recorded of it is what loads see.
-use Rattle.std.proofs.Common.{◌≡◌, ◌≢◌, ℕ, ◌<◌, inl, inr, true, Option, Some, None, List, [], ◌∷◌, get_or, set, length, refl, ap, sym, subst, ◌∙◌, lt-ltb, eq-eqb, ◌/◌, ◌%◌, slice_get, if◌then◌else◌, arith}
+use Rattle.std.proofs.Common.{◌≡◌, ℕ, ◌<◌, inl, inr, true, Option, Some, None, List, [], ◌∷◌, get_or, set, length, refl, ap, sym, subst, ◌∙◌, lt-ltb, arith}
 use Rattle.std.proofs.lemmas.Bool.{cases_eq}
 use Rattle.std.proofs.lemmas.List.{get_or-set_same, get_or-set_other}
-use Rattle.line_memory.specs.Steps.{early_word}
 use Rattle.core_model.specs.declared.event.Event.TheVariants.{Tick, Settle}
 use Rattle.core_model.specs.declared.event.Shift.{Shift}
 use Rattle.core_model.specs.declared.event.Shift.TheVariants.{Cut, Alloc, Free, Lift, Large, Split}
@@ -138,8 +137,3 @@ early_can r v w shift (a_store word is settles keeps) can = own_can word v w shi
 pub early_going : (r : ℕ) (v w : SeatView) → SettlesEarly r v w → w.view.stopped ≡ v.view.stopped
 early_going r v w (no_store none same) = ap (λ (u : SeatView). u.view.stopped) same
 early_going r v w (a_store word is settles keeps) = own_going word v w settles
-
--- an odd number names a store
-pub early_is : (r : ℕ) (recent : List ℕ) (word : Option ℕ) → r % 2 ≢ 0 → slice_get recent (r / 2 % 16) ≡ word → early_word r recent ≡ word
-early_is r recent word odd is = ap (λ b. if b then slice_get recent (r / 2 % 16) else None) (let one : r % 2 ≡ 1 = omega arith in
-    eq-eqb (r % 2) 1 one) ∙ is

@@ -50,12 +50,8 @@ impl Seat {
         ensures stores { KeepsStores self.old self.new }
         ensures seat { IsSeatOf shared.now self.new }
     {
-        if number % 2 == 0 {
-            return;
+        if let Some(word) = self.recent.early_word(number) {
+            self.settle_own(shared, word);
         }
-        let Some(word) = self.recent.get((number / 2 % 16) as usize) else {
-            return;
-        };
-        self.settle_own(shared, word);
     }
 }

@@ -14,7 +14,7 @@ use crate::carrier::Carrier;
 use crate::owned::Holding;
 use crate::seat::Seat;
 use heap_table::{Shared, accept, offer};
-use super_block::{Block, SUPERBLOCK_WORDS};
+use super_block::Block;
 
 impl Seat {
     /// Gives a held block to a carrier.
@@ -72,7 +72,7 @@ impl Seat {
         requires held { IsHeld self.now.view block }
         ensures { Holds self.now.view block result }
     {
-        let d = (block.first_word - self.geometry.start(0)) / SUPERBLOCK_WORDS;
+        let d = self.geometry.superblock_of(block.first_word);
         let n = self.owned.ownerships[d as usize].count();
         if n > 0 {
             return Holding::Large { d, n };

@@ -7,7 +7,7 @@ ghost use Rattle.heap_rule.specs.Changed.{CanNote, CanUncache, IsNoted, IsUncach
 use crate::owned::Change;
 use seat_state::{BatchEnds, Cache, SeatNotes, Seen};
 use size_table::blocks_of;
-use super_block::{Geometry, SUPERBLOCK_WORDS};
+use super_block::Geometry;
 
 /// Notes the change.
 pub(crate) fn note(notes: &mut SeatNotes, geometry: Geometry, change: Change)
@@ -30,7 +30,7 @@ pub(crate) fn note(notes: &mut SeatNotes, geometry: Geometry, change: Change)
         } => {
             uncache(notes, class, first);
             notes.batch = BatchEnds {
-                descriptor: (block - geometry.start(0)) / SUPERBLOCK_WORDS,
+                descriptor: geometry.superblock_of(block),
                 class,
                 first: notes.batch.first_with(block),
                 last: block,

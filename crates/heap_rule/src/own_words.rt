@@ -37,7 +37,7 @@ impl Seat {
         requires until { word < superblocks_end self.now.view.setup.capacity }
         ensures { (result ≡ true) ↔ IsOwn self.now.view (data_cell word) }
     {
-        let d = (word - self.geometry.start(0)) / SUPERBLOCK_WORDS;
+        let d = self.geometry.superblock_of(word);
         if self.owned.ownerships[d as usize].has_words() {
             return true;
         }
@@ -75,7 +75,7 @@ impl Seat {
         ensures { (b : Block) → IsHeld self.now.view b → first_word ≡ b.first_word
             → b.words ≡ result }
     {
-        let d = (first_word - self.geometry.start(0)) / SUPERBLOCK_WORDS;
+        let d = self.geometry.superblock_of(first_word);
         let count = self.owned.ownerships[d as usize].count();
         if count > 0 {
             return SUPERBLOCK_WORDS * count;

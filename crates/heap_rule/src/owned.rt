@@ -14,7 +14,7 @@ ghost use Rattle.heap_rule.specs.declared.owned.Change.TheVariants as change;
 use crate::stacks::Stack;
 use bit_marks::BitMarks;
 use size_table::SizeClass;
-use super_block::{Block, Geometry, SUPERBLOCK_WORDS, block_words};
+use super_block::{Block, FREE_LIST, Geometry, SUPERBLOCK_WORDS, block_words};
 
 /// The most blocks of a superblock: each has two words at least.
 pub(crate) const MOST_BLOCKS: usize = SUPERBLOCK_WORDS as usize / 2;
@@ -104,7 +104,7 @@ impl Ownership {
     pub(crate) fn listed(list: u64) -> Ownership
         ensures { result ≡ listed list }
     {
-        if list == 0 {
+        if list == FREE_LIST {
             Ownership::Unclassed
         } else {
             Ownership::Classed { class: list }
@@ -222,7 +222,7 @@ impl Owned {
         requires { CanGainSmall block geometry.capacity self.old }
         ensures { HasGained block (holding.Small class) geometry.capacity self.old self.new }
     {
-        let d = (block.first_word - geometry.start(0)) / SUPERBLOCK_WORDS;
+        let d = geometry.superblock_of(block.first_word);
         self.blocks.set(block.first_word);
         self.classes[d as usize] = class;
     }

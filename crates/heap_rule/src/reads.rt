@@ -10,7 +10,6 @@ ghost use Rattle.heap_rule.specs.Shown.{CanFree, CanCut};
 use crate::seat::Seat;
 use heap_table::{Shared, read};
 use size_table::SizeClass;
-use super_block::SUPERBLOCK_WORDS;
 
 impl Seat {
     /// The class of a superblock that is claimed with a class.
@@ -46,7 +45,7 @@ impl Seat {
         requires can { CanFree self.now.view block }
         ensures class { (can : CanFree self.now.view block) → result.number ≡ can.class }
     {
-        let d = (block - self.geometry.start(0)) / SUPERBLOCK_WORDS;
+        let d = self.geometry.superblock_of(block);
         let class = self.owned.classes[d as usize];
         SizeClass::new(class as u8)
     }

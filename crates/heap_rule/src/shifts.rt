@@ -11,7 +11,6 @@ use crate::owned::Change;
 use crate::seat::Seat;
 use core_model::Shift;
 use heap_table::Shared;
-use super_block::SUPERBLOCK_WORDS;
 
 impl Seat {
     /// The first block of the cache is held.
@@ -62,7 +61,7 @@ impl Seat {
         ensures notes { FitsNotes result self.now.view (Some (Split block)) }
         ensures change { FitsChange result self.now.view (Some (Split block)) }
     {
-        let d = (block - self.geometry.start(0)) / SUPERBLOCK_WORDS;
+        let d = self.geometry.superblock_of(block);
         let n = self.span_length(d);
         Change::Split { d, n }
     }

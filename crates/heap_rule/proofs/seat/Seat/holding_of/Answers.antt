@@ -13,25 +13,23 @@ use Rattle.heap_rule.proofs.HandedSeats.{is_large, is_small}
 use Rattle.heap_rule.proofs.OwnedReads.{block_there}
 use Rattle.heap_rule.proofs.seat.Seat.holding_of.Goals as goal
 
-pub overflow_sub-d : goal.overflow_sub-d
-overflow_sub-d c = let v = view_in c.self.inside.table_seat.me.0 in
+pub superblock_of-d-requires : goal.superblock_of-d-requires
+superblock_of-d-requires c = let v = view_in c.self.inside.table_seat.me.0 in
     let held = subst (λ (s : SeatView). IsHeld s.view c.args.block) (sym c.self.view_is) c.requires.held in
-    let d = (c.args.block.first_word - c.start.result) / 8192 in
-    let d_is : d ≡ superblock_at v.setup.capacity c.args.block.first_word =
-    ap (λ n. (c.args.block.first_word - n) / 8192) (c.start.ensures ∙ ap (λ n. start_word n 0) c.self.invariant.seat.capacity_is) in
+    let d = superblock_at v.setup.capacity c.args.block.first_word in
     let h = block_there v c.self.invariant.seat.kept.has c.self.inside.owned c.self.invariant.own c.args.block d
     (count_in (get_or c.self.inside.owned.ownerships.items d ownership.Nothing))
-    (get_or c.self.inside.owned.ownerships.items d ownership.Nothing) held d_is
+    (get_or c.self.inside.owned.ownerships.items d ownership.Nothing) held refl
     (λ less. entry_is c.self.inside.owned.ownerships.items d ownership.Nothing (get_or c.self.inside.owned.ownerships.items d ownership.Nothing)
     (let l = c.self.invariant.own.ownerships_long in omega arith)) refl in
-    let f = h.from in let e = c.start.ensures in let k = c.self.invariant.seat.capacity_is in omega arith
+    let f = h.from in let k = c.self.invariant.seat.capacity_is in omega arith
 
 pub index-requires : goal.index-requires
 index-requires c = let v = view_in c.self.inside.table_seat.me.0 in
     let held = subst (λ (s : SeatView). IsHeld s.view c.args.block) (sym c.self.view_is) c.requires.held in
-    let d = (c.args.block.first_word - c.start.result) / 8192 in
+    let d = c.superblock_of-d.result in
     let d_is : d ≡ superblock_at v.setup.capacity c.args.block.first_word =
-    ap (λ n. (c.args.block.first_word - n) / 8192) (c.start.ensures ∙ ap (λ n. start_word n 0) c.self.invariant.seat.capacity_is) in
+    c.superblock_of-d.ensures ∙ ap (λ n. (c.args.block.first_word - start_word n 0) / 8192) c.self.invariant.seat.capacity_is in
     let h = block_there v c.self.invariant.seat.kept.has c.self.inside.owned c.self.invariant.own c.args.block d
     (count_in (get_or c.self.inside.owned.ownerships.items d ownership.Nothing))
     (get_or c.self.inside.owned.ownerships.items d ownership.Nothing) held d_is
@@ -42,9 +40,9 @@ index-requires c = let v = view_in c.self.inside.table_seat.me.0 in
 pub returns-then-n-gt0 : goal.returns-then-n-gt0
 returns-then-n-gt0 c = let v = view_in c.self.inside.table_seat.me.0 in
     let held = subst (λ (s : SeatView). IsHeld s.view c.args.block) (sym c.self.view_is) c.requires.held in
-    let d = (c.args.block.first_word - c.start.result) / 8192 in
+    let d = c.superblock_of-d.result in
     let d_is : d ≡ superblock_at v.setup.capacity c.args.block.first_word =
-    ap (λ n. (c.args.block.first_word - n) / 8192) (c.start.ensures ∙ ap (λ n. start_word n 0) c.self.invariant.seat.capacity_is) in
+    c.superblock_of-d.ensures ∙ ap (λ n. (c.args.block.first_word - start_word n 0) / 8192) c.self.invariant.seat.capacity_is in
     subst (λ (s : SeatView). Holds s.view c.args.block (holding.Large d c.count-n.result)) c.self.view_is
     (is_large v c.self.invariant.seat.kept.has c.self.inside.owned c.self.invariant.own c.args.block d c.count-n.result c.index.result.now held
     d_is (λ less. c.index.ensures) c.count-n.ensures (let t = c.if-n-gt0.true in omega arith))
@@ -52,9 +50,9 @@ returns-then-n-gt0 c = let v = view_in c.self.inside.table_seat.me.0 in
 pub index-class-requires : goal.index-class-requires
 index-class-requires c = let v = view_in c.self.inside.table_seat.me.0 in
     let held = subst (λ (s : SeatView). IsHeld s.view c.args.block) (sym c.self.view_is) c.requires.held in
-    let d = (c.args.block.first_word - c.start.result) / 8192 in
+    let d = c.superblock_of-d.result in
     let d_is : d ≡ superblock_at v.setup.capacity c.args.block.first_word =
-    ap (λ n. (c.args.block.first_word - n) / 8192) (c.start.ensures ∙ ap (λ n. start_word n 0) c.self.invariant.seat.capacity_is) in
+    c.superblock_of-d.ensures ∙ ap (λ n. (c.args.block.first_word - start_word n 0) / 8192) c.self.invariant.seat.capacity_is in
     let h = block_there v c.self.invariant.seat.kept.has c.self.inside.owned c.self.invariant.own c.args.block d
     (count_in (get_or c.self.inside.owned.ownerships.items d ownership.Nothing))
     (get_or c.self.inside.owned.ownerships.items d ownership.Nothing) held d_is
@@ -65,9 +63,9 @@ index-class-requires c = let v = view_in c.self.inside.table_seat.me.0 in
 pub returns : goal.returns
 returns c = let v = view_in c.self.inside.table_seat.me.0 in let held =
     subst (λ (s : SeatView). IsHeld s.view c.args.block) (sym c.self.view_is) c.requires.held in
-    let d = (c.args.block.first_word - c.start.result) / 8192 in
+    let d = c.superblock_of-d.result in
     let d_is : d ≡ superblock_at v.setup.capacity c.args.block.first_word =
-    ap (λ n. (c.args.block.first_word - n) / 8192) (c.start.ensures ∙ ap (λ n. start_word n 0) c.self.invariant.seat.capacity_is) in
+    c.superblock_of-d.ensures ∙ ap (λ n. (c.args.block.first_word - start_word n 0) / 8192) c.self.invariant.seat.capacity_is in
     subst (λ (s : SeatView). Holds s.view c.args.block (holding.Small c.index-class.result.now)) c.self.view_is
     (is_small v c.self.invariant.seat.kept.has c.self.inside.owned c.self.invariant.own c.args.block d c.count-n.result c.index-class.result.now
     c.index.result.now held d_is (λ less. c.index.ensures) c.count-n.ensures (let t = c.if-n-gt0.false in omega arith)
