@@ -8,7 +8,7 @@ use heap_model::Block;
 use heap_seat::Looks;
 use line_memory::{Chance, Stopped};
 use size_table::{SizeClass, span_of};
-use super_block::WORD_BYTES;
+use super_block::{FREE_LIST, WORD_BYTES};
 
 /// How many bytes a request asks for, and the class that serves it, if one does.
 #[derive(Clone, Copy)]
@@ -149,7 +149,7 @@ impl<C: Chance> Arena<C> {
         match SizeClass::for_bytes(bytes) {
             Some(class) => Looks {
                 class_head: self.head_looks[class.number as usize].seen,
-                free_head: self.head_looks[0].seen,
+                free_head: self.head_looks[FREE_LIST as usize].seen,
                 used: self.used_look.seen,
             },
             None => Looks {

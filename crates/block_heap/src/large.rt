@@ -3,7 +3,7 @@ use crate::arena::Arena;
 use heap_model::Block;
 use heap_seat::Look;
 use line_memory::{Chance, Stopped};
-use super_block::SUPERBLOCK_WORDS;
+use super_block::{FREE_LIST, SUPERBLOCK_WORDS};
 
 impl<C: Chance> Arena<C> {
     ghost use Rattle.std.specs.Prelude.{◌≡◌, ◌≢◌, ℕ, ◌+◌, ◌*◌, ◌<◌, ◌≤◌, Contains, IfOk, OnOk, IfErr, OnErr, None};
@@ -74,7 +74,7 @@ impl<C: Chance> Arena<C> {
             → AreAccounted (parts_of self.new)) }
     {
         self.held.remove(b.first_word);
-        let first = self.superblock_of(b.first_word);
+        let first = self.geometry.superblock_of(b.first_word);
         for d in first..first + b.words / SUPERBLOCK_WORDS {
             self.split(d)?;
         }
@@ -103,6 +103,6 @@ impl<C: Chance> Arena<C> {
         ensures taken { (parts_of self.new).taken ≡ (parts_of self.old).taken }
     {
         self.medium.store(self.geometry.anchor(d), 0)?;
-        self.medium.push(self.geometry, 0, d)
+        self.medium.push(self.geometry, FREE_LIST, d)
     }
 }

@@ -4,7 +4,7 @@ use crate::cache::Cache;
 use heap_seat::Look;
 use line_memory::{Chance, Stopped};
 use size_table::{SizeClass, blocks_of};
-use super_block::block_words;
+use super_block::{FREE_LIST, block_words};
 
 /// What was found first in the list of a class.
 #[derive(Clone, Copy)]
@@ -125,7 +125,7 @@ impl<C: Chance> Arena<C> {
             self.caches[class.number as usize] = cache;
             return Ok(Found::Blocks);
         }
-        self.medium.push(self.geometry, 0, d)?;
+        self.medium.push(self.geometry, FREE_LIST, d)?;
         Ok(Found::Recycled)
     }
 
@@ -151,8 +151,8 @@ impl<C: Chance> Arena<C> {
         ensures taken { (parts_of self.new).taken ≡ (parts_of self.old).taken }
     {
         let ticket = self.medium.next_ticket();
-        let popped = self.medium.pop(self.geometry, 0)?;
-        self.head_looks[0] = Look::by(popped.head, ticket, self.taken);
+        let popped = self.medium.pop(self.geometry, FREE_LIST)?;
+        self.head_looks[FREE_LIST as usize] = Look::by(popped.head, ticket, self.taken);
         let Some(d) = popped.first else {
             return Ok(false);
         };

@@ -7,7 +7,7 @@ use anchor_word::State;
 use heap_model::Block;
 use line_memory::{Chance, Stopped};
 use size_table::{SizeClass, blocks_of};
-use super_block::{SUPERBLOCK_WORDS, block_words};
+use super_block::{FREE_LIST, block_words};
 
 /// A prefix of a cache, whose blocks lie in superblock `d`, and the cache behind it.
 #[derive(Clone, Copy)]
@@ -18,8 +18,7 @@ pub(crate) struct CachePrefix {
 }
 
 impl<C: Chance> Arena<C> {
-    ghost use Rattle.std.specs.Prelude.{◌≡◌, ◌<◌, ◌≤◌, ◌+◌, ◌-◌, ◌*◌, ◌/◌, Contains, IfOk, OnOk, IfErr, OnErr};
-    ghost use Rattle.heap_model.specs.Geometry.{superblock_words, start_word};
+    ghost use Rattle.std.specs.Prelude.{◌≡◌, ◌<◌, ◌≤◌, ◌+◌, ◌-◌, ◌*◌, Contains, IfOk, OnOk, IfErr, OnErr};
     ghost use Rattle.heap_model.specs.Sizes.{words_of_class};
     ghost use Rattle.heap_shape.specs.Moves.{TakesFrom};
     ghost use Rattle.block_heap.specs.Accounts.{AreAccounted};
@@ -143,11 +142,11 @@ impl<C: Chance> Arena<C> {
         ensures taken { (parts_of self.new).taken ≡ (parts_of self.old).taken }
     {
         let cache = self.caches[class.number as usize];
-        let d = self.superblock_of(cache.first);
+        let d = self.geometry.superblock_of(cache.first);
         let mut last = cache.first;
         let mut next = self.medium.load(last)?;
         let mut count = 1;
-        while count < cache.count && self.superblock_of(next) == d {
+        while count < cache.count && self.geometry.superblock_of(next) == d {
             last = next;
             next = self.medium.load(last)?;
             count += 1;
@@ -194,18 +193,9 @@ impl<C: Chance> Arena<C> {
         self.caches[class.number as usize] = prefix.rest;
         if anchor.state == State::Full {
             let all = prefix.batch.count == blocks_of(class.number);
-            let list = if all { 0 } else { class.number as u64 };
+            let list = if all { FREE_LIST } else { class.number as u64 };
             self.medium.push(self.geometry, list, prefix.d)?;
         }
         Ok(())
-    }
-
-    /// The superblock that has the word.
-    pub(crate) fn superblock_of(&self, word: u64) -> u64
-        requires { start_word (parts_of self.now).capacity 0 ≤ word }
-        ensures { result ≡ (word - start_word (parts_of self.now).capacity 0)
-            / superblock_words }
-    {
-        (word - self.geometry.start(0)) / SUPERBLOCK_WORDS
     }
 }
