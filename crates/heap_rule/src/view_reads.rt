@@ -3,11 +3,11 @@
 ghost use Rattle.std.specs.Prelude.{◌≡◌, ◌<◌, ◌^◌, length, None};
 ghost use Rattle.core_model.specs.Effects.{first_of};
 ghost use Rattle.core_model.specs.View.{of_class};
-ghost use Rattle.heap_table.specs.Plays.{HasSoundState};
+ghost use Rattle.heap_table.specs.Plays.{HasReached, HasSoundState};
 ghost use Rattle.heap_rule.specs.Seated.{IsSeatOf};
 
 use crate::seat::Seat;
-use heap_table::Shared;
+use heap_table::{Shared, recall};
 use size_table::SizeClass;
 
 impl Seat {
@@ -16,6 +16,16 @@ impl Seat {
         ensures { HasSoundState self.now.view }
     {
         let _opened = self.geometry;
+    }
+
+    /// Tells that the opened heap came to a state in which the seat has its view. It reads one word,
+    /// draws no ticket, and changes nothing.
+    pub fn recall(&mut self, shared: &Shared)
+        requires seat { IsSeatOf shared.now self.old }
+        ensures same { self.new ≡ self.old }
+        ensures reached { HasReached shared.now.opening self.old.view }
+    {
+        recall(shared, &mut self.table_seat);
     }
 
     /// The budget is below 2^40, so counts of tickets fit a `u64`.

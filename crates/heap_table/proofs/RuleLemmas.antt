@@ -22,7 +22,7 @@ use Rattle.seat_state.proofs.WordLemmas.{read_is}
 use Rattle.heap_table.specs.SeatViews.{SeatViews, IsSingle, all_views}
 use Rattle.heap_table.specs.Reached.{IsReached, by_event, by_record, learned}
 use Rattle.heap_table.specs.Rule.{Opening, HasAllSeats, Holds, setup_for, state_of}
-use Rattle.heap_table.specs.Plays.{HasSoundState, IsStepAt, Did, DidFind, DidStore, DidRead, DidLearn, DidLearnOwn, May, stored, may_not, another, own_word, no_own_word}
+use Rattle.heap_table.specs.Plays.{HasSoundState, IsStepAt, Did, DidFind, DidStore, DidRead, DidRecall, DidLearn, DidLearnOwn, May, stored, may_not, another, own_word, no_own_word}
 use Rattle.heap_table.proofs.ReachedLemmas.{recorded_sound}
 use Rattle.heap_table.proofs.SeatViewsLemmas.{offset, offset_below, at_offset, set_offset}
 
@@ -142,6 +142,33 @@ allowed_read o count id group slots v place single setup seat s holds none at fi
         single = single;
         has = state_with o s.words s.views id group v setup seat holds at single;
         found_is = refl;
+      },
+    )
+
+-- a read that tells what the heap came to
+pub allowed_recall : (o : Opening) (count id : ℕ) (group : SeatViews) (slots : List (ℕ × ℕ)) (v : View) (place : ℕ) → IsSingle group v
+    → v.carries ≡ 0
+    → Allows (Holds o) count id (group, slots) place (λ n. n) (λ found after. DidRecall o (group, slots) after)
+allowed_recall o count id group slots v place single seat s holds none at fits =
+    let r = allowed_load o count id group slots place s holds none at fits in (
+      r.0,
+      r.1,
+      r.2,
+      r.3,
+      record {
+        same = r.4;
+        view = v;
+        single = single;
+        has = record {
+          words = s.words;
+          views = all_views s.views;
+          seat = offset id s.views;
+          reached = holds.reached;
+          counted = holds.counted;
+          is_seat = seat;
+          below = offset_below s.views id group v at single;
+          at = at_offset s.views id group v at single;
+        };
       },
     )
 

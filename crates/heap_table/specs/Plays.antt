@@ -10,9 +10,9 @@ use Rattle.core_model.specs.Cells.{cell_at}
 use Rattle.core_model.specs.Guards.{IsOwn, MayStep}
 use Rattle.core_model.specs.Sound.{Sound}
 use Rattle.core_model.specs.Steps.{TableState, found_by, words_after}
-use Rattle.heap_table.specs.Reached.{learned}
+use Rattle.heap_table.specs.Reached.{IsReached, learned}
 use Rattle.heap_table.specs.SeatViews.{SeatViews, IsSingle, all_views}
-use Rattle.heap_table.specs.Rule.{Opening, HasAllSeats, setup_for}
+use Rattle.heap_table.specs.Rule.{Opening, HasAllSeats, setup_for, state_of}
 
 -- a sound state of all seats that the heap was opened for, and of carriers, in which one of the seats has the view
 pub record HasSoundState (v : View) : Type 0 where
@@ -74,6 +74,24 @@ pub record DidRead (place : ℕ) (me : Me ℕ SeatViews) (found : ℕ) (me' : Me
   pub single : IsSingle me.0 view
   pub has : HasSoundState view
   pub found_is : found ≡ get_or has.words place 0
+
+-- what the opened heap came to, where one of its seats has the view
+pub record HasReached (o : Opening) (v : View) : Type 0 where
+  pub words : List ℕ
+  pub views : List View
+  pub seat : ℕ
+  pub reached : IsReached (setup_for o) (state_of o) words views
+  pub counted : AreSeatsAndCarriers (setup_for o) views
+  pub is_seat : v.carries ≡ 0
+  pub below : seat < length views
+  pub at : get_or views seat v ≡ v
+
+-- a word is read, and the seat is told that its view is one that the heap came to
+pub record DidRecall (o : Opening) (me me' : Me ℕ SeatViews) : Type 0 where
+  pub same : me' ≡ me
+  pub view : View
+  pub single : IsSingle me.0 view
+  pub has : HasReached o view
 
 -- an own word is read, in some sound state in which the seat has its view, and recorded in it
 pub record DidLearn (word : ℕ) (me : Me ℕ SeatViews) (found : ℕ) (me' : Me ℕ SeatViews) : Type 0 where

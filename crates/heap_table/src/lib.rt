@@ -22,4 +22,4 @@ pub use opening::{open_table, split_first};
 pub use pairs::read_both;
 pub use rule::{Known, TableSeat};
 pub use shared::Shared;
-pub use steps::{draw, exchange, learn, learn_own, look, raise, read, stands, store};
+pub use steps::{draw, exchange, learn, learn_own, look, raise, read, recall, stands, store};

@@ -6,7 +6,7 @@ ghost use Rattle.core_model.specs.Cells.{cell_at};
 ghost use Rattle.core_model.specs.Guards.{IsOwn};
 ghost use Rattle.core_model.specs.View.{View};
 ghost use Rattle.heap_table.specs.SeatViews.{IsSingle};
-ghost use Rattle.heap_table.specs.Plays.{Did, DidFind, DidStore, DidRead, DidLearn, IsStepAt, May};
+ghost use Rattle.heap_table.specs.Plays.{Did, DidFind, DidStore, DidRead, DidRecall, DidLearn, IsStepAt, May};
 ghost use Rattle.heap_table.specs.Rule.{setup_for};
 
 use crate::rule::{Known, TableSeat, Words};
@@ -68,6 +68,50 @@ pub(crate) fn read_as(shared: &Words, seat: &mut TableSeat, place: usize) -> u64
     ensures table { seat.new.table_id ≡ seat.old.table_id }
 {
     shared.load::<Reads>(seat, place)
+}
+
+/// An opening, for the proof alone.
+pub trait ProofOpening {
+    ghost use Rattle.heap_table.specs.Rule.{Opening};
+
+    ghost opening: { Opening };
+}
+
+impl ProofOpening for Brand {
+    ghost use Rattle.std.specs.Prelude.{[]};
+
+    ghost opening = { record {
+      words = [];
+      held = [];
+      block_owners = [];
+      root_owners = [];
+      seats = 0;
+      budget = 0;
+    } };
+}
+
+/// What a read tells its caller of the heap: that it came to a state in which the seat has its
+/// view.
+pub struct Recalls<J: ProofOpening> {
+    marker: PhantomData<J>,
+}
+
+impl<J: ProofOpening> Play<u8, Known> for Recalls<J> {
+    ghost use Rattle.heap_table.specs.Plays.{DidRecall};
+
+    ghost then = { λ _ me _ after. DidRecall J.opening me after };
+}
+
+/// Reads a word, and changes nothing.
+pub(crate) fn recall_as<J: ProofOpening>(shared: &Words, seat: &mut TableSeat)
+    requires table { seat.old.table_id ≡ shared.now.table_id }
+    requires told { J.opening ≡ shared.now.key }
+    requires inside { 0 < shared.now.table_id.words }
+    requires single { (v : View) × IsSingle seat.old.me.0 v × (v.carries ≡ 0) }
+    ensures did { DidRecall shared.now.key seat.old.me seat.new.me }
+    ensures table { seat.new.table_id ≡ seat.old.table_id }
+{
+    shared.load::<Recalls<J>>(seat, 0);
 }
 
 /// What a read that is recorded tells its caller.

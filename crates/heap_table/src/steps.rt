@@ -6,12 +6,14 @@ ghost use Rattle.core_model.specs.Effects.{place_of};
 ghost use Rattle.core_model.specs.Guards.{IsOwn};
 ghost use Rattle.core_model.specs.Memory.{table_index, table_length};
 ghost use Rattle.heap_table.specs.SeatViews.{view_in};
-ghost use Rattle.heap_table.specs.Plays.{HasSoundState, IsEvent, May};
+ghost use Rattle.heap_table.specs.Plays.{HasReached, HasSoundState, IsEvent, May};
 ghost use Rattle.heap_table.specs.Reached.{learned};
 ghost use Rattle.heap_table.specs.AtTable.{IsAt, IsLook, IsDraw, IsRaise, IsExchange, IsStore, LearnsOwn, MayPut, DoesIfMay};
 
 use crate::plays;
-use crate::plays::{draw_as, exchange_as, find_as, learn_as, load_as, raise_as, read_as, store_as};
+use crate::plays::{
+    draw_as, exchange_as, find_as, learn_as, load_as, raise_as, read_as, recall_as, store_as,
+};
 use crate::rule::TableSeat;
 use crate::shared::Shared;
 use core_model::Event;
@@ -27,6 +29,17 @@ pub fn read(shared: &Shared, seat: &mut TableSeat, place: u64) -> u64
         × (result ≡ get_or s.words place 0) }
 {
     read_as(&shared.table.shared, seat, place as usize)
+}
+
+/// Tells that the opened heap came to a state in which the seat has its view. It changes nothing,
+/// and draws no ticket.
+pub fn recall(shared: &Shared, seat: &mut TableSeat)
+    requires at { IsAt shared.now seat.old.table_id seat.old.me (view_in seat.old.me.0) }
+    ensures same { seat.new.me ≡ seat.old.me }
+    ensures table { seat.new.table_id ≡ seat.old.table_id }
+    ensures reached { HasReached shared.now.opening (view_in seat.old.me.0) }
+{
+    recall_as::<Brand>(&shared.table.shared, seat);
 }
 
 /// Reads a word of the seat's own, and records it in its view.
