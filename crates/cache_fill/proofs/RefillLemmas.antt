@@ -138,12 +138,13 @@ module _ (v t : View) (class d : ℕ) (is : IsClass class) (popped : HasPopped c
   pub popped_uncached : of_class v.caches class ≡ [] → of_class t.caches class ≡ []
   popped_uncached none = ap (λ (p : Parts). of_class p.caches class) added ∙ none
 
-  pub taken_fills : (x : View) → HasTakenFree d class t x → HasFilled class v x
-  taken_fills x taken = record {
+  pub taken_fills : (x : View) → x.cuts ≤ v.cuts → HasTakenFree d class t x → HasFilled class v x
+  taken_fills x uncut taken = record {
     going = taken.going;
     blocks = taken.blocks;
     some = taken.some;
     most = let f = taken.few in omega arith;
+    whole = λ rose. absurd (omega (arith, uncut, rose));
     parts_are = taken.parts_are ∙ ap (with_taken d class taken.blocks) added ∙ added_off v d class (set v.caches class taken.blocks);
   }
 
@@ -218,18 +219,19 @@ filling_on v t w filling moved = record {
 pub filling_less : (t w : View) → HasMoved t w → w.setup.budget - w.draws < t.setup.budget - t.draws
 filling_less t w moved = let same = ap (λ (k : Setup). k.budget) moved.row.passes.setup in let room = moved.room in let more = moved.more in omega arith
 
-filled_later : (v t w : View) (class : ℕ) → parts t ≡ parts v → HasFilled class t w → HasFilled class v w
-filled_later v t w class same filled = record {
+filled_later : (v t w : View) (class : ℕ) → parts t ≡ parts v → t.cuts ≤ v.cuts → HasFilled class t w → HasFilled class v w
+filled_later v t w class same uncut filled = record {
   going = filled.going;
   blocks = filled.blocks;
   some = filled.some;
   most = filled.most;
+  whole = λ rose. filled.whole (omega (arith, uncut, rose));
   parts_are = filled.parts_are ∙ ap (λ (p : Parts). record p { caches = set p.caches class filled.blocks }) same;
 }
 
 pub filling_done : (v t w : View) (class : ℕ) (from : FromClass) → Taking (fill_costs 0 0 v t) v t → FillsFrom class from t w → FillsFrom class from v w
 filling_done v t w class FilledFromClass filling has = record {
-  filled = filled_later v t w class filling.parts_are has.filled;
+  filled = filled_later v t w class filling.parts_are (let most = filling.row.passes.most.cuts in omega (arith, most)) has.filled;
   row = fill_then v t w filling.row has.row;
 }
 filling_done v t w class (Empty head) filling none = record {
@@ -318,6 +320,7 @@ module _ (v t x : View) (class head d : ℕ) (idle : IsIdle v) (none : IsNoneOfC
     blocks = class_blocks v.setup.capacity class d;
     some = let four = four_blocks class is in let all = count in omega arith;
     most = let all = count in omega arith;
+    whole = λ _. count;
     parts_are = done.parts_are ∙ ap (with_cut d class) found_parts
         ∙ ap (λ test. record cached { raw = cond test v.raw (d ∷ without d v.raw); split = without d v.split; cutting = without d v.cutting })
         (eq-eqb d d refl)

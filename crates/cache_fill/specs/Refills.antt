@@ -27,12 +27,13 @@ pub record IsLook (look : LastLook) (word : ℕ) (w : View) : Type 0 where
   pub wins : look.wins ≡ w.wins
   pub taken : look.taken ≡ w.taken
 
--- some blocks are in the cache of the class
+-- some blocks are in the cache of the class; where a superblock was cut, all of its blocks
 pub record HasFilled (class : ℕ) (v w : View) : Type 0 where
   pub going : w.stopped ≡ None
   pub blocks : List ℕ
   pub some : 1 ≤ length blocks
   pub most : length blocks ≤ blocks_of class
+  pub whole : v.cuts < w.cuts → length blocks ≡ blocks_of class
   pub parts_are : parts w ≡ record (parts v) { caches = set v.caches class blocks }
 
 -- the list of the class was empty, as its head said at the last step

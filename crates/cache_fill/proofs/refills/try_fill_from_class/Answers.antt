@@ -28,9 +28,11 @@ returns-then-branch-clause-done g c = let v = c.args.seat.now in let t = c.pop.n
     subst (λ pop. Pops c.args.class.number pop v.view t.view) c.in-Got.is c.in_ok-pop.ensures.done in
     let taken : HasTakenFree c.in-Got.d c.args.class.number t.view w.view =
     subst (λ some. TakesFree c.in-Got.d c.args.class.number some t.view w.view) c.if-branch.true c.in_ok-take_free_blocks-in-Got.ensures.taken in
+    let row = (row_moves v w (row_then v t w c.pop.ensures.row c.take_free_blocks.ensures.row)).view in
     record {
-      filled = taken_fills v.view t.view c.args.class.number c.in-Got.d c.args.class.is popped w.view taken;
-      row = (row_moves v w (row_then v t w c.pop.ensures.row c.take_free_blocks.ensures.row)).view;
+      filled = taken_fills v.view t.view c.args.class.number c.in-Got.d c.args.class.is popped w.view
+          (let most = row.passes.most.cuts in omega (arith, most)) taken;
+      row = row;
     }
 
 pub take_free_blocks-requires-clause-claim : goal.take_free_blocks-requires-clause-claim
