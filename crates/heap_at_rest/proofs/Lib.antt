@@ -9,3 +9,4 @@ pub mod RecoveredLemmas
 pub mod ReadyLemmas
 pub mod AnchorHeldLemmas
 pub mod AgreementLemmas
+pub mod DrainableLemmas

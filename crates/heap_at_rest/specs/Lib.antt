@@ -1,3 +1,4 @@
 pub mod Orderly
 pub mod Agreement
 pub mod OrderlyExamples
+pub mod Draining

@@ -7,7 +7,6 @@ use Rattle.heap_model.specs.Image.{Image}
 use Rattle.heap_model.specs.Sizes.{IsClass}
 use Rattle.heap_model.specs.Words.{head_first, large_info}
 use Rattle.heap_model.specs.Recovered.{HasPartIn}
-use Rattle.heap_model.specs.Chains.{Follows}
 use Rattle.heap_model.proofs.MemberLemmas.{in_none, in_head, head_or_rest}
 use Rattle.heap_at_rest.proofs.PartLemmas.{cases_held}
 use Rattle.heap_shape.specs.Shape.{Place, in_list, is_full, in_large, is_new, Shape}
@@ -15,15 +14,11 @@ use Rattle.heap_shape.specs.Standing.{IsAs}
 use Rattle.heap_shape.specs.Whole.{IsShape}
 use Rattle.heap_shape.specs.Effects.{IsSet}
 use Rattle.heap_shape.specs.Moves.{AddsTo, TakesFrom}
-use Rattle.heap_shape.specs.Draining.{IsInFreeList, HasUse, for_class, for_held, for_later, IsAccounted}
+use Rattle.heap_shape.specs.Draining.{HasUse, for_class, for_held, for_later, IsAccounted}
+use Rattle.heap_at_rest.specs.Draining.{IsInFreeList}
 use Rattle.heap_shape.proofs.BasicLemmas.{member_place}
+pub use Rattle.heap_at_rest.proofs.DrainableLemmas.{free_follows}
 use Rattle.heap_at_rest.proofs.ListLemmas.{one_following}
-
--- what is in the list that the head of list 0 leads along is in the free list
-pub free_follows : (capacity e : ℕ) (image : Image) (free : List ℕ)
-    → Follows (λ k. image (link_word k)) capacity (head_first (image (head_word 0))) free
-    → Contains free e → IsInFreeList capacity image e
-free_follows capacity e image free follows p = record { free = free; leads = follows; has = p }
 
 -- in a heap of a shape that is its first list
 pub in_listed : (capacity e : ℕ) (image : Image) (held : List Block) (s : Shape) → IsShape capacity image held s → IsInFreeList capacity image e

@@ -18,8 +18,9 @@ use Rattle.heap_at_rest.proofs.PartLemmas.{part_taken}
 use Rattle.heap_at_rest.proofs.ListLemmas.{follows_same, times_of, walks_same, follows_below}
 use Rattle.heap_at_rest.proofs.LayoutLemmas.{class_block, same_there}
 use Rattle.heap_shape.specs.Shape.{Place, in_list, is_full, in_large, is_new, Shape, with_at}
-use Rattle.heap_shape.specs.Standing.{first_of, IsFirstOf, HoldsAt, HasOneOwner, a_free, a_held, times_free, IsOfClass, HasFreeBlocks, IsFullSuperblock, HasNoHeld, IsAs}
-use Rattle.heap_shape.specs.Whole.{layout_at, IsCachedIn, IsShape}
+use Rattle.heap_shape.specs.Standing.{first_of, IsFirstOf, HoldsAt, HasOneOwner, a_free, a_held, times_free, IsOfClass, HasFreeBlocks, IsFullSuperblock, IsAs}
+use Rattle.heap_at_rest.specs.Draining.{HasNoHeld, layout_at}
+use Rattle.heap_shape.specs.Whole.{IsCachedIn, IsShape}
 use Rattle.heap_shape.specs.Effects.{IsSet, IsInSuperblock}
 use Rattle.heap_shape.specs.Moves.{with_cache, AddsTo, TakesFrom}
 use Rattle.heap_shape.proofs.BasicLemmas.{with_at_same, with_at_other, first_inside, inside_one, cached_of_class, times_here, times_past}

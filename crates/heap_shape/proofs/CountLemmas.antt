@@ -14,8 +14,9 @@ use Rattle.heap_model.proofs.CountingLemmas.{times_some}
 use Rattle.heap_model.proofs.PartLemmas.{cases_of_part}
 use Rattle.heap_at_rest.proofs.ListLemmas.{times_of, follows_below}
 use Rattle.heap_shape.specs.Shape.{Shape}
-use Rattle.heap_shape.specs.Standing.{first_of, IsFirstOf, HoldsAt, IsOfClass, HasNoHeld, times_free, a_free, a_held}
-use Rattle.heap_shape.specs.Whole.{layout_at, IsShape}
+use Rattle.heap_shape.specs.Standing.{first_of, IsFirstOf, HoldsAt, IsOfClass, times_free, a_free, a_held}
+use Rattle.heap_at_rest.specs.Draining.{HasNoHeld, layout_at}
+use Rattle.heap_shape.specs.Whole.{IsShape}
 use Rattle.heap_shape.proofs.BasicLemmas.{times_here, times_past, stands_once, first_injective}
 use Rattle.heap_model.proofs.ListLemmas.{times_append, length_without, without_less, without_at}
 

@@ -17,7 +17,8 @@ use Rattle.heap_at_rest.proofs.ListLemmas.{follows_same, walks_same, follows_bel
 use Rattle.heap_at_rest.proofs.LayoutLemmas.{block_more}
 use Rattle.heap_shape.specs.Shape.{Place, in_list, is_full, in_large, is_new, Shape, stands_in, with_at}
 use Rattle.heap_shape.specs.Standing.{first_of, IsFirstOf, HoldsAt, HasOneOwner, a_free, a_held, IsOfClass, IsFullSuperblock, IsAs}
-use Rattle.heap_shape.specs.Whole.{layout_at, IsCachedIn, IsShape}
+use Rattle.heap_shape.specs.Whole.{IsCachedIn, IsShape}
+use Rattle.heap_at_rest.specs.Draining.{layout_at}
 use Rattle.heap_shape.specs.Effects.{IsPoppedOf, IsInSuperblock, firsts_from}
 use Rattle.heap_shape.proofs.BasicLemmas.{with_at_same, with_at_other, first_inside, inside_one, first_injective, first_place}
 use Rattle.heap_model.proofs.ListLemmas.{follows_small}

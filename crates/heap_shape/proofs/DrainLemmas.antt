@@ -18,12 +18,14 @@ use Rattle.heap_model.proofs.PartLemmas.{cases_parts}
 use Rattle.heap_at_rest.proofs.PartLemmas.{cases_held, part_taken, class_part}
 use Rattle.heap_at_rest.proofs.ListLemmas.{follows_same}
 use Rattle.heap_shape.specs.Shape.{Place, in_list, is_full, in_large, is_new, Shape, stands_in}
-use Rattle.heap_shape.specs.Standing.{first_of, HoldsAt, HasOneOwner, a_free, a_held, IsOfClass, HasNoHeld, IsFree, IsAs}
-use Rattle.heap_shape.specs.Whole.{layout_at, IsShape}
+use Rattle.heap_shape.specs.Standing.{first_of, HoldsAt, HasOneOwner, a_free, a_held, IsOfClass, IsFree, IsAs}
+use Rattle.heap_at_rest.specs.Draining.{HasNoHeld, layout_at, IsInFreeList, IsDrainable, IsToDrain}
+use Rattle.heap_shape.specs.Whole.{IsShape}
 use Rattle.heap_shape.specs.Effects.{IsSet, IsPoppedOf, IsPushedOn, IsCut}
 use Rattle.heap_shape.specs.Moves.{with_cache, AddsTo}
-use Rattle.heap_shape.specs.Draining.{IsInFreeList, HasUse, for_class, for_held, for_later, IsDrainable, IsAccounted, IsToDrain, DrainsSame, DrainsOne}
-use Rattle.heap_shape.proofs.AccountLemmas.{free_follows, in_listed}
+use Rattle.heap_shape.specs.Draining.{HasUse, for_class, for_held, for_later, IsAccounted, DrainsSame, DrainsOne}
+use Rattle.heap_shape.proofs.AccountLemmas.{in_listed}
+use Rattle.heap_at_rest.proofs.DrainableLemmas.{free_follows}
 use Rattle.heap_shape.proofs.BasicLemmas.{one_list, first_place, member_place, in_free_list, cached_of_class}
 use Rattle.heap_shape.proofs.CutLemmas.{follows_popped}
 use Rattle.heap_shape.proofs.CacheLemmas.{pop_block}

@@ -8,7 +8,8 @@ use Rattle.heap_model.specs.Words.{anchor_state, anchor_first, anchor_count, emp
 use Rattle.heap_model.specs.Chains.{Walks}
 use Rattle.heap_model.specs.Counting.{times}
 use Rattle.heap_shape.specs.Shape.{Place, in_list, is_full, in_large, is_new, Shape}
-use Rattle.heap_shape.specs.Standing.{first_of, HoldsAt, HasOneOwner, a_free, a_held, times_free, IsOfClass, HasNoHeld, IsAs}
+use Rattle.heap_shape.specs.Standing.{first_of, HoldsAt, HasOneOwner, a_free, a_held, times_free, IsOfClass, IsAs}
+use Rattle.heap_at_rest.specs.Draining.{HasNoHeld}
 use Rattle.heap_shape.specs.Effects.{IsInSuperblock}
 use Rattle.heap_at_rest.proofs.ListLemmas.{walks_same}
 use Rattle.heap_shape.proofs.BasicLemmas.{first_inside}

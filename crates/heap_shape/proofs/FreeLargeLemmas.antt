@@ -16,8 +16,9 @@ use Rattle.heap_at_rest.proofs.PartLemmas.{part_taken, long_takes}
 use Rattle.heap_at_rest.proofs.ListLemmas.{follows_same, times_of, walks_same}
 use Rattle.heap_at_rest.proofs.LayoutLemmas.{same_there}
 use Rattle.heap_shape.specs.Shape.{Place, in_list, is_full, in_large, is_new, Shape, stands_in, with_at}
-use Rattle.heap_shape.specs.Standing.{HasNoHeld, IsFree, IsTakenByLarge, IsAs}
-use Rattle.heap_shape.specs.Whole.{layout_at, IsCachedIn, IsShape}
+use Rattle.heap_shape.specs.Standing.{IsFree, IsTakenByLarge, IsAs}
+use Rattle.heap_at_rest.specs.Draining.{HasNoHeld, layout_at}
+use Rattle.heap_shape.specs.Whole.{IsCachedIn, IsShape}
 use Rattle.heap_shape.specs.Effects.{IsSet, IsPushedOn}
 use Rattle.heap_shape.specs.Moves.{after_split, TakesFrom}
 use Rattle.heap_shape.proofs.BasicLemmas.{with_at_same, with_at_other, first_inside}

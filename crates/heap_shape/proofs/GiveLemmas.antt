@@ -18,7 +18,8 @@ use Rattle.heap_at_rest.proofs.ListLemmas.{follows_same, times_of, walk_behind, 
 use Rattle.heap_at_rest.proofs.LayoutLemmas.{same_there}
 use Rattle.heap_shape.specs.Shape.{Place, in_list, is_full, is_new, Shape, stands_in, with_at}
 use Rattle.heap_shape.specs.Standing.{first_of, IsFirstOf, HasOneOwner, times_free, IsOfClass, HasFreeBlocks, IsFree, IsAs}
-use Rattle.heap_shape.specs.Whole.{layout_at, IsShape}
+use Rattle.heap_shape.specs.Whole.{IsShape}
+use Rattle.heap_at_rest.specs.Draining.{layout_at}
 use Rattle.heap_shape.specs.Effects.{IsPushedOn, IsInSuperblock, IsGivenBack}
 use Rattle.heap_shape.specs.Moves.{after_give, after_give_full, after_give_all}
 use Rattle.heap_shape.proofs.BasicLemmas.{with_at_same, with_at_other, first_inside, inside_one, first_injective, cached_of_class, in_class_list, in_full, times_here, times_past}

@@ -15,7 +15,8 @@ use Rattle.heap_at_rest.proofs.PartLemmas.{part_taken}
 use Rattle.heap_at_rest.proofs.ListLemmas.{follows_same, walks_same}
 use Rattle.heap_shape.specs.Shape.{in_list, is_full, in_large, is_new, Shape, stands_in}
 use Rattle.heap_shape.specs.Standing.{HoldsAt, IsTakenByLarge, IsNew, IsAs}
-use Rattle.heap_shape.specs.Whole.{layout_at, IsCachedIn, IsShape}
+use Rattle.heap_shape.specs.Whole.{IsCachedIn, IsShape}
+use Rattle.heap_at_rest.specs.Draining.{layout_at}
 use Rattle.heap_shape.specs.Effects.{IsSet, IsInSuperblock}
 use Rattle.heap_shape.specs.Moves.{after_join, AddsTo}
 use Rattle.heap_shape.proofs.BasicLemmas.{first_inside}

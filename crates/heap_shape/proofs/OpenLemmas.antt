@@ -2,26 +2,26 @@
 use Rattle.std.proofs.Common.{◌≡◌, ◌≢◌, ℕ, zero, suc, ◌+◌, ◌*◌, ◌<◌, ◌≤◌, inl, inr, nat_eq, List, [], ◌∷◌, map, length, slice_index, Contains, refl, ap, sym, subst, ◌∙◌, arith}
 use Rattle.std.proofs.lemmas.Bool.{cases_eq, cases_lt, eqb-true, eq-eqb, lt-ltb, ltb-true}
 use Rattle.heap_model.specs.declared.block.Block.{Block}
-use Rattle.heap_model.specs.Geometry.{lists, head_word, info_word, anchor_word, link_word, largest_capacity_fits, largest_capacity}
+use Rattle.heap_model.specs.Geometry.{lists, head_word, info_word, anchor_word, link_word}
 use Rattle.heap_model.specs.Image.{Image}
 use Rattle.heap_model.specs.Header.{IsWellFormed, capacity_of, used_of}
 use Rattle.heap_model.specs.Sizes.{IsClass, blocks_of, words_of_class}
-use Rattle.heap_model.specs.Words.{anchor_first, anchor_count, head_first}
+use Rattle.heap_model.specs.Words.{anchor_first, anchor_count}
 use Rattle.heap_model.specs.Blocks.{layout_of, IsBlock}
-use Rattle.heap_model.specs.Chains.{Follows, Walks}
+use Rattle.heap_model.specs.Chains.{Walks}
 use Rattle.heap_model.specs.Counting.{times, total, below, one_if}
 use Rattle.heap_model.specs.Rest.{IsReady, IsShaped, list_numbers, large_part}
 use Rattle.heap_model.proofs.MemberLemmas.{in_none, head_or_rest, map_in}
 use Rattle.heap_model.proofs.CountingLemmas.{total_some, one_if_true, one_if_false, times_some, is_number, number_below}
 use Rattle.heap_at_rest.proofs.PartLemmas.{long_takes}
 use Rattle.heap_at_rest.proofs.ListLemmas.{in_map, times_of}
+use Rattle.heap_at_rest.proofs.DrainableLemmas.{free_follows, head_at_rest}
 use Rattle.heap_at_rest.proofs.RecoveryLeftLemmas.{counts_large}
 use Rattle.heap_shape.specs.Shape.{Place, in_list, is_full, in_large, is_new, Shape, stands_in}
 use Rattle.heap_shape.specs.Standing.{first_of, IsFirstOf, HasOneOwner, a_free, a_held, HasFreeBlocks, IsFullSuperblock, IsAs}
 use Rattle.heap_shape.specs.Whole.{IsShape}
 use Rattle.heap_shape.specs.Draining.{HasUse, for_class, for_held, for_later, IsAccounted}
 use Rattle.heap_shape.proofs.CountLemmas.{few_members}
-use Rattle.heap_shape.proofs.AccountLemmas.{free_follows}
 
 -- a member counts in a sum
 total_member : {X : Type 0} (of : X → ℕ) (xs : List X) (x : X) → Contains xs x → of x ≤ total of xs
@@ -44,15 +44,6 @@ total_two of (y ∷ xs) a b in_a in_b differ = elim (head_or_rest y a xs in_a) a
     | inr later_b ↦ let rest = total_two of xs a b later_a later_b differ in omega arith
   ]
 ]
-
--- a head that was never popped is the number of its list's first descriptor
-pub head_at_rest : (link : ℕ → ℕ) (capacity head : ℕ) (ds : List ℕ) → capacity ≤ largest_capacity → Follows link capacity head ds
-    → Follows link capacity (head_first head) ds
-head_at_rest link capacity head [] small follows = let none : head ≡ 0 = follows in omega arith
-head_at_rest link capacity head (d ∷ ds) small follows =
-    let first : head ≡ d + 1 = follows.0 in
-    let within : d < capacity = follows.1 in
-    (omega (arith, largest_capacity_fits), within, follows.2)
 
 -- the first words of blocks
 abbrev firsts_of : List Block → List ℕ

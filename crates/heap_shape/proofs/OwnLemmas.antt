@@ -16,8 +16,9 @@ use Rattle.heap_at_rest.proofs.PartLemmas.{part_taken}
 use Rattle.heap_at_rest.proofs.ListLemmas.{follows_same, times_of, walks_same}
 use Rattle.heap_at_rest.proofs.LayoutLemmas.{class_block as a_class_block, same_there}
 use Rattle.heap_shape.specs.Shape.{Place, in_list, is_full, in_large, is_new, Shape}
-use Rattle.heap_shape.specs.Standing.{first_of, a_free, a_held, IsOfClass, HasNoHeld, IsAs}
-use Rattle.heap_shape.specs.Whole.{layout_at, IsCachedIn, IsShape}
+use Rattle.heap_shape.specs.Standing.{first_of, a_free, a_held, IsOfClass, IsAs}
+use Rattle.heap_at_rest.specs.Draining.{HasNoHeld, layout_at}
+use Rattle.heap_shape.specs.Whole.{IsCachedIn, IsShape}
 use Rattle.heap_shape.specs.Effects.{IsSet, IsInSuperblock}
 use Rattle.heap_shape.proofs.BasicLemmas.{first_inside, member_place}
 use Rattle.heap_shape.proofs.FrameLemmas.{SameThere, frame}

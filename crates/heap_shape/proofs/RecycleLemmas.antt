@@ -12,8 +12,9 @@ use Rattle.heap_model.proofs.MemberLemmas.{in_none}
 use Rattle.heap_at_rest.proofs.ListLemmas.{follows_same, times_of, walks_same}
 use Rattle.heap_at_rest.proofs.LayoutLemmas.{same_there}
 use Rattle.heap_shape.specs.Shape.{in_list, Shape, stands_in, with_at}
-use Rattle.heap_shape.specs.Standing.{IsFirstOf, HasFreeBlocks, HasNoHeld, IsNew, IsAs}
-use Rattle.heap_shape.specs.Whole.{layout_at, IsCachedIn, IsShape}
+use Rattle.heap_shape.specs.Standing.{IsFirstOf, HasFreeBlocks, IsNew, IsAs}
+use Rattle.heap_at_rest.specs.Draining.{HasNoHeld, layout_at}
+use Rattle.heap_shape.specs.Whole.{IsCachedIn, IsShape}
 use Rattle.heap_shape.specs.Effects.{IsPoppedOf, IsPushedOn}
 use Rattle.heap_shape.specs.Moves.{after_recycle}
 use Rattle.heap_shape.proofs.BasicLemmas.{with_at_same, with_at_other, stands_not, one_list, times_here, times_past, first_inside, first_place, member_place, in_class_list, cached_of_class}

@@ -12,8 +12,9 @@ use Rattle.heap_model.proofs.BlockLemmas.{block_words}
 use Rattle.heap_at_rest.proofs.PartLemmas.{part_taken}
 use Rattle.heap_at_rest.proofs.ListLemmas.{follows_same, walks_same, follows_below}
 use Rattle.heap_shape.specs.Shape.{in_list, is_full, is_new, Shape, stands_in, with_at}
-use Rattle.heap_shape.specs.Standing.{first_of, HoldsAt, HasOneOwner, a_free, a_held, IsOfClass, HasNoHeld, IsFree, IsNew, IsAs}
-use Rattle.heap_shape.specs.Whole.{layout_at, IsShape}
+use Rattle.heap_shape.specs.Standing.{first_of, HoldsAt, HasOneOwner, a_free, a_held, IsOfClass, IsFree, IsNew, IsAs}
+use Rattle.heap_at_rest.specs.Draining.{HasNoHeld, layout_at}
+use Rattle.heap_shape.specs.Whole.{IsShape}
 use Rattle.heap_shape.specs.Effects.{IsSet, IsPoppedOf, IsInSuperblock, IsCut, all_firsts}
 use Rattle.heap_shape.specs.Moves.{after_take, after_cut, after_fresh}
 use Rattle.heap_shape.proofs.BasicLemmas.{with_at_same, with_at_other, first_inside, inside_one, first_place, in_class_list, in_free_list}

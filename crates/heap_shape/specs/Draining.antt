@@ -1,24 +1,11 @@
--- What draining a class needs of a heap, and what stays of what it is to give.
+-- What each taken superblock of a heap is used for, and what stays of what draining a class is to give.
 use Rattle.std.specs.Prelude.{◌≡◌, ℕ, ◌<◌, ◌⊎◌, List, Contains}
 use Rattle.heap_model.specs.declared.block.Block.{Block}
-use Rattle.heap_model.specs.Geometry.{info_word, link_word, head_word, used_word}
+use Rattle.heap_model.specs.Geometry.{info_word, used_word}
 use Rattle.heap_model.specs.Image.{Image}
 use Rattle.heap_model.specs.Sizes.{IsClass}
-use Rattle.heap_model.specs.Words.{head_first}
-use Rattle.heap_model.specs.Chains.{Follows}
-use Rattle.heap_model.specs.Recovered.{HasPartIn, IsDrained}
-use Rattle.heap_shape.specs.Standing.{HasNoHeld}
-use Rattle.heap_shape.specs.Whole.{layout_at}
-
--- the links lead along the free list to its end, and the superblock is in it
-pub record IsInFreeList (capacity : ℕ) (image : Image) (d : ℕ) : Type 0 where
-  pub free : List ℕ
-  pub leads : Follows (λ e. image (link_word e)) capacity (head_first (image (head_word 0))) free
-  pub has : Contains free d
-
--- each taken superblock that no held block has a part in is in the free list, or is cut for the class
-pub record IsDrainable (capacity : ℕ) (image : Image) (held : List Block) (class : ℕ) : Type 0 where
-  pub each : (d : ℕ) → d < image used_word → HasNoHeld capacity held d → (image (info_word d) ≡ class) ⊎ IsInFreeList capacity image d
+use Rattle.heap_model.specs.Recovered.{HasPartIn}
+pub use Rattle.heap_at_rest.specs.Draining.{IsInFreeList, IsDrainable, IsToDrain}
 
 -- a superblock is cut for a class, a held block has a part in it, or it is in the free list
 pub data HasUse (capacity : ℕ) (image : Image) (held : List Block) (d : ℕ) : Type 0 where
@@ -29,10 +16,6 @@ pub data HasUse (capacity : ℕ) (image : Image) (held : List Block) (d : ℕ) :
 -- each taken superblock has a use: none is lost
 pub record IsAccounted (capacity : ℕ) (image : Image) (held : List Block) : Type 0 where
   pub each : (d : ℕ) → d < image used_word → HasUse capacity image held d
-
--- what draining the class must give
-abbrev pub IsToDrain : ℕ → Image → List Block → ℕ → Block → Type 0
-IsToDrain capacity image held class = IsDrained (layout_at capacity image) (Contains held) class
 
 -- the same blocks are to be given, the heap stays drainable, and no superblock is lost
 pub record DrainsSame (capacity class : ℕ) (held : List Block) (image new : Image) : Type 0 where

@@ -11,7 +11,8 @@ use Rattle.heap_shape.specs.Shape.{in_list, is_full, in_large, is_new, Shape, st
 use Rattle.heap_shape.specs.Standing.{first_of, IsFirstOf, HoldsAt, times_free}
 use Rattle.heap_shape.specs.Effects.{IsInSuperblock, all_firsts}
 use Rattle.heap_shape.specs.Moves.{after_take, after_recycle, after_cut, after_join, after_give_all}
-use Rattle.heap_shape.specs.Draining.{for_class, for_held, for_later, IsInFreeList, IsDrainable, IsAccounted}
+use Rattle.heap_shape.specs.Draining.{for_class, for_held, for_later, IsAccounted}
+use Rattle.heap_at_rest.specs.Draining.{IsInFreeList, IsDrainable}
 
 -- a place is one list, or none
 places : map (λ place. stands_in place 3) (in_list 3 ∷ in_list 2 ∷ is_full ∷ in_large ∷ is_new ∷ []) ≡ 1 ∷ 0 ∷ 0 ∷ 0 ∷ 0 ∷ []

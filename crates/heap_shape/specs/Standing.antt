@@ -5,9 +5,9 @@ use Rattle.heap_model.specs.Geometry.{info_word, anchor_word, link_word, used_wo
 use Rattle.heap_model.specs.Image.{Image}
 use Rattle.heap_model.specs.Sizes.{IsClass, blocks_of, words_of_class}
 use Rattle.heap_model.specs.Words.{anchor_state, anchor_first, anchor_count, empty_state, partial_state, full_anchor}
-use Rattle.heap_model.specs.Recovered.{HasPartIn}
 use Rattle.heap_model.specs.Chains.{Walks}
 use Rattle.heap_model.specs.Counting.{times}
+pub use Rattle.heap_at_rest.specs.Draining.{HasNoHeld}
 use Rattle.heap_shape.specs.Shape.{Place, in_list, is_full, in_large, is_new, Shape}
 
 -- the first word of block `index` of superblock d, cut for the class
@@ -57,10 +57,6 @@ pub record IsFullSuperblock (capacity : ℕ) (image : Image) (s : Shape) (held :
   pub of_class : IsOfClass capacity image s held (image (info_word d)) d
   pub none : s.chain d ≡ []
   pub anchor : image (anchor_word d) ≡ full_anchor
-
--- no held block has a word in superblock d
-abbrev pub HasNoHeld : ℕ → List Block → ℕ → Type 0
-HasNoHeld capacity held d = (b : Block) → Contains held b → HasPartIn capacity b d → ⊥
 
 -- it was taken and no held block has a part in it
 pub record IsFree (capacity : ℕ) (image : Image) (held : List Block) (d : ℕ) : Type 0 where

@@ -5,15 +5,12 @@ use Rattle.heap_model.specs.Geometry.{lists, head_word, info_word, link_word, us
 use Rattle.heap_model.specs.Image.{Image}
 use Rattle.heap_model.specs.Sizes.{IsClass}
 use Rattle.heap_model.specs.Words.{head_first}
-use Rattle.heap_model.specs.Blocks.{Layout, IsBlock}
+use Rattle.heap_model.specs.Blocks.{IsBlock}
 use Rattle.heap_model.specs.Chains.{Follows, Walks}
 use Rattle.heap_model.specs.Counting.{times}
+pub use Rattle.heap_at_rest.specs.Draining.{layout_at}
 use Rattle.heap_shape.specs.Shape.{in_list, is_full, Shape, stands_in}
 use Rattle.heap_shape.specs.Standing.{IsFirstOf, IsAs}
-
--- the layout of a heap of so many superblocks
-abbrev pub layout_at : ℕ → Image → Layout
-layout_at capacity image = record { capacity = capacity; used = image used_word; info = λ d. image (info_word d) }
 
 -- the word is the first one of a block of the class, in a superblock that is cut for it
 pub record IsCachedIn (capacity : ℕ) (image : Image) (s : Shape) (class word : ℕ) : Type 0 where

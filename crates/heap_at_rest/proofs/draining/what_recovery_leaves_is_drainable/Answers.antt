@@ -1,5 +1,5 @@
-use Rattle.heap_shape.proofs.RecoveredLemmas.{reached_drainable, reached_drains}
-use Rattle.heap_shape.proofs.laws.what_recovery_leaves_is_drainable.Goals as goal
+use Rattle.heap_at_rest.proofs.DrainableLemmas.{reached_drainable, reached_drains}
+use Rattle.heap_at_rest.proofs.draining.what_recovery_leaves_is_drainable.Goals as goal
 
 pub returns-clause-drainable : goal.returns-clause-drainable
 returns-clause-drainable c = reached_drainable

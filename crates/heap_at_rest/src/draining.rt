@@ -1,4 +1,4 @@
-//! What follows from the definitions, as a function with nothing to run: a caller cites its
+//! What recovery leaves to be drained, as a function with nothing to run: a caller cites its
 //! clauses.
 
 ghost use Rattle.std.specs.Prelude.{◌≤◌, ◌↔◌, ℕ, List, Contains};
@@ -10,7 +10,7 @@ ghost use Rattle.heap_model.specs.Blocks.{layout_of};
 ghost use Rattle.heap_model.specs.Reach.{Links, IsReached};
 ghost use Rattle.heap_model.specs.Recovered.{IsDrained};
 ghost use Rattle.heap_model.specs.Recovery.{IsRecovered};
-ghost use Rattle.heap_shape.specs.Draining.{IsDrainable, IsToDrain};
+ghost use Rattle.heap_at_rest.specs.Draining.{IsDrainable, IsToDrain};
 
 /// Of a recovered image, where exactly the reached blocks are held: each superblock in which no
 /// held block has a part is in the free list, and what is to be drained of a class is exactly what
