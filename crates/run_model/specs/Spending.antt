@@ -3,8 +3,8 @@ use Rattle.std.specs.Prelude.{◌≡◌, ℕ, ◌+◌, ◌*◌, ◌<◌, ◌≤�
 use Rattle.heap_model.specs.Geometry.{root_word}
 use Rattle.heap_model.specs.Image.{words_from}
 use Rattle.heap_seat.specs.View.{View}
-use Rattle.heap_seat.specs.Looks.{KnowsNoLess}
-use Rattle.heap_seat.specs.Rows.{IsRow}
+use Rattle.heap_seat.specs.Calls.{GoesOn}
+use Rattle.heap_seat.specs.Looks.{KnowsNoLess, KeepsLooks}
 use Rattle.dict_model.specs.Links.{shards}
 use Rattle.dict_model.specs.Requests.{Request, put, get, del, move, Reply, full}
 use Rattle.dict_requests.specs.Puts.{WasNull, RootIsSet}
@@ -62,7 +62,12 @@ pub record AreFullRightly {S : Type 0} (view : S → View) (keeps : S → S → 
 pub record HasTakenFew (tables : ℕ) (rs : List (Request × Reply)) (left : List Request) (v w : View) : Type 0 where
   pub taken : w.taken ≤ v.taken + (sum_by span_taken rs + first_span left) + tables
 
--- so many requests make so many small calls each at most, and so many large ones together
+-- so many requests make so many small calls each at most, and so many large ones together (`HasTakenFew` says how many superblocks they take)
 pub record MakeFew (requests small large : ℕ) (v w : View) : Type 0 where
-  pub most : ℕ
-  pub row : IsRow (requests * small) large most v w
+  pub goes_on : GoesOn v w
+  pub small_from : v.small_calls ≤ w.small_calls
+  pub small_few : w.small_calls ≤ v.small_calls + requests * small
+  pub large_from : v.large_calls ≤ w.large_calls
+  pub large_few : w.large_calls ≤ v.large_calls + large
+  pub taken : v.taken ≤ w.taken
+  pub looks : KeepsLooks v w

@@ -1,7 +1,8 @@
 -- How far a run has come in its trace, where it was stopped, the room that there is for the values that it reads, and what each request did.
-use Rattle.std.specs.Prelude.{◌≡◌, ℕ, ◌+◌, ◌*◌, ◌<◌, ◌≤◌, ◌⊎◌, Bool, true, List, [], ◌∷◌, ◌++◌, length, map, Option, Some, Contains}
+use Rattle.std.specs.Prelude.{◌≡◌, ℕ, ◌+◌, ◌*◌, ◌<◌, ◌≤◌, ◌⊎◌, List, [], ◌∷◌, ◌++◌, length, map, Option, Some, Contains}
 use Rattle.heap_model.specs.Geometry.{root_word}
 use Rattle.heap_model.specs.Image.{Image}
+use Rattle.heap_model.specs.Sizes.{span_of}
 use Rattle.heap_seat.specs.declared.fault.Looks.{Looks}
 use Rattle.heap_seat.specs.View.{View}
 use Rattle.heap_seat.specs.Calls.{SameRefusals}
@@ -16,6 +17,7 @@ use Rattle.dict_requests.specs.Gets.{words_of}
 use Rattle.dict_requests.specs.Maps.{GivesMap}
 use Rattle.dict_requests.specs.Puts.{RootIsSet, WasTurnedDown}
 use Rattle.dict_requests.specs.Walks.{ListsKeys}
+use Rattle.run_model.specs.Needs.{node_span}
 use Rattle.run_model.specs.Workers.{Replies, shard_asked}
 use Rattle.run_model.specs.Progress.{Answers, MayAnswer, HasAnswered}
 use Rattle.run_model.specs.Spending.{TakesFew, HadNoRoom, IsPut}
@@ -35,11 +37,6 @@ pub record HasStopped (image : Image) (requests : List Request) (replies : Repli
   pub seat : IsSeat before
   pub worked : HasWorked image requests (request ∷ others) replies before
   pub may : MayAnswer request before w
-
--- how it has ended: all requests were worked off, or it was stopped in one
-pub data HasEnded (image : Image) (requests : List Request) (replies : Replies) (stopped : Bool) (v : View) : Type 0 where
-  at_end : HasWorked image requests [] replies v → HasEnded image requests replies stopped v
-  in_one : stopped ≡ true → HasStopped image requests replies v → HasEnded image requests replies stopped v
 
 -- so long an answer to a get of the key may be: no value, one that the key has in the image, or one that the trace puts under it
 pub data IsLengthFor (image : Image) (requests : List Request) (key : ℕ) : ℕ → Type 0 where
@@ -97,11 +94,17 @@ large_calls_of (get key) = 3
 large_calls_of (del key) = 3
 large_calls_of (move key to) = 0
 
--- a request makes few calls, by the words that it copies and the keys of its shard
+-- the superblocks that a request takes at most: those of its put's node, and one for a table
+abbrev pub most_taken : Request → ℕ
+most_taken (put key value) = node_span (put key value) + span_of table_bytes
+most_taken (get key) = 0
+most_taken (del key) = 0
+most_taken (move key to) = 0
+
+-- a request makes few calls, by the words that it copies and the keys of its shard, and takes few superblocks
 pub record MakesCalls (request : Request) (v w : View) : Type 0 where
-  pub most : ℕ
   pub few : (map : Map) → GivesMap v (shard_asked request) map → (keys : List ℕ) → ListsKeys v (shard_asked request) keys
-      → IsRow (512 + 2 * words_copied request map + 4 * length keys) (large_calls_of request) most v w
+      → IsRow (512 + 2 * words_copied request map + 4 * length keys) (large_calls_of request) (most_taken request) v w
 
 -- What was done behind the last reply: nothing where no request is left, and else a part of the first one, by no more calls than that may make.
 abbrev pub IsUnderWay : List Request → View → View → Type 0
@@ -125,8 +128,7 @@ pub record WasRefused {S : Type 0} (view : S → View) (keeps : S → S → Type
   pub none : WasTurnedDown keeps has_none (view t).refused_bytes (view t).refused_looks s t
 
 -- A request went from one state of a seat to the next. Its reply is right, its tickets are below the budget, its calls
--- are few, and what every call keeps
--- was kept. A put that was told full had a request for a block refused, and no other request had.
+-- are few, and what every call keeps was kept. A put that was told full had a request for a block refused, and no other request had.
 pub record TakesRequest {S : Type 0} (view : S → View) (keeps : S → S → Type 0) (has_none : S → S → ℕ → Looks → Type 0) (request : Request)
     (reply : Reply)
     (s t : S) : Type 0 where

@@ -1,5 +1,6 @@
 -- Worked examples: what a put asks the heap for, and what no answered request did. None is told full without a refusal,
--- or done beside one; none was answered without a ticket, by one that the budget doesn't allow, or by too many calls.
+-- or done beside one; none was answered without a ticket, by one that the budget doesn't allow, by too many calls, or with
+-- too many superblocks.
 use Rattle.std.specs.Prelude.{◌≡◌, ℕ, ◌+◌, List, [], ◌∷◌, cond, nat_eq, Option, None, Some, refl}
 use Rattle.std.proofs.Common.{arith, inl, inr, sym, ◌∙◌}
 use Rattle.heap_model.specs.Geometry.{root_word}
@@ -73,3 +74,13 @@ module _ {S : Type 0} {view : S → View} {keeps : S → S → Type 0} {has_none
 
     move_by_one : (to : ℕ) → TakesRequest view keeps has_none (move key to) reply s t → (view t).large_calls ≡ (view s).large_calls + 1 → ⊥
     move_by_one to takes one = let few = (takes.calls.few map gives keys lists).large_few in omega (arith, few, one)
+
+    -- a put of two bytes takes a superblock for its node and one for a table, and no third; a get and a move take none
+    put_takes_three : TakesRequest view keeps has_none (put key (97 ∷ 98 ∷ [])) reply s t → (view t).taken ≡ (view s).taken + 3 → ⊥
+    put_takes_three takes three = let few = (takes.calls.few map gives keys lists).few in omega (arith, few, three)
+
+    get_takes_one : TakesRequest view keeps has_none (get key) reply s t → (view t).taken ≡ (view s).taken + 1 → ⊥
+    get_takes_one takes one = let few = (takes.calls.few map gives keys lists).few in omega (arith, few, one)
+
+    move_takes_one : (to : ℕ) → TakesRequest view keeps has_none (move key to) reply s t → (view t).taken ≡ (view s).taken + 1 → ⊥
+    move_takes_one to takes one = let few = (takes.calls.few map gives keys lists).few in omega (arith, few, one)

@@ -98,14 +98,12 @@ answers_missing key to v w tells same = record {
 -- the calls of a search, of a take, and of an offer behind it
 pub few_moves : (key to : ℕ) (v w : View) → MovesFew 0 (shard_of key) v w → MakesCalls (move key to) v w
 few_moves key to v w few = record {
-  most = 0;
   few = λ m gives keys lists. row_more (500 + 4 * length keys) 0 0 (512 + 2 * 0 + 4 * length keys) 0 0 v w (omega arith) (omega arith)
       (omega arith) (few keys lists);
 }
 
 pub few_sent : (key to : ℕ) (v u w : View) → MovesFew 0 (shard_of key) v u → IsSmallCall u w → MakesCalls (move key to) v w
 few_sent key to v u w few call = record {
-  most = 0;
   few = λ m gives keys lists. row_more (500 + 4 * length keys + 1) (0 + 0) (0 + 0) (512 + 2 * 0 + 4 * length keys) 0 0 v w (omega arith)
       (omega arith) (omega arith)
       (row_then (500 + 4 * length keys) 0 0 1 0 0 v u w (few keys lists) (row_small u w call));

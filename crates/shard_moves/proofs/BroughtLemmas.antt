@@ -20,7 +20,7 @@ use Rattle.dict_requests.specs.Walks.{ListsKeys}
 use Rattle.dict_requests.proofs.HandingLemmas.{set_changed}
 use Rattle.dict_requests.proofs.OthersLemmas.{others_give, shard_on}
 use Rattle.run_model.specs.Progress.{Answers, HasAnswered}
-use Rattle.run_model.specs.Working.{TakesRequest, TakesRequests}
+use Rattle.run_model.specs.Working.{most_taken, TakesRequest, TakesRequests}
 use Rattle.run_model.proofs.GoesOnLemmas.{goes_on, takes_push}
 use Rattle.shard_moves.specs.Arriving.{HaveTables, ListAllKeys, HasArrived, StopsAtFirst, StopsInOne}
 use Rattle.run_model.specs.Sending.{Sent, put_of, puts_of}
@@ -135,9 +135,8 @@ module _ {S : Type 0} (view : S → View) (goes : S → S → Type 0) (has_none 
       may = arrived.arrives.may;
       runs = arrived.runs;
       calls = record {
-        most = 0;
-        few = λ m gives keys lists. row_more (512 + 4 * length keys) 1 0 _ 3 0 (view t) (view u) (omega arith) (omega arith) (omega arith)
-            (arrived.arrives.calls keys lists);
+        few = λ m gives keys lists. row_more (512 + 4 * length keys) 1 0 _ 3 (most_taken (put first.key first.value)) (view t) (view u)
+            (omega arith) (omega arith) (omega arith) (arrived.arrives.calls keys lists);
       };
       keeps_it = kept;
       refused = λ is e. absurd (cc);

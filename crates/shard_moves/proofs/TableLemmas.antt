@@ -76,29 +76,24 @@ sees_on v w at k after change is sees =
     let now = set_changed v w at k after change is.owned (record { value = was.0; seen = was.1; some = was.2 }) in
     value_set (w.volatile (root_word k)) now.value now.seen now.some
 
--- what was told of a shard stands over the next
+-- what was told of a shard stands over the next one
 tells_on : {S : Type 0} (view : S → View) (keeps : S → S → Type 0) (has_none : S → S → ℕ → Looks → Type 0)
-    → ((x y z : S) → keeps x y → keeps y z → keeps x z) → (at k : ℕ) (b : Bool) (s t u : S)
+    → ((x y z : S) → keeps x y → keeps y z → keeps x z) → (at k : ℕ) (b : Bool) (s t u : S) → k ≢ at
     → IsShard (view t) k → HasTried view keeps at t u → TellsTable view keeps has_none k b s t → TellsTable view keeps has_none k b s u
-tells_on view keeps has_none row at k true s t u is tried set = set_changed (view t) (view u) at k (λ m. m) tried.change is.owned set
-tells_on view keeps has_none row at k false s t u is tried (null, refused) = (
+tells_on view keeps has_none row at k true s t u other is tried set = set_changed (view t) (view u) at k (λ m. m) tried.change is.owned set
+tells_on view keeps has_none row at k false s t u other is tried (null, now, refused) = (
   null,
+  (tried.change.others.root_words k is.owned other).volatile 0 now,
   record {
     at = refused.at;
     before = refused.before;
     behind = row refused.at t u refused.behind tried.kept;
+    null = refused.null;
     knows = let a = refused.knows in let b = tried.calls.goes_on.used in omega arith;
     until = let a = refused.until in let b = tried.calls.taken in omega arith;
     room = refused.room;
     looks = refused.looks;
-    none = let none = refused.none in
-        record {
-          before = none.before;
-          after = none.after;
-          kept_before = none.kept_before;
-          none = none.none;
-          kept_after = row none.after t u none.kept_after tried.kept;
-        };
+    none = refused.none;
   },
 )
 
@@ -125,12 +120,14 @@ tells_from : {S : Type 0} (view : S → View) (keeps : S → S → Type 0) (has_
     → keeps s t → (sees_table (view s) k ≡ true → sees_table (view t) k ≡ true) → TellsTable view keeps has_none k b t u
     → TellsTable view keeps has_none k b s u
 tells_from view keeps has_none row k true s t u kept sees set = set
-tells_from view keeps has_none row k false s t u kept sees (null, refused) = (
+tells_from view keeps has_none row k false s t u kept sees (null, now, refused) = (
   null_before (view s) (view t) k sees null,
+  now,
   record {
     at = refused.at;
     before = row s t refused.at kept refused.before;
     behind = refused.behind;
+    null = refused.null;
     knows = refused.knows;
     until = refused.until;
     room = refused.room;
@@ -339,7 +336,7 @@ module _ {S : Type 0} (view : S → View) (keeps : S → S → Type 0) (has_none
               (subst (λ b. TellsTable view keeps has_none n b s u) (sym is_has)
               (tells_from view keeps has_none row n has s t u made.kept (made.sees n small flagged) tells))
           | inr other ↦ subst (λ b. TellsTable view keeps has_none k b s u) (sym (same k other))
-              (tells_on view keeps has_none row n k (is_flagged tables k) s t u (made.each k small_k flagged_k) tried
+              (tells_on view keeps has_none row n k (is_flagged tables k) s t u other (made.each k small_k flagged_k) tried
               (made.told k (omega arith) small_k flagged_k))
         ];
         others = λ k unflagged. same k (λ e. let clash : true ≡ false = sym flagged ∙ ap (is_flagged flags) (sym e) ∙ unflagged in absurd (cc))

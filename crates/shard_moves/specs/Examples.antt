@@ -1,10 +1,11 @@
 -- Worked examples by computation: what is sent and what comes, what moves are told, which tables were made and why one
 -- was not, and how far values are brought in.
-use Rattle.std.specs.Prelude.{◌≡◌, ℕ, List, [], ◌∷◌, ◌++◌, Option, None, Some, true, false, slice_index, cond, nat_eq, ⊤, refl}
+use Rattle.std.specs.Prelude.{◌≡◌, ℕ, List, [], ◌∷◌, ◌++◌, Option, None, Some, Bool, true, false, slice_index, cond, nat_eq, ⊤, refl}
 use Rattle.std.proofs.Common.{arith, ap, subst, sym, inl, inr, ◌∙◌}
 use Rattle.std.specs.List.Sorted.{IsPermutation}
 use Rattle.std.proofs.lemmas.List.Sorted.{IsPermutation-refl, sum_by-IsPermutation}
 use Rattle.heap_model.specs.declared.block.Block.{Block}
+use Rattle.heap_model.specs.Geometry.{root_word}
 use Rattle.heap_model.proofs.MemberLemmas.{in_head, in_none, head_or_rest}
 use Rattle.heap_seat.specs.Examples.{look_with, seat_with}
 use Rattle.heap_seat.specs.View.{View}
@@ -138,34 +139,50 @@ no_room : HadNoTableRoom (seat_with (look_with 2 1) 7) × (HadNoTableRoom (seat_
     × (HadNoTableRoom (seat_with (look_with 2 0) 7) → ⊥)
 no_room = (record { past = omega arith; now = refl }, λ had. let past = had.past in omega arith, λ had. let now : 0 ≡ 1 = had.now in omega arith)
 
--- a shard is told so of such a moment; it is told that it has a table where its root isn't null
-abbrev refused_from : View → View → Type 0
-refused_from v w = WasRefusedTable (λ (x : View). x) (λ _ _. ⊤) (λ _ _ bytes looks. bytes ≡ table_bytes) v w
+-- of the same superblocks, where loads see this in the roots of three shards
+abbrev full_with : List ℕ → View
+full_with values = record (seat_with (look_with 2 1) 7) { volatile = (tables_of values).volatile }
 
-abbrev seen_full : View
-seen_full = seat_with (look_with 2 1) 7
+-- a shard without a table is told so of such a moment, where the heap turned down a table's bytes
+abbrev refused_from : ℕ → View → View → Type 0
+refused_from shard v w = WasRefusedTable (λ (x : View). x) (λ _ _. ⊤) (λ _ _ bytes looks. bytes ≡ table_bytes) shard v w
 
-refused : refused_from seen_full seen_full
+refused : refused_from 0 (full_with (0 ∷ 9 ∷ 0 ∷ [])) (full_with (0 ∷ 9 ∷ 0 ∷ []))
 refused = record {
-  at = seen_full;
+  at = full_with (0 ∷ 9 ∷ 0 ∷ []);
   before = tt;
   behind = tt;
+  null = refl;
   knows = omega arith;
   until = omega arith;
-  room = no_room.0;
+  room = record { past = omega arith; now = refl };
   looks = record { class_head = 0; free_head = 0; used = 2 };
-  none = record { before = seen_full; after = seen_full; kept_before = tt; none = refl; kept_after = tt };
+  none = record { before = full_with []; after = full_with []; kept_before = tt; none = refl; kept_after = tt };
 }
 
--- and not where the seat knows of a lower mark behind it, or the heap turned down another number of bytes
-refused_not : (WasRefusedTable (λ (x : View). x) (λ _ _. ⊤) (λ _ _ bytes looks. bytes ≡ 16) seen_full seen_full → ⊥)
-    × (TellsTable (λ (x : View). x) (λ _ _. ⊤) (λ _ _ _ _. ⊤) 0 true seen_full (tables_of (0 ∷ 0 ∷ 0 ∷ [])) → ⊥)
+-- not where the heap turned down another number of bytes; nor where the shard had a table at that moment
+refused_not : (WasRefusedTable (λ (x : View). x) (λ _ _. ⊤) (λ _ _ bytes looks. bytes ≡ 16) 0 (full_with []) (full_with []) → ⊥)
+    × (WasRefusedTable (λ (x : View). x) (λ _ x. full_with (9 ∷ 9 ∷ 9 ∷ []) ≡ x) (λ _ _ _ _. ⊤) 0 (full_with []) (full_with []) → ⊥)
 refused_not = (
   λ was. let e : table_bytes ≡ 16 = was.none.none in omega arith,
+  λ was. let e : ◌≡◌ {A = Option ℕ} (Some 9) (Some 0) = ap (λ (v : View). v.volatile (root_word 0)) was.before ∙ was.null in
+      let n : ◌≡◌ {A = ℕ} 9 0 = cc in omega (arith, n),
+)
+
+-- nor is it told to have none where it got one meanwhile or had one before, or to have one where its root is null
+abbrev tells : Bool → View → View → Type 0
+tells has v w = TellsTable (λ (x : View). x) (λ _ _. ⊤) (λ _ _ _ _. ⊤) 0 has v w
+
+tells_not : (tells false (full_with (0 ∷ 0 ∷ 0 ∷ [])) (full_with (9 ∷ 0 ∷ 0 ∷ [])) → ⊥)
+    × (tells false (full_with (9 ∷ 0 ∷ 0 ∷ [])) (full_with (0 ∷ 0 ∷ 0 ∷ [])) → ⊥)
+    × (tells true (full_with (0 ∷ 0 ∷ 0 ∷ [])) (full_with (0 ∷ 0 ∷ 0 ∷ [])) → ⊥)
+tells_not = (
+  λ none. let e : ◌≡◌ {A = Option ℕ} (Some 9) (Some 0) = none.1 in let n : ◌≡◌ {A = ℕ} 9 0 = cc in omega (arith, n),
+  λ none. let n : ◌≡◌ {A = ℕ} 9 0 = none.0 9 refl in omega (arith, n),
   λ set. let e : Some 0 ≡ Some set.value = set.seen in let z : 0 ≡ set.value = cc in set.some (sym z),
 )
 
-has_one : TellsTable (λ (x : View). x) (λ _ _. ⊤) (λ _ _ _ _. ⊤) 0 true seen_full (tables_of (9 ∷ 0 ∷ 0 ∷ []))
+has_one : tells true (full_with []) (full_with (9 ∷ 0 ∷ 0 ∷ []))
 has_one = record { value = 9; seen = refl; some = λ e. omega (arith, e) }
 
 -- nothing that is left needs no table, and no keys

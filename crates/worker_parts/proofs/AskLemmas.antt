@@ -10,7 +10,7 @@ use Rattle.run_model.specs.Progress.{HasAnswered}
 use Rattle.run_model.specs.Workers.{Replies, worker_of}
 use Rattle.seat_model.specs.CacheState.{CacheState, CacheValue, heap_view}
 use Rattle.shard_moves.specs.Tables.{TellsTable}
-use Rattle.worker_parts.specs.Asking.{HasAsked, HasAskedOf}
+use Rattle.worker_parts.specs.Asking.{HasExecuted, HasExecutedOf}
 use Rattle.worker_parts.specs.Begun.{IsBegun}
 use Rattle.worker_parts.specs.Going.{GoesOn, TurnsAway}
 use Rattle.worker_parts.specs.Jobs.{IsFirst, image_of}
@@ -66,7 +66,7 @@ module _ (shared : SharedView) (workers worker : ℕ) (wanted tables : ℕ → B
 -- what was asked of a seat with its chance was asked of its state
 pub asked_state : {C : Type 0} (goes : CacheValue C → CacheValue C → Type 0) → ((s t : CacheValue C) → goes s t → GoesOn s.state t.state)
     → (image : Image) (mine : List Request) (tables : ℕ → Bool) (replies : Replies) (stopped : Bool) (s t : CacheValue C)
-    → HasAskedOf view_of goes none_of image mine tables replies stopped s t → HasAsked image mine tables replies stopped s.state t.state
+    → HasExecutedOf view_of goes none_of image mine tables replies stopped s t → HasExecuted image mine tables replies stopped s.state t.state
 asked_state goes on image mine tables replies stopped s t asked = record {
   worked = asked.worked;
   in_one = asked.in_one;

@@ -24,7 +24,7 @@ use Rattle.run_model.specs.Workers.{Replies, root_owner, worker_of, worker_reque
 use Rattle.shard_moves.specs.Tables.{TellsTable}
 use Rattle.worker_run.proofs.AgainLemmas.{has_keys}
 use Rattle.worker_run.proofs.SpendLemmas.{knows_then}
-use Rattle.worker_parts.specs.Asking.{HasAsked}
+use Rattle.worker_parts.specs.Asking.{HasExecuted}
 use Rattle.worker_parts.specs.Begun.{IsBegun}
 use Rattle.worker_parts.specs.Ending.{HasEnded, HasStepped}
 use Rattle.worker_parts.specs.Going.{GoesOn, TurnsAway}
@@ -65,7 +65,7 @@ module _ (shared : SharedView) (requests : List Request) (workers worker : ℕ) 
     (first begun asked t : CacheState)
     (is_first : IsFirst shared workers worker first)
     (made : IsBegun (image_of shared) (is_target_of workers worker requests) tables false first begun)
-    (part : HasAsked (image_of shared) (worker_requests workers worker requests) tables replies before begun asked)
+    (part : HasExecuted (image_of shared) (worker_requests workers worker requests) tables replies before begun asked)
     (goes : GoesOn asked t) (knows : KnowsNoLess (heap_view asked) (heap_view t)) (taken : t.view.taken ≤ asked.view.taken) where
   abbrev mine : List Request
   mine = worker_requests workers worker requests
@@ -82,7 +82,7 @@ module _ (shared : SharedView) (requests : List Request) (workers worker : ℕ) 
   knows_asked : KnowsNoLess (heap_view begun) (heap_view asked)
   knows_asked =
       let keys = has_keys (image_of shared) (first_opened shared workers worker first is_first).maps in
-      (part.few keys.0 keys.1).row.goes_on.used
+      (part.few keys.0 keys.1).goes_on.used
 
   part_full : AreFullRightly heap_view GoesOn (worker_tables workers worker requests)
       (answered (worker_requests workers worker requests) replies) first t
@@ -117,13 +117,14 @@ module _ (shared : SharedView) (requests : List Request) (workers worker : ℕ) 
       → LacksTable (image_of shared) (worker_tables workers worker requests) shard first t
   part_lacks shard small target none =
       let told = subst (λ b. TellsTable heap_view GoesOn TurnsAway shard b first begun) none (made.told refl shard small target) in
-      let was = told.1 in
+      let was = told.2 in
       record {
         null = told.0 (image_of shared (root_word shard)) (first_sees shared workers worker first is_first shard small
             (target_is_own workers worker requests shard target));
         at = was.at;
         before = was.before;
         behind = goes_then was.at begun t was.behind from_begun;
+        none_yet = was.null;
         knows = knows_then (heap_view was.at) (heap_view begun) (heap_view t) was.knows
             (knows_then (heap_view begun) (heap_view asked) (heap_view t) knows_asked knows);
         room = was.room;
@@ -137,7 +138,7 @@ module _ (shared : SharedView) (requests : List Request) (workers worker : ℕ) 
       (512 + 4 * (length keys + puts_among mine + came)) → t.large_calls ≤ asked.large_calls + came + 1
       → SpendsFew (targets_of workers worker requests) mine came (length keys) t
   part_few came keys lists small large =
-      let few = (part.few keys lists).row in
+      let few = part.few keys lists in
       let tables = made.calls in
       record {
         small = let a = tables.small_few in let b = few.small_few in let none = is_first.unused.small in omega (arith, a, b, none, small);

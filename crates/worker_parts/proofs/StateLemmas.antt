@@ -97,19 +97,21 @@ module _ {C : Type 0} (goes : CacheValue C → CacheValue C → Type 0) (on : (s
     each = λ before later key value is. let at = full.each before later key value is in (at.0.state, on s at.0 at.1, on at.0 t at.2, at.3, at.4);
   }
 
-  refused_table : (s t : CacheValue C) → WasRefusedTable view_of goes none_of s t → WasRefusedTable heap_view GoesOn TurnsAway s.state t.state
-  refused_table s t was = record {
+  refused_table : (shard : ℕ) (s t : CacheValue C) → WasRefusedTable view_of goes none_of shard s t
+      → WasRefusedTable heap_view GoesOn TurnsAway shard s.state t.state
+  refused_table shard s t was = record {
     at = was.at.state;
     before = on s was.at was.before;
     behind = on was.at t was.behind;
+    null = was.null;
     knows = was.knows;
     until = was.until;
     room = was.room;
     looks = was.looks;
-    none = turned_down _ was.looks s t was.none;
+    none = turned_down _ was.looks s was.at was.none;
   }
 
   pub tells_table : (shard : ℕ) (has : Bool) (s t : CacheValue C) → TellsTable view_of goes none_of shard has s t
       → TellsTable heap_view GoesOn TurnsAway shard has s.state t.state
   tells_table shard true s t told = told
-  tells_table shard false s t told = (told.0, refused_table s t told.1)
+  tells_table shard false s t told = (told.0, told.1, refused_table shard s t told.2)

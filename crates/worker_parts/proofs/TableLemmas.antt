@@ -18,7 +18,7 @@ use Rattle.run_model.proofs.OneMapLemmas.{small_shard}
 use Rattle.shard_moves.specs.Arriving.{HaveTables}
 use Rattle.shard_moves.specs.Tables.{TellsTable}
 use Rattle.worker_run.proofs.SpendLemmas.{unanswered_now}
-use Rattle.worker_parts.specs.Asking.{HasAsked}
+use Rattle.worker_parts.specs.Asking.{HasExecuted}
 use Rattle.worker_parts.specs.Begun.{IsBegun}
 use Rattle.worker_parts.specs.Going.{GoesOn, TurnsAway}
 use Rattle.worker_parts.specs.Jobs.{HasTableFor, IsFirst, image_of}
@@ -38,7 +38,7 @@ table_stays shard (r ∷ rs) s t all owned set =
 module _ (shared : SharedView) (requests : List Request) (workers worker : ℕ) (tables : ℕ → Bool) (replies : Replies) (first begun asked : CacheState)
     (is_first : IsFirst shared workers worker first)
     (made : IsBegun (image_of shared) (is_target_of workers worker requests) tables false first begun)
-    (part : HasAsked (image_of shared) (worker_requests workers worker requests) tables replies false begun asked) where
+    (part : HasExecuted (image_of shared) (worker_requests workers worker requests) tables replies false begun asked) where
   module _ (key : ℕ) (has : HasTableFor tables requests workers worker key) where
     begun_owns : Contains begun.view.roots (shard_of key)
     begun_owns = subst (λ (roots : List ℕ). Contains roots (shard_of key)) (sym made.roots_are)

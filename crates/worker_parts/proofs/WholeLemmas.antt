@@ -15,7 +15,7 @@ use Rattle.run_model.specs.Workers.{Replies, worker_requests}
 use Rattle.shard_moves.specs.Arriving.{HaveTables, ListAllKeys}
 use Rattle.worker_run.proofs.AgainLemmas.{has_keys}
 use Rattle.worker_run.proofs.SpendLemmas.{knows_then, refused_none}
-use Rattle.worker_parts.specs.Asking.{HasAsked}
+use Rattle.worker_parts.specs.Asking.{HasExecuted}
 use Rattle.worker_parts.specs.Begun.{IsBegun}
 use Rattle.worker_parts.specs.Going.{GoesOn, HasSettled}
 use Rattle.worker_parts.specs.Jobs.{IsFirst, IsPartOf, image_of}
@@ -31,7 +31,7 @@ use Rattle.worker_parts.proofs.PartLemmas.{first_opened, part_of, part_of_seat, 
 pub left_part : (shared : SharedView) (requests : List Request) (workers worker : ℕ) (tables : ℕ → Bool) (replies : Replies)
     (first begun t : CacheState) → IsFirst shared workers worker first
     → IsBegun (image_of shared) (is_target_of workers worker requests) tables false first begun
-    → HasAsked (image_of shared) (worker_requests workers worker requests) tables replies true begun t → (seat : SeatView) (came : List Sent)
+    → HasExecuted (image_of shared) (worker_requests workers worker requests) tables replies true begun t → (seat : SeatView) (came : List Sent)
     → seat.table ≡ t.table → seat.view ≡ t.view
     → IsPartOf shared requests workers worker tables seat replies came [] false true
 left_part shared requests workers worker tables replies first begun t is_first made part seat came table view =
@@ -95,7 +95,7 @@ module _ (shared : SharedView) (requests : List Request) (workers worker : ℕ) 
     (first begun asked arrived t : CacheState)
     (is_first : IsFirst shared workers worker first)
     (made : IsBegun (image_of shared) (is_target_of workers worker requests) tables false first begun)
-    (part : HasAsked (image_of shared) (worker_requests workers worker requests) tables replies false begun asked)
+    (part : HasExecuted (image_of shared) (worker_requests workers worker requests) tables replies false begun asked)
     (came left : List Sent) (before after : Bool) (brings : BringsIn came left before asked arrived)
     (cause : before ≡ true → (ticket : ℕ) × (arrived.view.stopped ≡ Some ticket)) (settled : HasSettled before after arrived t)
     (goes : GoesOn asked arrived)

@@ -14,10 +14,9 @@ use Rattle.run_model.specs.Working.{HasStopped, HasWorked, IsUnderWay, TakesRequ
 use Rattle.worker_run.specs.Sending.{GoesByTables}
 use Rattle.worker_parts.specs.Going.{GoesOn, TurnsAway}
 
--- From the one state to the other a seat of any kind worked off its requests, over these tables, with these replies, or
--- was stopped in one. What goes on of it
--- is given, and what is so where a request is turned away.
-pub record HasAskedOf {S : Type 0} (view : S → View) (goes : S → S → Type 0) (has_none : S → S → ℕ → Looks → Type 0) (image : Image)
+-- From the one state to the other a seat of any kind executed its requests, over these tables, with these replies, or was stopped in one. What goes
+-- on of it is given, and what is so where a request is turned away.
+pub record HasExecutedOf {S : Type 0} (view : S → View) (goes : S → S → Type 0) (has_none : S → S → ℕ → Looks → Type 0) (image : Image)
     (mine : List Request)
     (tables : ℕ → Bool) (replies : Replies) (stopped : Bool) (s t : S) : Type 0 where
   pub worked : stopped ≡ false → HasWorked image mine [] replies (view t)
@@ -34,5 +33,5 @@ pub record HasAskedOf {S : Type 0} (view : S → View) (goes : S → S → Type 
   pub exact : stopped ≡ false → ReachesAllHeld (view t)
 
 -- so did a worker's seat
-abbrev pub HasAsked : Image → List Request → (ℕ → Bool) → Replies → Bool → CacheState → CacheState → Type 0
-HasAsked image mine tables replies stopped s t = HasAskedOf heap_view GoesOn TurnsAway image mine tables replies stopped s t
+abbrev pub HasExecuted : Image → List Request → (ℕ → Bool) → Replies → Bool → CacheState → CacheState → Type 0
+HasExecuted image mine tables replies stopped s t = HasExecutedOf heap_view GoesOn TurnsAway image mine tables replies stopped s t

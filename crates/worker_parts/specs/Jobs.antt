@@ -17,7 +17,7 @@ use Rattle.worker_parts.specs.declared.arriving.Worked.{Worked}
 use Rattle.worker_parts.specs.declared.asking.Asked.{Asked}
 use Rattle.worker_parts.specs.declared.beginning.Begun.{Begun}
 use Rattle.worker_parts.specs.declared.beginning.Job.{Job}
-use Rattle.worker_parts.specs.Asking.{HasAsked}
+use Rattle.worker_parts.specs.Asking.{HasExecuted}
 use Rattle.worker_parts.specs.Begun.{IsOpenedFor, IsBegun}
 use Rattle.worker_parts.specs.Going.{IsUnused}
 use Rattle.worker_parts.specs.Parts.{IsPart}
@@ -60,7 +60,7 @@ pub record IsAskedOf {C : Type 0} (shared : SharedView) (requests : List Request
   pub begun : CacheState
   pub is_first : IsFirst shared asked.worker.workers asked.worker.number first
   pub made : IsBegun (image_of shared) (is_target_of asked.worker.workers asked.worker.number requests) tables false first begun
-  pub part : HasAsked (image_of shared) (worker_requests asked.worker.workers asked.worker.number requests) tables
+  pub part : HasExecuted (image_of shared) (worker_requests asked.worker.workers asked.worker.number requests) tables
       (replies_of asked.replies.items) asked.stopped
       begun asked.seat.state
 

@@ -14,7 +14,7 @@ use Rattle.run_model.specs.Sending.{Sent}
 use Rattle.run_model.specs.Spending.{AreFullRightly, HasTakenFew}
 use Rattle.run_model.specs.Workers.{Replies, root_owner, worker_requests}
 use Rattle.run_model.specs.Working.{large_calls_of}
-use Rattle.shard_moves.specs.Tables.{HadNoTableRoom, TellsTable}
+use Rattle.shard_moves.specs.Tables.{HadNoTableRoom, RootIsNull, TellsTable}
 use Rattle.worker_run.specs.Sending.{GoesByTables}
 use Rattle.worker_parts.specs.Ending.{HasEnded, HasStepped}
 use Rattle.worker_parts.specs.Going.{GoesOn, IsUnused, TurnsAway}
@@ -31,23 +31,21 @@ pub record ArrivalsAreFew (mine : List Request) (came keys : ℕ) (s t : CacheSt
   pub small : t.small_calls ≤ s.small_calls + came * (512 + 4 * (keys + puts_among mine + came))
   pub large : t.large_calls ≤ s.large_calls + came + 1
 
--- The shard has no table in the image. At a moment from the one state to the other none was left for it, and nothing
--- was forgotten of the mark since; until then
--- the seat had taken so many superblocks at most.
+-- The shard has no table in the image. At a moment from the one state to the other it had none still, and none was left for it; nothing was
+-- forgotten of the mark since, and until then the seat had taken so many superblocks at most.
 pub record LacksTable (image : Image) (tables shard : ℕ) (s t : CacheState) : Type 0 where
   pub null : image (root_word shard) ≡ 0
   pub at : CacheState
   pub before : GoesOn s at
   pub behind : GoesOn at t
+  pub none_yet : RootIsNull (heap_view at) shard
   pub knows : KnowsNoLess (heap_view at) (heap_view t)
   pub room : HadNoTableRoom (heap_view at)
   pub taken : at.view.taken ≤ s.view.taken + tables
 
--- One worker's part of a run, over which it is told of each shard whether it has a table. These replies it gave, this
--- came for it by moves, and of that it brought in
--- the first values. It is halted where a worker was stopped before the first request; else it is told of each shard of
--- its own that values are moved to whether it has
--- a table before the first request. A flag that is false says that it had none at first and that one was refused.
+-- One worker's part of a run, over which it is told of each shard whether it has a table. These replies it gave, this came for it by moves, and of
+-- that it brought in the first values. It is halted where a worker was stopped before the first request; else it is told of each shard of its own
+-- that values are moved to whether it has a table before the first request. A flag that is false says that it has none, and that one was refused.
 pub record IsPart (image : Image) (workers : ℕ) (requests : List Request) (worker : ℕ) (tables : ℕ → Bool) (replies : Replies)
     (came brought : List Sent)
     (halted stopped : Bool) (s t : CacheState) : Type 0 where

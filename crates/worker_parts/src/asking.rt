@@ -18,7 +18,7 @@ ghost use Rattle.seat_model.specs.CacheState.{CacheValue};
 ghost use Rattle.shard_moves.specs.Tables.{is_flagged};
 ghost use Rattle.worker_run.specs.Said.{requests_of, replies_of, ValuesAreShort};
 ghost use Rattle.worker_run.specs.Sending.{rooms_needed};
-ghost use Rattle.worker_parts.specs.Asking.{HasAskedOf};
+ghost use Rattle.worker_parts.specs.Asking.{HasExecutedOf};
 ghost use Rattle.worker_parts.specs.Going.{GoesOn};
 ghost use Rattle.worker_parts.specs.Jobs.{IsBegunOf, IsAskedOf, image_of};
 
@@ -134,7 +134,7 @@ fn ask_seat<H: HeapSeat + Opened, G: Gate, O: Outbox<H>>(
     requires ready { O.ready outbox.old seat.old }
     requires outgoing { rooms_needed (worker_requests worker.workers worker.number
         (requests_of requests.now)) ≤ O.room outbox.old }
-    ensures asked { HasAskedOf H.view O.goes H.has_none (H.image seat.old)
+    ensures asked { HasExecutedOf H.view O.goes H.has_none (H.image seat.old)
         (worker_requests worker.workers worker.number (requests_of requests.now))
         (is_flagged tables.now) (replies_of replies.new.items) result seat.old seat.new }
     ensures sent { (whole : Map) → IsWholeMap (H.image seat.old) whole → IsPermutation

@@ -1,5 +1,5 @@
 -- A run's requests add up: the calls that they make, the superblocks that they take, and why one was told that there is no room.
-use Rattle.std.proofs.Common.{◌≡◌, ◌≢◌, ℕ, ◌+◌, ◌*◌, ◌<◌, ◌≤◌, ◌⊎◌, inl, inr, List, [], ◌∷◌, ◌++◌, length, map, sum_by, None, Some, Contains, refl, subst, sym, ap, ◌∙◌, arith}
+use Rattle.std.proofs.Common.{◌≡◌, ◌≢◌, ℕ, ◌+◌, ◌-◌, ◌*◌, ◌<◌, ◌≤◌, ◌⊎◌, inl, inr, List, [], ◌∷◌, ◌++◌, length, map, sum_by, None, Some, Contains, refl, subst, sym, ap, ◌∙◌, arith}
 use Rattle.std.proofs.Math.Nat.{add-mul, mul-le-mul_right}
 use Rattle.std.proofs.lemmas.List.{length-map, length-append}
 use Rattle.std.proofs.lemmas.List.Elements.{Contains-append_left, Contains-append_right}
@@ -7,6 +7,7 @@ use Rattle.std.proofs.lemmas.List.Sums.{sum_by-cons, sum_by-append}
 use Rattle.heap_model.specs.Image.{Image}
 use Rattle.heap_model.proofs.MemberLemmas.{map_in}
 use Rattle.heap_seat.specs.View.{View}
+use Rattle.heap_seat.specs.Rows.{IsRow}
 use Rattle.heap_seat.proofs.RowLemmas.{row_none, row_then, row_more}
 use Rattle.dict_model.specs.Requests.{Request, put, Reply, full, after}
 use Rattle.dict_model.specs.Links.{shards}
@@ -19,7 +20,7 @@ use Rattle.run_model.specs.Opened.{HasMaps}
 use Rattle.run_model.specs.Runs.{answered, unanswered, of_shard, span_taken}
 use Rattle.run_model.specs.Spending.{IsPut, HadNoRoom, IsFullBehind, AreFullRightly, MakeFew, tables_missing}
 use Rattle.run_model.specs.Workers.{key_of, shard_asked, Replies}
-use Rattle.run_model.specs.Working.{Fits, HasWorked, MakesCalls, large_calls_of, words_copied}
+use Rattle.run_model.specs.Working.{Fits, HasWorked, MakesCalls, large_calls_of, most_taken, words_copied}
 use Rattle.worker_run.specs.Said.{IsShort, Told, reply_of, replies_of}
 use Rattle.worker_run.proofs.AnsweringLemmas.{copies_few, there_or_not}
 use Rattle.worker_run.proofs.KeyLemmas.{seat_keys}
@@ -144,9 +145,33 @@ larges_worked image qs left replies v worked =
     (subst (λ xs. larges_of worked.rs + sum_by large_calls_of left ≡ sum_by large_calls_of xs) (sym worked.requests_are)
     (sym (larges_asked worked.rs left)))
 
+-- requests make few calls where these are a row, whatever superblocks it takes
+few_of : (requests small large most : ℕ) (v w : View) → IsRow (requests * small) large most v w → MakeFew requests small large v w
+few_of requests small large most v w row = record {
+  goes_on = row.goes_on;
+  small_from = row.small_from;
+  small_few = row.small_few;
+  large_from = row.large_from;
+  large_few = row.large_few;
+  taken = row.taken;
+  looks = row.looks;
+}
+
+row_of : (requests small large : ℕ) (v w : View) → MakeFew requests small large v w → IsRow (requests * small) large (w.taken - v.taken) v w
+row_of requests small large v w few = record {
+  goes_on = few.goes_on;
+  small_from = few.small_from;
+  small_few = few.small_few;
+  large_from = few.large_from;
+  large_few = few.large_few;
+  taken = few.taken;
+  few = let taken = few.taken in omega arith;
+  looks = few.looks;
+}
+
 -- no request makes no call, and one more makes as many as one does
 pub few_none : (small : ℕ) (v : View) → MakeFew 0 small 0 v v
-few_none small v = record { most = 0; row = row_more 0 0 0 (0 * small) 0 0 v v (omega arith) (omega arith) (omega arith) (row_none v) }
+few_none small v = few_of 0 small 0 0 v v (row_more 0 0 0 (0 * small) 0 0 v v (omega arith) (omega arith) (omega arith) (row_none v))
 
 pub few_next : (requests small large : ℕ) (image : Image) (qs left : List Request) (q : Request) (replies : Replies) (v u w : View) (room : ℕ)
     (keys : List ℕ) → small ≡ 33280 + 4 * (length keys + length qs)
@@ -160,21 +185,20 @@ few_next requests small large image qs left q replies v u w room keys small_is m
     let long = length-append keys (map key_of qs) in
     let same = length-map qs key_of in
     let product = add-mul requests 1 small in
-    record {
-      most = few.most + calls.most;
-      row = row_more (requests * small + (512 + 2 * words_copied q listed.map + 4 * length (keys ++ map key_of qs))) (large + large_calls_of q)
-          (few.most + calls.most) ((requests + 1) * small) (large + large_calls_of q) (few.most + calls.most) v w
-          (omega arith) (omega arith) (omega arith)
-          (row_then (requests * small) large few.most (512 + 2 * words_copied q listed.map + 4 * length (keys ++ map key_of qs))
-          (large_calls_of q) calls.most v u w few.row row);
-    }
+    let most = u.taken - v.taken + most_taken q in
+    few_of (requests + 1) small (large + large_calls_of q) most v w
+    (row_more (requests * small + (512 + 2 * words_copied q listed.map + 4 * length (keys ++ map key_of qs))) (large + large_calls_of q)
+    most ((requests + 1) * small) (large + large_calls_of q) most v w (omega arith) (omega arith) (omega arith)
+    (row_then (requests * small) large (u.taken - v.taken) (512 + 2 * words_copied q listed.map + 4 * length (keys ++ map key_of qs))
+    (large_calls_of q) (most_taken q) v u w (row_of requests small large v u few) row))
 
 pub few_more : (requests more small large larger : ℕ) (v w : View) → requests ≤ more → large ≤ larger → MakeFew requests small large v w
     → MakeFew more small larger v w
-few_more requests more small large larger v w most most_large few = record {
-  most = few.most;
-  row = row_more (requests * small) large few.most (more * small) larger few.most v w (mul-le-mul_right small most) most_large (omega arith) few.row;
-}
+few_more requests more small large larger v w most most_large few =
+    let taken = w.taken - v.taken in
+    few_of more small larger taken v w
+    (row_more (requests * small) large taken (more * small) larger taken v w (mul-le-mul_right small most) most_large (omega arith)
+    (row_of requests small large v w few))
 
 -- a place in a list that got one more: the last one, or one from before
 no_end : {X : Type 0} (xs ys : List X) (x : X) → [] ≡ xs ++ (x ∷ ys) → ⊥

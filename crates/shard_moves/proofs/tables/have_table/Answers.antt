@@ -34,10 +34,12 @@ returns-in-Err-Full-clause-told g c =
     let why = subst (λ (fault : AllocFault). TableFails c.args.number fault v w) c.in-Err-Full.field-0-is
     (subst (λ (n : ℕ). TableFails n c.in-Err-Full.field-0 v w) c.at.ensures c.in-Err-Full.ensures.cause) in (
       null_at_first v w c.args.number (λ map. map) change c.requires.shard.owned why.0,
+      why.0,
       record {
         at = c.make_table.new.seat;
         before = c.make_table.ensures.kept;
         behind = g.met.H.HeapSeat.keeps_none c.make_table.new.seat;
+        null = why.0;
         knows = omega arith;
         until = omega arith;
         room = record { past = let past = why.1.found.past in let seen = why.1.found.used.is in omega arith; now = why.1.found.used.taken };

@@ -3,7 +3,7 @@ use Rattle.seat_model.specs.CacheState.{heap_view}
 use Rattle.worker_run.specs.Said.{requests_of, replies_of}
 use Rattle.shard_moves.specs.Tables.{is_flagged}
 use Rattle.run_model.specs.Workers.{worker_requests}
-use Rattle.worker_parts.specs.Asking.{HasAsked}
+use Rattle.worker_parts.specs.Asking.{HasExecuted}
 use Rattle.worker_parts.specs.Jobs.{image_of}
 use Rattle.worker_parts.proofs.ArrivalLemmas.{arrival_cause, arrival_exact, BringsIn, brings_in}
 use Rattle.worker_parts.proofs.TableLemmas.{have_tables}
@@ -19,7 +19,8 @@ bring_in-requires-clause-tables g c =
     let replies = replies_of c.args.asked.replies.items in
     let s = c.args.asked.seat.state in
     have_tables c.args._shared.now qs w.workers w.number tables replies is.first is.begun s is.is_first is.made
-    (subst (λ b. HasAsked (image_of c.args._shared.now) (worker_requests w.workers w.number qs) tables replies b is.begun s) c.requires.going is.part)
+    (subst (λ b. HasExecuted (image_of c.args._shared.now) (worker_requests w.workers w.number qs) tables replies b is.begun s)
+    c.requires.going is.part)
     (g.I.Inbox.left c.args.inbox.now) c.requires.tables
 
 pub returns-clause-worked : goal.returns-clause-worked
@@ -36,7 +37,7 @@ returns-clause-worked g c =
     let left = g.I.Inbox.left c.bring_in.new.inbox in
     let s = c.args.asked.seat.state in
     let t = c.bring_in.new.seat.state in
-    let part = subst (λ b. HasAsked (image_of c.args._shared.now) (worker_requests w.workers w.number qs) tables replies b is.begun s)
+    let part = subst (λ b. HasExecuted (image_of c.args._shared.now) (worker_requests w.workers w.number qs) tables replies b is.begun s)
     c.requires.going is.part in
     let brings = subst (λ b. BringsIn came left b s t) (sym said)
     (brings_in g.I.Inbox.goes c.requires.goes c.bring_in.result came left c.args.asked.seat c.bring_in.new.seat e.answered e.steps e.stopped

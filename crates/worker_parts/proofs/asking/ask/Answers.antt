@@ -4,7 +4,7 @@ use Rattle.run_model.specs.Arrivals.{IsWholeMap}
 use Rattle.run_model.specs.Workers.{worker_requests}
 use Rattle.shard_moves.specs.Tables.{is_flagged}
 use Rattle.worker_run.specs.Said.{requests_of, replies_of}
-use Rattle.worker_parts.specs.Asking.{HasAsked}
+use Rattle.worker_parts.specs.Asking.{HasExecuted}
 use Rattle.worker_parts.proofs.AskLemmas.{asked_state, begun_among, begun_answered, begun_going, begun_image, begun_maps, begun_owns}
 use Rattle.worker_parts.proofs.asking.ask.Goals as goal
 
@@ -57,7 +57,7 @@ returns-clause-asked g c =
       is_first = is.is_first;
       made = begun_among shared w.workers w.number _ (is_flagged begun.tables)
           begun.stopped c.requires.going is.first s.state is.is_first is.part tables c.requires.tables;
-      part = subst (λ (i : Image). HasAsked i mine tables replies stopped s.state t.state)
+      part = subst (λ (i : Image). HasExecuted i mine tables replies stopped s.state t.state)
           (sym (begun_image shared w.workers w.number _ (is_flagged begun.tables) begun.stopped c.requires.going is.first s.state is.is_first is.part))
           (asked_state g.O.Outbox.goes c.requires.goes _ mine tables replies stopped s t c.ask_seat-stopped.ensures.asked);
     }

@@ -10,10 +10,10 @@ use Rattle.worker_run.proofs.answer.del_reply.Goals as goal
 use Rattle.worker_run.proofs.answer.del_reply.Goals.{then-found, else-found}
 
 pub returns-in_err-found-clause-calls : goal.returns-in_err-found-clause-calls
-returns-in_err-found-clause-calls g c = record { most = 0; few = λ map gives. c.del.ensures.calls }
+returns-in_err-found-clause-calls g c = record { few = λ map gives. c.del.ensures.calls }
 
 pub returns-clause-calls : goal.returns-clause-calls
-returns-clause-calls g c = record { most = 0; few = λ map gives. c.del.ensures.calls }
+returns-clause-calls g c = record { few = λ map gives. c.del.ensures.calls }
 
 pub returns-clause-ok : goal.returns-clause-ok
 returns-clause-ok g c =

@@ -7,13 +7,13 @@ use Rattle.worker_run.proofs.AnsweringLemmas.{none_spent, replied_missing, repli
 use Rattle.worker_run.proofs.answer.get_reply.Goals as goal
 
 pub returns-in_err-length-clause-calls : goal.returns-in_err-length-clause-calls
-returns-in_err-length-clause-calls g c = record { most = 0; few = c.get.ensures.calls }
+returns-in_err-length-clause-calls g c = record { few = c.get.ensures.calls }
 
 pub returns-in_default-clause-calls : goal.returns-in_default-clause-calls
-returns-in_default-clause-calls g c = record { most = 0; few = c.get.ensures.calls }
+returns-in_default-clause-calls g c = record { few = c.get.ensures.calls }
 
 pub returns-clause-calls : goal.returns-clause-calls
-returns-clause-calls g c = record { most = 0; few = c.get.ensures.calls }
+returns-clause-calls g c = record { few = c.get.ensures.calls }
 
 pub returns-in_default-clause-ok : goal.returns-in_default-clause-ok
 returns-in_default-clause-ok g c =

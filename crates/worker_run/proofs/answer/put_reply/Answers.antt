@@ -1,7 +1,6 @@
-use Rattle.std.proofs.Common.{◌+◌, length, refl, subst}
+use Rattle.std.proofs.Common.{length, refl, subst}
 use Rattle.heap_seat.specs.declared.fault.AllocFault.{AllocFault}
-use Rattle.heap_model.specs.Sizes.{span_of}
-use Rattle.dict_model.specs.Nodes.{shard_of, node_bytes, table_bytes}
+use Rattle.dict_model.specs.Nodes.{shard_of, node_bytes}
 use Rattle.dict_requests.specs.Puts.{PutAnswers}
 use Rattle.worker_run.proofs.AnsweringLemmas.{put_spends, was_refused, replied_put, replied_full}
 use Rattle.worker_run.proofs.answer.put_reply.Goals as goal
@@ -11,10 +10,7 @@ returns-in-Ok-clause-ok g c = replied_put c.args.key c.args.value.now (g.H.HeapS
     (g.H.HeapSeat.view c.put.new.seat) c.requires.shard c.in-Ok.ensures.ok c.put.ensures.taken
 
 pub returns-in-Ok-clause-calls : goal.returns-in-Ok-clause-calls
-returns-in-Ok-clause-calls g c = record {
-  most = span_of (node_bytes (length c.args.value.now)) + span_of table_bytes;
-  few = λ map gives. c.put.ensures.calls;
-}
+returns-in-Ok-clause-calls g c = record { few = λ map gives. c.put.ensures.calls }
 
 pub returns-in-Err-Full-clause-ok : goal.returns-in-Err-Full-clause-ok
 returns-in-Err-Full-clause-ok g c =
@@ -25,16 +21,10 @@ returns-in-Err-Full-clause-ok g c =
     replied_full c.args.key c.args.value.now _ v w why.0 why.1
 
 pub returns-in-Err-Full-clause-calls : goal.returns-in-Err-Full-clause-calls
-returns-in-Err-Full-clause-calls g c = record {
-  most = span_of (node_bytes (length c.args.value.now)) + span_of table_bytes;
-  few = λ map gives. c.put.ensures.calls;
-}
+returns-in-Err-Full-clause-calls g c = record { few = λ map gives. c.put.ensures.calls }
 
 pub returns-in-Err-Stopped-clause-calls : goal.returns-in-Err-Stopped-clause-calls
-returns-in-Err-Stopped-clause-calls g c = record {
-  most = span_of (node_bytes (length c.args.value.now)) + span_of table_bytes;
-  few = λ map gives. c.put.ensures.calls;
-}
+returns-in-Err-Stopped-clause-calls g c = record { few = λ map gives. c.put.ensures.calls }
 
 pub returns-in-Ok-clause-taken : goal.returns-in-Ok-clause-taken
 returns-in-Ok-clause-taken g c = put_spends c.args.key c.args.value.now (g.H.HeapSeat.view c.args.seat.now)
