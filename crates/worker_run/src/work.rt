@@ -111,7 +111,7 @@ pub fn work_off<H: HeapSeat, G: Gate, O: Outbox<H>>(
     while let Some((request, rest)) = left.split_first() {
         if worker.has(request) {
             let Some(room) = rooms.pop_front() else {
-                break;
+                unreachable!();
             };
             let number = requests.len() - left.len();
             gate.pass(worker.number, number);

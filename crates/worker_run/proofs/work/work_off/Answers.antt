@@ -20,7 +20,6 @@ use Rattle.worker_run.proofs.SpendLemmas.{answered_none, answered_now, answered_
 use Rattle.worker_run.proofs.TakenLemmas.{HasTaken, taken_none, taken_next, taken_stopped, taken_ended}
 use Rattle.worker_run.proofs.WorkLemmas.{map_push, work_begins, room_fits, work_replied}
 use Rattle.worker_run.proofs.work.work_off.Goals as goal
-use Rattle.worker_run.proofs.work.work_off.Goals.{in-Some+then-has+in_default-pop_front, in_default}
 
 pub loop-request-init : goal.loop-request-init
 loop-request-init g c =
@@ -357,6 +356,13 @@ loop-request-preserved-in-Ok g c =
           (subst (GoesByTables (is_flagged c.args.tables.now) q) replied.told_is c.in-Ok.ensures.tables) c.loop-request.invariant.tables);
     }
 
+pub unreachable-requires : goal.unreachable-requires
+unreachable-requires g c =
+    no_room_left c.args.worker.workers c.args.worker.number c.loop-request.left.now c.in-Some.rest.now c.in-Some.request.now c.has.result
+    c.in-Some.ensures.cases.0 c.has.ensures c.if-has.true g.image (requests_of c.args.requests.now) c.loop-request.rooms.items
+    (c.in_default-pop_front.ensures.items ∙ nil_from_length c.pop_front.new.self.items (let ok = c.pop_front.new.self.ok in
+    let none = c.in_default-pop_front.ensures.cases.1 in omega arith)) c.loop-request.invariant.rooms
+
 pub returns-clause-calls : goal.returns-clause-calls
 returns-clause-calls g c = λ keys lists.
     let image = g.image in
@@ -367,15 +373,8 @@ returns-clause-calls g c = λ keys lists.
     let worker = c.args.worker.number in
     let mine = worker_requests workers worker (requests_of lines) in
     let told = replies_of c.loop-request.replies.items in
-    let worked : HasWorked image mine [] told v = elim c.match-split_first.branch as (λ _. HasWorked image mine [] told v) [
-      | in-Some+then-has+in_default-pop_front w ↦
-          absurd (no_room_left workers worker c.loop-request.left.now w.in-Some.rest.now w.in-Some.request.now w.has.result
-          w.in-Some.ensures.cases.0 w.has.ensures w.if-has.true image (requests_of lines) c.loop-request.rooms.items
-          (w.in_default-pop_front.ensures.items ∙ nil_from_length w.pop_front.new.self.items (let ok = w.pop_front.new.self.ok in
-          let none = w.in_default-pop_front.ensures.cases.1 in omega arith)) c.loop-request.invariant.rooms)
-      | in_default w ↦ subst (λ (ls : List Line). HasWorked image mine (worker_requests workers worker (requests_of ls)) told v)
-          (nil_from_length c.loop-request.left.now w.in_default.ensures.cases) c.loop-request.invariant.worked
-    ] in
+    let worked = subst (λ (ls : List Line). HasWorked image mine (worker_requests workers worker (requests_of ls)) told v)
+    (nil_from_length c.loop-request.left.now c.in_default.ensures.cases) c.loop-request.invariant.worked in
     let items = c.loop-request.replies.items in
     let small = 33280 + 4 * (length keys + length mine) in
     few_more (length items) (length mine) small (larges_of (answered mine told)) (sum_by large_calls_of mine) start v
@@ -392,15 +391,8 @@ returns-clause-taken g c =
     let worker = c.args.worker.number in
     let mine = worker_requests workers worker (requests_of lines) in
     let told = replies_of c.loop-request.replies.items in
-    let worked : HasWorked image mine [] told v = elim c.match-split_first.branch as (λ _. HasWorked image mine [] told v) [
-      | in-Some+then-has+in_default-pop_front w ↦
-          absurd (no_room_left workers worker c.loop-request.left.now w.in-Some.rest.now w.in-Some.request.now w.has.result
-          w.in-Some.ensures.cases.0 w.has.ensures w.if-has.true image (requests_of lines) c.loop-request.rooms.items
-          (w.in_default-pop_front.ensures.items ∙ nil_from_length w.pop_front.new.self.items (let ok = w.pop_front.new.self.ok in
-          let none = w.in_default-pop_front.ensures.cases.1 in omega arith)) c.loop-request.invariant.rooms)
-      | in_default w ↦ subst (λ (ls : List Line). HasWorked image mine (worker_requests workers worker (requests_of ls)) told v)
-          (nil_from_length c.loop-request.left.now w.in_default.ensures.cases) c.loop-request.invariant.worked
-    ] in
+    let worked = subst (λ (ls : List Line). HasWorked image mine (worker_requests workers worker (requests_of ls)) told v)
+    (nil_from_length c.loop-request.left.now c.in_default.ensures.cases) c.loop-request.invariant.worked in
     subst (λ qs. HasTakenFew (tables_missing (put_into mine) start) (answered mine told) qs start v)
     (sym (unanswered_now image mine [] told v worked)) (taken_ended mine (answered mine told) start v c.loop-request.invariant.taken)
 
@@ -413,15 +405,8 @@ returns-clause-steps g c =
     let worker = c.args.worker.number in
     let mine = worker_requests workers worker (requests_of lines) in
     let told = replies_of c.loop-request.replies.items in
-    let worked : HasWorked image mine [] told v = elim c.match-split_first.branch as (λ _. HasWorked image mine [] told v) [
-      | in-Some+then-has+in_default-pop_front w ↦
-          absurd (no_room_left workers worker c.loop-request.left.now w.in-Some.rest.now w.in-Some.request.now w.has.result
-          w.in-Some.ensures.cases.0 w.has.ensures w.if-has.true image (requests_of lines) c.loop-request.rooms.items
-          (w.in_default-pop_front.ensures.items ∙ nil_from_length w.pop_front.new.self.items (let ok = w.pop_front.new.self.ok in
-          let none = w.in_default-pop_front.ensures.cases.1 in omega arith)) c.loop-request.invariant.rooms)
-      | in_default w ↦ subst (λ (ls : List Line). HasWorked image mine (worker_requests workers worker (requests_of ls)) told v)
-          (nil_from_length c.loop-request.left.now w.in_default.ensures.cases) c.loop-request.invariant.worked
-    ] in (
+    let worked = subst (λ (ls : List Line). HasWorked image mine (worker_requests workers worker (requests_of ls)) told v)
+    (nil_from_length c.loop-request.left.now c.in_default.ensures.cases) c.loop-request.invariant.worked in (
       c.loop-request.seat,
       c.loop-request.invariant.steps,
       subst (λ qs. IsUnderWay qs v v) (sym (unanswered_now image mine [] told v worked)) refl,
