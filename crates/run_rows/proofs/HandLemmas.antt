@@ -30,9 +30,9 @@ use Rattle.worker_parts.specs.Jobs.{HasTableFor, IsAskedOf, image_of}
 use Rattle.worker_parts.proofs.PartLemmas.{first_opened}
 use Rattle.worker_run.specs.Said.{replies_of}
 use Rattle.run_rows.specs.declared.arriving.Arriving.{Arriving}
-use Rattle.run_rows.specs.declared.sending.Answered.{Answered}
+use Rattle.run_rows.specs.declared.sending.Posted.{Posted}
 use Rattle.run_rows.specs.Posts.{ArePassesTo, AreSentTo, all_sent_to, sent_by_worker, sent_to}
-use Rattle.run_rows.specs.Rows.{AreDealtOut, IsAnsweredOf, IsArrivingOf, parcels_by}
+use Rattle.run_rows.specs.Rows.{AreDealtOut, IsPostedOf, IsArrivingOf, parcels_by}
 use Rattle.run_rows.specs.Turns.{AreInTurn}
 use Rattle.run_rows.proofs.OrderedLemmas.{All-unmap, all_pieces, filter_permuted, flat_map_each, in_turn, pieces_through}
 use Rattle.run_rows.proofs.SentLemmas.{IsMovedTo, sent_moved, told_at, told_of}
@@ -92,21 +92,21 @@ sent_for_both workers worker a b = ap (sent_to workers worker) (map-append sent_
     ∙ filter-append (λ (s : Sent). nat_eq (worker_of workers (shard_of s.key)) worker) (all_sent_of a) (all_sent_of b)
 
 module _ {C : Type 0} (shared : SharedView) (requests : List Request) (tables : ℕ → Bool) (queues : List QueueView) (workers : ℕ)
-    (all : List (Answered C))
-    (answered : All (IsAnsweredOf shared requests tables queues) all) (long : length all ≡ workers)
-    (turns : AreInTurn (λ (one : Answered C). one.asked.worker) workers all) where
+    (all : List (Posted C))
+    (answered : All (IsPostedOf shared requests tables queues) all) (long : length all ≡ workers)
+    (turns : AreInTurn (λ (one : Posted C). one.asked.worker) workers all) where
   -- what the workers were told
   abbrev pub told : ℕ → Replies
-  told = told_of (λ (one : Answered C). replies_of one.asked.replies.items) all
+  told = told_of (λ (one : Posted C). replies_of one.asked.replies.items) all
 
-  told_is : (k : ℕ) (d : Answered C) → k < length all → told (get_or all k d).asked.worker.number ≡ replies_of (get_or all k d).asked.replies.items
+  told_is : (k : ℕ) (d : Posted C) → k < length all → told (get_or all k d).asked.worker.number ≡ replies_of (get_or all k d).asked.replies.items
   told_is k d below =
       let turn = (turns.each k d below).1 in
-      told_at (λ (one : Answered C). replies_of one.asked.replies.items) all k (get_or all k d).asked.worker.number d below (omega (arith, turn, long))
+      told_at (λ (one : Posted C). replies_of one.asked.replies.items) all k (get_or all k d).asked.worker.number d below (omega (arith, turn, long))
 
   -- what each sent to a worker is among its parcels
   sent_by_each : (whole : Map) → IsWholeMap (image_of shared) whole → (worker : ℕ)
-      → All (λ (one : Answered C). IsPermutation (sent_to workers worker
+      → All (λ (one : Posted C). IsPermutation (sent_to workers worker
       (sent_by_worker workers requests whole one.asked.worker.number (told one.asked.worker.number)))
       (sent_for workers worker (parcels_by one))) all
   sent_by_each whole is worker k d below =
@@ -122,22 +122,22 @@ module _ {C : Type 0} (shared : SharedView) (requests : List Request) (tables : 
 
   -- what all sent to a worker is what is for it among all parcels
   pub sent_by_all : (whole : Map) → IsWholeMap (image_of shared) whole → (worker : ℕ)
-      → IsPermutation (all_sent_to workers requests whole told worker) (sent_for workers worker (flat_map (λ (one : Answered C). parcels_by one) all))
+      → IsPermutation (all_sent_to workers requests whole told worker) (sent_for workers worker (flat_map (λ (one : Posted C). parcels_by one) all))
   sent_by_all whole is worker =
       let g : ℕ → List Sent = λ (i : ℕ). sent_to workers worker (sent_by_worker workers requests whole i (told i)) in
-      let turn : (k : ℕ) (d : Answered C) → k < length all → (get_or all k d).asked.worker.number + k + 1 ≡ length all =
+      let turn : (k : ℕ) (d : Posted C) → k < length all → (get_or all k d).asked.worker.number + k + 1 ≡ length all =
       λ k d below. let t = (turns.each k d below).1 in omega (arith, t, long) in
       from (ap (λ n. flat_map g (words_from (λ i. i) 0 n)) (sym long))
-      (follow (in_turn (λ (one : Answered C). one.asked.worker.number) g all turn)
-      (upto (flat_map_each (λ (one : Answered C). g one.asked.worker.number)
-      (λ (one : Answered C). sent_for workers worker (parcels_by one)) all (sent_by_each whole is worker))
-      (pieces_through (λ (one : Answered C). parcels_by one) (sent_for workers worker) refl (sent_for_both workers worker) all)))
+      (follow (in_turn (λ (one : Posted C). one.asked.worker.number) g all turn)
+      (upto (flat_map_each (λ (one : Posted C). g one.asked.worker.number)
+      (λ (one : Posted C). sent_for workers worker (parcels_by one)) all (sent_by_each whole is worker))
+      (pieces_through (λ (one : Posted C). parcels_by one) (sent_for workers worker) refl (sent_for_both workers worker) all)))
 
   -- each parcel goes to a shard that has a table
-  pub parcels_moved : All (λ (p : Parcel). IsMovedTo tables requests p.key) (flat_map (λ (one : Answered C). parcels_by one) all)
-  parcels_moved = all_pieces (λ (one : Answered C). parcels_by one) (λ (p : Parcel). IsMovedTo tables requests p.key) all
+  pub parcels_moved : All (λ (p : Parcel). IsMovedTo tables requests p.key) (flat_map (λ (one : Posted C). parcels_by one) all)
+  parcels_moved = all_pieces (λ (one : Posted C). parcels_by one) (λ (p : Parcel). IsMovedTo tables requests p.key) all
       (λ k d below. of_one (get_or all k d) (answered k d below)) where
-        of_one : (one : Answered C) → IsAnsweredOf shared requests tables queues one
+        of_one : (one : Posted C) → IsPostedOf shared requests tables queues one
             → All (λ (p : Parcel). IsMovedTo tables requests p.key) (parcels_by one)
         of_one one is =
             let asked = is.asked in
@@ -151,7 +151,7 @@ module _ {C : Type 0} (shared : SharedView) (requests : List Request) (tables : 
 
   -- the passes and what was kept have all that was sent
   module _ (owners : List (PassView Parcel)) (kept : List Parcel) (each : length queues ≡ workers) (owned : ArePassesTo all_parts queues owners)
-      (kept_are : All (IsParcelOf shared.table) kept) (parcels : IsPermutation (flat_map (λ (one : Answered C). parcels_by one) all)
+      (kept_are : All (IsParcelOf shared.table) kept) (parcels : IsPermutation (flat_map (λ (one : Posted C). parcels_by one) all)
       (all_put owners ++ kept)) where
     has_parts : (i : ℕ) (p : PassView Parcel) → i < length owners → p ≡ get_or owners i p → HasParts all_parts p
     has_parts i p below is = subst (HasParts all_parts) (sym is) (owned.parts_are i p below)
@@ -177,8 +177,8 @@ module _ {C : Type 0} (shared : SharedView) (requests : List Request) (tables : 
           let mine = all_sent_of (parcels_for workers i (all_put owners ++ kept)) in
           upto (follow (sent_by_all whole is_whole i)
           (upto (filter_permuted (λ (s : Sent). nat_eq (worker_of workers (shard_of s.key)) i)
-          (all_sent_of (flat_map (λ (one : Answered C). parcels_by one) all)) (all_sent_of (all_put owners ++ kept))
-          (IsPermutation-map sent_of (flat_map (λ (one : Answered C). parcels_by one) all) (all_put owners ++ kept) parcels))
+          (all_sent_of (flat_map (λ (one : Posted C). parcels_by one) all)) (all_sent_of (all_put owners ++ kept))
+          (IsPermutation-map sent_of (flat_map (λ (one : Posted C). parcels_by one) all) (all_put owners ++ kept) parcels))
           (sym (sent_of_part workers i (all_put owners ++ kept)))))
           (ap all_sent_of (own_parcels i p below is));
     }
@@ -189,7 +189,7 @@ module _ {C : Type 0} (shared : SharedView) (requests : List Request) (tables : 
         let total = all_put owners ++ kept in
         let moved = All-filter (is_for workers i) (λ (x : Parcel). IsMovedTo tables requests x.key) total
         (All-permutation (λ (x : Parcel). IsMovedTo tables requests x.key)
-        (flat_map (λ (one : Answered C). parcels_by one) all) total parcels parcels_moved) in
+        (flat_map (λ (one : Posted C). parcels_by one) all) total parcels parcels_moved) in
         let mine = filter_passes (is_for workers i) total in
         All-same (λ (x : Parcel). HasTableFor tables requests workers i x.key) (p.account.put ++ parcels_for workers i kept)
         (parcels_for workers i total) (sym (own_parcels i p below is))
@@ -202,7 +202,7 @@ module _ {C : Type 0} (shared : SharedView) (requests : List Request) (tables : 
           both a b is_a is_b = ap (λ x. x && b) is_a ∙ is_b
 
     -- one of the workers, with its own queue's pass and piece
-    arrives : (one : Arriving C) (a : Answered C) (i : ℕ) → i < workers → IsAnsweredOf shared requests tables queues a
+    arrives : (one : Arriving C) (a : Posted C) (i : ℕ) → i < workers → IsPostedOf shared requests tables queues a
         → a.asked.worker.workers ≡ workers → a.asked.worker.number ≡ i
         → told a.asked.worker.number ≡ replies_of a.asked.replies.items → one.asked ≡ a.asked → one.pass ≡ get_or owners i one.pass
         → one.kept.items ≡ parcels_for workers i kept
@@ -258,17 +258,17 @@ module _ {C : Type 0} (shared : SharedView) (requests : List Request) (tables : 
         at_itself (q ∷ qs) zero any out = refl
         at_itself (q ∷ qs) (suc n) any out = at_itself qs n any (omega (arith, out))
 
-    some_of : (ones : List (Answered C)) (k : ℕ) → k < length ones → Answered C
+    some_of : (ones : List (Posted C)) (k : ℕ) → k < length ones → Posted C
     some_of [] k below = absurd (omega (arith, below))
     some_of (x ∷ ones) k below = x
 
     -- and so do all of them
     module _ (asked : List (Asked C)) (pieces : List (List Parcel)) (arriving : List (Arriving C))
-        (asked_are : asked ≡ map (λ (one : Answered C). one.asked) all)
+        (asked_are : asked ≡ map (λ (one : Posted C). one.asked) all)
         (pieces_are : pieces ≡ map (λ worker. parcels_for workers worker kept) (worker_numbers workers))
         (dealt : AreDealtOut owners pieces asked arriving) where
       so_many_asked : length asked ≡ workers
-      so_many_asked = ap length asked_are ∙ length-map all (λ (one : Answered C). one.asked) ∙ long
+      so_many_asked = ap length asked_are ∙ length-map all (λ (one : Posted C). one.asked) ∙ long
 
       so_many_pieces : length pieces ≡ workers
       so_many_pieces = ap length pieces_are ∙ length-map (worker_numbers workers) (λ worker. parcels_for workers worker kept)
@@ -282,7 +282,7 @@ module _ {C : Type 0} (shared : SharedView) (requests : List Request) (tables : 
         inside : k < length all
         inside = let n = count_arriving in omega (arith, below, n, long)
 
-        abbrev one_of : Answered C
+        abbrev one_of : Posted C
         one_of = get_or all k (some_of all k inside)
 
         number_there : one_of.asked.worker.number + k + 1 ≡ workers
@@ -297,7 +297,7 @@ module _ {C : Type 0} (shared : SharedView) (requests : List Request) (tables : 
 
         asked_there : (get_or arriving k d).asked ≡ one_of.asked
         asked_there = there.0 ∙ ap (λ (l : List (Asked C)). get_or l k (some_of all k inside).asked) asked_are
-            ∙ get_or-map (λ (one : Answered C). one.asked) all k (some_of all k inside) (some_of all k inside).asked inside
+            ∙ get_or-map (λ (one : Posted C). one.asked) all k (some_of all k inside) (some_of all k inside).asked inside
 
         kept_there : (get_or arriving k d).kept.items ≡ parcels_for workers one_of.asked.worker.number kept
         kept_there =

@@ -25,11 +25,11 @@ use Rattle.seat_parcels.specs.Going.{OffersAtMost}
 use Rattle.seat_parcels.specs.Parcels.{IsParcelOf, all_sent_of, sent_of}
 use Rattle.seat_parcels.proofs.RowLemmas.{given_parts, given_rightly, new_parts, new_rightly, none_put}
 use Rattle.worker_parts.specs.declared.beginning.Begun.{Begun}
-use Rattle.run_rows.specs.declared.sending.Answered.{Answered}
+use Rattle.run_rows.specs.declared.sending.Posted.{Posted}
 use Rattle.run_rows.specs.declared.sending.Sender.{Sender}
 use Rattle.run_rows.specs.Turns.{AreInTurn}
 use Rattle.run_rows.specs.Posts.{ArePassesTo, AreSentBy, sent_by_worker}
-use Rattle.run_rows.specs.Rows.{IsAnsweredOf, parcels_by}
+use Rattle.run_rows.specs.Rows.{IsPostedOf, parcels_by}
 
 -- with more parts than some, if each has that many
 pub passes_with : (m parts : ℕ) (queues : List QueueView) (passes : List (PassView Parcel)) → m < parts → ArePassesOf queues passes
@@ -108,7 +108,7 @@ empty_of table kept empty = All-same (IsParcelOf table) kept [] empty (All-nil (
 -- a worker's requests are worked off by a box of such passes
 module _ {C : Type 0} (shared : SharedView) (requests : List Request) (tables : ℕ → Bool) (queues row : List QueueView) (worker : Worker)
     (before after : BoxView)
-    (one : Answered C) (worker_is : one.asked.worker ≡ worker) (passes_are : one.passes.items ≡ after.passes)
+    (one : Posted C) (worker_is : one.asked.worker ≡ worker) (passes_are : one.passes.items ≡ after.passes)
     (kept_are : one.kept.items ≡ after.kept) where
   by_box : parcels_by one ≡ parcels_of after
   by_box = ap (λ (ps : List (PassView Parcel)). all_put ps ++ one.kept.items) passes_are ∙ ap (λ (l : List Parcel). all_put after.passes ++ l) kept_are
@@ -134,7 +134,7 @@ module _ {C : Type 0} (shared : SharedView) (requests : List Request) (tables : 
       → IsPermutation (sent_by_worker worker.workers requests whole worker.number (replies_of one.asked.replies.items) ++ sent_by before)
       (sent_by after))
       → sent_by before ≡ [] → IsInStep table after one.asked.seat.state → one.asked.seat.state.view.accepts ≡ 0
-      → IsAnsweredOf shared requests tables queues one
+      → IsPostedOf shared requests tables queues one
   answered_of table heap are asked passes parts rightly kept sent none step accepted = record {
     asked = asked;
     passes = subst (λ (qs : List QueueView). ArePassesTo 1 qs one.passes.items) (sym are)

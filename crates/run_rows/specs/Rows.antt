@@ -20,7 +20,7 @@ use Rattle.worker_parts.specs.declared.asking.Asked.{Asked}
 use Rattle.worker_parts.specs.declared.beginning.Begun.{Begun}
 use Rattle.worker_parts.specs.Jobs.{HasTableFor, IsAskedOf, IsBegunOf}
 use Rattle.run_rows.specs.declared.arriving.Arriving.{Arriving}
-use Rattle.run_rows.specs.declared.sending.Answered.{Answered}
+use Rattle.run_rows.specs.declared.sending.Posted.{Posted}
 use Rattle.run_rows.specs.declared.sending.Sender.{Sender}
 use Rattle.run_rows.specs.Posts.{ArePassesTo, AreSentBy, AreSentTo, HasOffered}
 
@@ -39,12 +39,12 @@ pub record IsSenderOf {C : Type 0} (shared : SharedView) (requests : List Reques
   pub room : rooms_needed (worker_requests sender.begun.worker.workers sender.begun.worker.number requests) ≤ vec_capacity sender.kept
 
 -- all that a worker has sent: what was put by its passes, and what no queue took
-abbrev pub parcels_by : {C : Type 0} → Answered C → List Parcel
+abbrev pub parcels_by : {C : Type 0} → Posted C → List Parcel
 parcels_by one = all_put one.passes.items ++ one.kept.items
 
 -- its requests are worked off: what they sent was put by its passes or kept, it has offered as many blocks as that and accepted none
-pub record IsAnsweredOf {C : Type 0} (shared : SharedView) (requests : List Request) (tables : ℕ → Bool) (queues : List QueueView)
-    (one : Answered C) : Type 0 where
+pub record IsPostedOf {C : Type 0} (shared : SharedView) (requests : List Request) (tables : ℕ → Bool) (queues : List QueueView)
+    (one : Posted C) : Type 0 where
   pub asked : IsAskedOf shared requests tables one.asked
   pub passes : ArePassesTo 1 queues one.passes.items
   pub kept : All (IsParcelOf shared.table) one.kept.items

@@ -9,11 +9,11 @@ ghost use Rattle.seat_parcels.specs.Parcels.{IsParcelOf};
 ghost use Rattle.shard_moves.specs.Tables.{is_flagged};
 ghost use Rattle.worker_run.specs.Said.{requests_of};
 ghost use Rattle.run_rows.specs.Posts.{ArePassesTo};
-ghost use Rattle.run_rows.specs.Rows.{AreDealtOut, IsAnsweredOf, IsArrivingOf, parcels_by};
+ghost use Rattle.run_rows.specs.Rows.{AreDealtOut, IsPostedOf, IsArrivingOf, parcels_by};
 ghost use Rattle.run_rows.specs.Turns.{AreInTurn};
 
 use crate::arriving::Arriving;
-use crate::sending::Answered;
+use crate::sending::Posted;
 use heap_rule::Shared;
 use line_memory::Chance;
 use parcel_queue::{Pass, absorb_each};
@@ -34,7 +34,7 @@ fn absorb_all<'a, J: HeapOf, C: Chance>(
     alloc: Global,
     queues: &[Post<J>],
     owners: &mut Vec<Pass<Parcel>>,
-    all: Vec<Answered<'a, C>>,
+    all: Vec<Posted<'a, C>>,
 ) -> Result<Collected<'a, C>, AllocError>
     requires few { length all.items ≤ 8 }
     requires owners { ArePassesTo (all_parts - length all.items) queues.now owners.old.items }
@@ -73,7 +73,7 @@ fn deal_out<'a, C: Chance>(
     let mut arriving = Vec::with_capacity(alloc, all.len())?;
     for asked in all {
         let (Some(pass), Some(kept)) = (owners.pop(), pieces.pop()) else {
-            break;
+            unreachable!();
         };
         arriving.push_reserved(Arriving { asked, pass, kept });
     }
@@ -87,7 +87,7 @@ pub(crate) fn hand_over<'a, J: HeapOf, C: Chance>(
     _shared: &Shared,
     queues: &[Post<J>],
     mut owners: Vec<Pass<Parcel>>,
-    all: Vec<Answered<'a, C>>,
+    all: Vec<Posted<'a, C>>,
     _requests: &[Request],
     _tables: &[bool; 8],
 ) -> Result<Vec<Arriving<'a, C>>, AllocError>
@@ -97,7 +97,7 @@ pub(crate) fn hand_over<'a, J: HeapOf, C: Chance>(
     requires some { 1 ≤ length all.items }
     requires owners { ArePassesTo (all_parts - length all.items) queues.now owners.items }
     requires nothing { all_put owners.items ≡ [] }
-    requires answered { All (IsAnsweredOf _shared.now (requests_of _requests.now)
+    requires answered { All (IsPostedOf _shared.now (requests_of _requests.now)
         (is_flagged _tables.now) queues.now) all.items }
     requires turns { AreInTurn (λ one. one.asked.worker) (length all.items) all.items }
     ensures arriving { IfOk result (λ arriving. (told : ℕ → Replies) × All (IsArrivingOf _shared.now

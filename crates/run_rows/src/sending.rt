@@ -8,7 +8,7 @@ ghost use Rattle.shard_moves.specs.Tables.{is_flagged};
 ghost use Rattle.worker_run.specs.Said.{requests_of, ValuesAreShort};
 ghost use Rattle.worker_parts.specs.Jobs.{IsBegunOf};
 ghost use Rattle.run_rows.specs.Posts.{ArePassesTo};
-ghost use Rattle.run_rows.specs.Rows.{AgreesWith, IsAnsweredOf, IsSenderOf};
+ghost use Rattle.run_rows.specs.Rows.{AgreesWith, IsPostedOf, IsSenderOf};
 ghost use Rattle.run_rows.specs.Turns.{AreInTurn};
 
 use crate::posts::moves_of;
@@ -33,7 +33,7 @@ pub(crate) struct Sender<'a, C> {
 
 /// A worker whose requests were worked off, with its passes and what no queue took.
 #[derive(Drop)]
-pub(crate) struct Answered<'a, C> {
+pub(crate) struct Posted<'a, C> {
     pub asked: Asked<'a, C>,
     pub passes: Vec<Pass<Parcel>>,
     pub kept: Vec<Parcel>,
@@ -86,7 +86,7 @@ fn answer<'a, J: HeapOf, Q: QueuesOf, C: Chance, G: Gate>(
     requests: &[Request],
     tables: &[bool; 8],
     gate: &G,
-) -> Answered<'a, C>
+) -> Posted<'a, C>
     requires heap { J.table ≡ shared.now.table }
     requires queues { queues.now ≡ Q.queues }
     requires each { length queues.now ≡ sender.begun.worker.workers }
@@ -94,7 +94,7 @@ fn answer<'a, J: HeapOf, Q: QueuesOf, C: Chance, G: Gate>(
     requires short { ValuesAreShort (requests_of requests.now) }
     requires tables { AgreesWith (is_flagged tables.now) (requests_of requests.now) sender.begun }
     ensures worker { result.asked.worker ≡ sender.entry.begun.worker }
-    ensures answered { IsAnsweredOf shared.now (requests_of requests.now)
+    ensures answered { IsPostedOf shared.now (requests_of requests.now)
         (is_flagged tables.now) queues.now result }
 {
     let Sender {
@@ -106,7 +106,7 @@ fn answer<'a, J: HeapOf, Q: QueuesOf, C: Chance, G: Gate>(
     let mut outbox = PostBox::<J, Q>::new(queues, passes, kept, workers);
     let asked = ask(begun, shared, requests, tables, &mut outbox, gate);
     let (passes, kept) = outbox.into_parts();
-    Answered {
+    Posted {
         asked,
         passes,
         kept,
@@ -129,7 +129,7 @@ pub(crate) fn answer_together<
     requests: &[Request],
     tables: &[bool; 8],
     gate: &G,
-) -> Result<Vec<Answered<'a, C>>, AllocError>
+) -> Result<Vec<Posted<'a, C>>, AllocError>
     requires heap { J.table ≡ shared.now.table }
     requires queues { queues.now ≡ Q.queues }
     requires each { length queues.now ≡ length senders.items }
@@ -139,7 +139,7 @@ pub(crate) fn answer_together<
     requires short { ValuesAreShort (requests_of requests.now) }
     requires tables { All (λ one. AgreesWith (is_flagged tables.now) (requests_of requests.now)
         one.begun) senders.items }
-    ensures answered { IfOk result (λ all. All (IsAnsweredOf shared.now (requests_of requests.now)
+    ensures answered { IfOk result (λ all. All (IsPostedOf shared.now (requests_of requests.now)
         (is_flagged tables.now) queues.now) all.items) }
     ensures turns { IfOk result (λ all. AreInTurn (λ one. one.asked.worker)
         (length senders.entry.items) all.items) }
@@ -148,14 +148,14 @@ pub(crate) fn answer_together<
     let all = thread::map_vec(
         rt,
         senders,
-        &|sender: Sender<C>| -> Answered<C>
+        &|sender: Sender<C>| -> Posted<C>
             requires { (J.table ≡ shared.now.table) × (queues.now ≡ Q.queues)
                 × (length queues.now ≡ sender.begun.worker.workers)
                 × IsSenderOf shared.now (requests_of requests.now) queues.now sender
                 × ValuesAreShort (requests_of requests.now)
                 × AgreesWith (is_flagged tables.now) (requests_of requests.now) sender.begun }
             ensures worker { result.asked.worker ≡ sender.entry.begun.worker }
-            ensures answered { IsAnsweredOf shared.entry.now (requests_of requests.entry.now)
+            ensures answered { IsPostedOf shared.entry.now (requests_of requests.entry.now)
                 (is_flagged tables.entry.now) queues.entry.now result }
         { answer::<J, Q, C, G>(sender, shared, queues, requests, tables, gate) },
     )?;

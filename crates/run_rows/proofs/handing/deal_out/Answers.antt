@@ -8,7 +8,7 @@ use Rattle.run_rows.specs.declared.arriving.Arriving.{Arriving}
 use Rattle.run_rows.specs.Rows.{AreDealtOut}
 use Rattle.run_rows.proofs.DealLemmas.{AreDealtSoFar, all_dealt, all_done, none_dealt, one_dealt, one_done, so_many_done, so_many_left}
 use Rattle.run_rows.proofs.handing.deal_out.Goals as goal
-use Rattle.run_rows.proofs.handing.deal_out.Goals.{in-None, in-Some+in_default, in_default-via-in-Some+in_default, in_default-via-in_default}
+use Rattle.run_rows.proofs.handing.deal_out.Goals.{in_default-via-in-Some+in_default, in_default-via-in_default}
 
 pub loop-asked-init : goal.loop-asked-init
 loop-asked-init g c =
@@ -63,50 +63,49 @@ loop-asked-preserved g c =
       room = omega (arith, room, same);
     }
 
+pub unreachable-requires : goal.unreachable-requires
+unreachable-requires g c =
+    let inv = c.loop-asked.invariant in
+    let more = so_many_done c.args.all.items c.loop-asked.yielded c.loop-asked.asked-iterator.rest.items inv.all_are c.in-Some.asked
+    c.next.new.self.rest.items c.in-Some.ensures.steps.0 in
+    let left = so_many_left c.args.owners.items (pieces_of c.args.pieces.items) c.loop-asked.owners.items
+    (pieces_of c.loop-asked.pieces.items) c.loop-asked.yielded c.loop-asked.arriving.items inv.dealt in
+    let left_owners = left.0 in
+    let left_pieces = left.1 in
+    let owners = c.requires.owners in
+    let pieces = c.requires.pieces in
+    let mapped = length-map c.args.pieces.items (λ v. v.items) in
+    let mapped' = length-map c.loop-asked.pieces.items (λ v. v.items) in
+    let ok = c.loop-asked.owners.ok in
+    let ok' = c.loop-asked.pieces.ok in
+    elim c.in_default.branch [
+      | in_default-via-in-Some+in_default w ↦
+          let is = w.in_default.is-1 in
+          let none = subst (λ r. MatchOption r ((vec_len c.loop-asked.pieces ≡ 0) × (vec_len c.pop-in-loop-asked.new.self ≡ 0))
+          (λ x. vec_len c.pop-in-loop-asked.new.self + 1 ≡ vec_len c.loop-asked.pieces)) is c.pop-in-loop-asked.ensures.cases in
+          let zeroth = none.0 in
+          omega (arith, zeroth, ok', left_pieces, more, pieces, mapped, mapped')
+      | in_default-via-in_default w ↦
+          let is = w.in_default.is-0 in
+          let none = subst (λ r. MatchOption r ((vec_len c.loop-asked.owners ≡ 0) × (vec_len c.pop.new.self ≡ 0))
+          (λ x. vec_len c.pop.new.self + 1 ≡ vec_len c.loop-asked.owners)) is c.pop.ensures.cases in
+          let zeroth = none.0 in
+          omega (arith, zeroth, ok, left_owners, more, owners)
+    ]
+
 pub returns : goal.returns
 returns g c =
     let inv = c.loop-asked.invariant in
+    let none = c.in-None.ensures.steps.0 in
+    let ok = c.loop-asked.asked-iterator.rest.ok in
+    let are = all_done c.args.all.items c.loop-asked.yielded c.loop-asked.asked-iterator.rest.items inv.all_are (omega (arith, none, ok)) in
+    let long = ap length are in
+    let owners = c.requires.owners in
+    let pieces = c.requires.pieces in
+    let mapped = length-map c.args.pieces.items (λ v. v.items) in
     record {
-      dealt = elim c.match-next.branch as (λ _. AreDealtOut c.args.owners.items
-          (pieces_of c.args.pieces.items) c.args.all.items c.loop-asked.arriving.items) [
-            | in-None w ↦
-                let none = w.in-None.ensures.steps.0 in
-                let ok = c.loop-asked.asked-iterator.rest.ok in
-                let are = all_done c.args.all.items c.loop-asked.yielded c.loop-asked.asked-iterator.rest.items inv.all_are (omega (arith, none, ok)) in
-                let long = ap length are in
-                let owners = c.requires.owners in
-                let pieces = c.requires.pieces in
-                let mapped = length-map c.args.pieces.items (λ v. v.items) in
-                subst (λ (l : List (Asked _)). AreDealtOut c.args.owners.items (pieces_of c.args.pieces.items) l c.loop-asked.arriving.items) (sym are)
-                (all_dealt c.args.owners.items (pieces_of c.args.pieces.items) c.loop-asked.owners.items
-                (pieces_of c.loop-asked.pieces.items) c.loop-asked.yielded c.loop-asked.arriving.items inv.dealt
-                (omega (arith, owners, long)) (omega (arith, pieces, long, mapped)))
-            | in-Some+in_default w ↦
-                let more = so_many_done c.args.all.items c.loop-asked.yielded c.loop-asked.asked-iterator.rest.items inv.all_are w.in-Some.asked
-                c.next.new.self.rest.items w.in-Some.ensures.steps.0 in
-                let left = so_many_left c.args.owners.items (pieces_of c.args.pieces.items) c.loop-asked.owners.items
-                (pieces_of c.loop-asked.pieces.items) c.loop-asked.yielded c.loop-asked.arriving.items inv.dealt in
-                let left_owners = left.0 in
-                let left_pieces = left.1 in
-                let owners = c.requires.owners in
-                let pieces = c.requires.pieces in
-                let mapped = length-map c.args.pieces.items (λ v. v.items) in
-                let mapped' = length-map c.loop-asked.pieces.items (λ v. v.items) in
-                let ok = c.loop-asked.owners.ok in
-                let ok' = c.loop-asked.pieces.ok in
-                elim w.in_default.branch [
-                  | in_default-via-in-Some+in_default w' ↦
-                      let is = w'.in_default.is-1 in
-                      let none = subst (λ r. MatchOption r ((vec_len c.loop-asked.pieces ≡ 0) × (vec_len w.pop-in-loop-asked.new.self ≡ 0))
-                      (λ x. vec_len w.pop-in-loop-asked.new.self + 1 ≡ vec_len c.loop-asked.pieces)) is w.pop-in-loop-asked.ensures.cases in
-                      let zeroth = none.0 in
-                      absurd (omega (arith, zeroth, ok', left_pieces, more, pieces, mapped, mapped'))
-                  | in_default-via-in_default w' ↦
-                      let is = w'.in_default.is-0 in
-                      let none = subst (λ r. MatchOption r ((vec_len c.loop-asked.owners ≡ 0) × (vec_len w.pop.new.self ≡ 0))
-                      (λ x. vec_len w.pop.new.self + 1 ≡ vec_len c.loop-asked.owners)) is w.pop.ensures.cases in
-                      let zeroth = none.0 in
-                      absurd (omega (arith, zeroth, ok, left_owners, more, owners))
-                ]
-          ];
+      dealt = subst (λ (l : List (Asked _)). AreDealtOut c.args.owners.items (pieces_of c.args.pieces.items) l c.loop-asked.arriving.items) (sym are)
+          (all_dealt c.args.owners.items (pieces_of c.args.pieces.items) c.loop-asked.owners.items
+          (pieces_of c.loop-asked.pieces.items) c.loop-asked.yielded c.loop-asked.arriving.items inv.dealt
+          (omega (arith, owners, long)) (omega (arith, pieces, long, mapped)));
     }

@@ -3,7 +3,7 @@ use Rattle.std.specs.Vec.{vec_len}
 use Rattle.seat_parcels.specs.Boxes.{ArePutRightly}
 use Rattle.worker_run.specs.Said.{requests_of}
 use Rattle.shard_moves.specs.Tables.{is_flagged}
-use Rattle.run_rows.specs.declared.sending.Answered.{Answered}
+use Rattle.run_rows.specs.declared.sending.Posted.{Posted}
 use Rattle.run_rows.proofs.SendLemmas.{answered_of, begun_in_step, empty_of, goes_offering, none_accepted, none_sent}
 use Rattle.run_rows.proofs.sending.answer.Goals as goal
 
@@ -65,7 +65,7 @@ returns-clause-answered g c =
     let shared = c.args.shared.now in
     let parts = c.into_parts-passes.ensures in
     let asked = c.ask-asked.ensures in
-    let one : Answered g.row.C.Denot = record {
+    let one : Posted g.row.C.Denot = record {
       asked = c.ask-asked.result;
       passes = c.into_parts-passes.result.0;
       kept = c.into_parts-passes.result.1;
