@@ -1,3 +1,4 @@
+mod EmptyKinds
 mod FormatLemmas
 pub mod KindLemmas
 pub mod MigrationLemmas

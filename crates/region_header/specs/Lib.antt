@@ -1,3 +1,4 @@
+pub mod Empty
 pub mod Header
 pub mod Migration
 pub mod Words

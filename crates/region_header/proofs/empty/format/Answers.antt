@@ -1,15 +1,13 @@
-use Rattle.std.proofs.Common.{◌*◌, ℕ, List, length, slice_index, subst, sym, arith}
-use Rattle.std.proofs.lemmas.Grind.{common_steps}
-use Rattle.heap_model.specs.Header.{IsWellFormed}
-use Rattle.heap_model.proofs.EmptyLemmas.{empty_formed}
-use Rattle.region_header.proofs.FormatLemmas.{filled_is_empty}
+use Rattle.std.proofs.Common.{◌≡◌, ◌-◌, ◌++◌, replicate, ◌∙◌, ap, ℕ, arith}
+use Rattle.std.proofs.lemmas.Result.{IfOk-weaker}
+use Rattle.heap_model.specs.Header.{first_kinds}
+use Rattle.region_header.specs.Empty.{empty_words_with, with_first_kinds}
 use Rattle.region_header.proofs.empty.format.Goals as goal
 
 pub returns-clause-ok : goal.returns-clause-ok
+unfolding first_kinds
 returns-clause-ok c =
-    filled_is_empty c.args.capacity c.resize.new.self.items c.resize-2.new.self.items c.resize-3.new.self.items
-    (grind (arith, common_steps)) (grind (arith, common_steps)) (grind (arith, common_steps))
-
-pub returns-clause-well_formed : goal.returns-clause-well_formed
-returns-clause-well_formed c = subst (λ (words : List ℕ). IsWellFormed (8 * length words) (slice_index words)) (sym (returns-clause-ok c))
-    (empty_formed c.args.capacity c.requires.some c.requires.small)
+    let eight : c.loop-i.i ≡ 8 = omega arith in
+    let are : c.loop-i.kinds ≡ first_kinds = c.loop-i.invariant ∙ ap (λ (i : ℕ). replicate i 1 ++ replicate (1024 - i) 0) eight in
+    IfOk-weaker c.format_with_kinds.result _ _
+    (λ words is. is ∙ ap (empty_words_with c.args.capacity) are ∙ with_first_kinds c.args.capacity) c.format_with_kinds.ensures.ok
