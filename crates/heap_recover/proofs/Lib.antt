@@ -14,5 +14,6 @@ pub mod LeavesLemmas
 pub mod OrderLemmas
 pub mod OutcomeLemmas
 pub mod CurrentLemmas
+mod RefusedLemmas
 mod InPlaceLemmas
 pub mod AlikeLemmas

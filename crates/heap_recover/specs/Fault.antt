@@ -1,7 +1,9 @@
 -- What a fault of recovery tells.
 use Rattle.std.specs.Prelude.{◌≡◌, ℕ, ◌*◌, List, length, slice_index, Option, Some, None}
 use Rattle.heap_model.specs.Image.{Image}
-use Rattle.heap_model.specs.Header.{header_fault}
+use Rattle.heap_model.specs.declared.header.BadHeader.{BadHeader}
+use Rattle.heap_model.specs.declared.header.BadHeader.TheVariants.{Version}
+use Rattle.heap_model.specs.Header.{header_fault, IsWellFormed, IsOldWellFormed, HasKindsBelow}
 use Rattle.heap_model.specs.Reach.{Links, IsOutsideIn}
 use Rattle.filter_trace.specs.declared.fault.TraceFault.{TraceFault}
 use Rattle.filter_trace.specs.declared.fault.TraceFault.TheVariants.{Outside as OutsideTraced, Memory as MemoryTraced}
@@ -26,3 +28,18 @@ TellsFault limit words current links (Header cause) = header_fault limit (8 * le
 TellsFault limit words current links (Outside at value) =
     (header_fault limit (8 * length words) (slice_index words) ≡ None) × IsOutsideIn (slice_index current) links at × (value ≡ slice_index current at)
 TellsFault limit words current links Memory = Unit {0}
+
+-- Why a header is refused where no kinds are given: the first cause that makes it bad; or its version, where it is a good
+-- one of the old version, which stores no kinds.
+pub data IsRefusedFor (limit : Option ℕ) (bytes : ℕ) (image : Image) : BadHeader → Type 0 where
+  is_bad : (cause : BadHeader) → header_fault limit bytes image ≡ Some cause → IsRefusedFor limit bytes image cause
+  is_old : IsOldWellFormed bytes image → IsRefusedFor limit bytes image Version
+
+-- Such a cause; or, of an image of this version whose header is good, a word that is outside, and its value. Of want of
+-- memory nothing is said.
+abbrev pub TellsStoredFault : Option ℕ → List ℕ → Links → RecoverFault → Type 0
+TellsStoredFault limit words links (Header cause) = IsRefusedFor limit (8 * length words) (slice_index words) cause
+TellsStoredFault limit words links (Outside at value) =
+    IsWellFormed (8 * length words) (slice_index words) × HasKindsBelow limit (slice_index words)
+    × IsOutsideIn (slice_index words) links at × (value ≡ slice_index words at)
+TellsStoredFault limit words links Memory = Unit {0}

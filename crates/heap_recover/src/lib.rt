@@ -27,7 +27,7 @@ pub use laws::{
 pub use parts::SuperblockBlocks;
 pub use recovery::{
     current_copy, keep_marked, recover, recover_by, recover_current, recover_owned,
-    recover_owned_by,
+    recover_owned_by, recover_with_stored_kinds,
 };
 pub use roles::Role;
 pub use superblocks::{rebuild_superblock, write_descriptor};

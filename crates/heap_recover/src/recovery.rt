@@ -11,7 +11,7 @@ ghost use Rattle.heap_model.specs.Recovery.{IsRecovered};
 ghost use Rattle.super_block.specs.Division.{Describes};
 ghost use Rattle.region_header.specs.Migration.{current_words};
 ghost use Rattle.heap_recover.specs.Marked.{IsMarked, KeepsBlocks};
-ghost use Rattle.heap_recover.specs.Fault.{TellsFault, TellsOutsideIn};
+ghost use Rattle.heap_recover.specs.Fault.{IsRefusedFor, TellsFault, TellsOutsideIn, TellsStoredFault};
 ghost use Rattle.heap_recover.specs.Answer.{IsMadeOf};
 
 use crate::answer::{Recovered, Was};
@@ -20,6 +20,7 @@ use crate::fault::RecoverFault;
 use crate::passes::rebuild;
 use crate::taken::{InOrder, RebuildPass};
 use filter_trace::{Filter, Marks, trace};
+use heap_model::BadHeader;
 use region_header::{current, migrate, read_header};
 use std::alloc::{AllocError, Global};
 use super_block::{OLD_VERSION, Ready};
@@ -72,6 +73,38 @@ pub fn recover<F: Filter>(
         → result ≡ Err (RecoverFault.Header cause) }
 {
     recover_by(alloc, words, kinds, filter, &InOrder)
+}
+
+/// Recovers an image of this version by the kinds that it stores for its roots. An image of the old
+/// version stores none, and is refused by `Header(Version)` where its header is good.
+pub fn recover_with_stored_kinds<F: Filter>(
+    alloc: Global,
+    words: &[u64],
+    filter: &F,
+) -> Result<Recovered, RecoverFault>
+    // the answer
+    ensures ok { IfOk result (IsMadeOf words.now
+        (IsReachedIn (slice_index words.now) (F.links_of filter.now))) }
+    ensures kinds { IfOk result (λ answer.
+        HasKindsBelow (Some F.KINDS) (slice_index answer.heap.words)) }
+
+    // when it comes, and what comes else
+    ensures formed { OnOk result (IsWellFormed (8 * length words.now) (slice_index words.now)) }
+    ensures below { OnOk result (HasKindsBelow (Some F.KINDS) (slice_index words.now)) }
+    ensures none { OnOk result ((at : ℕ)
+        → IsOutsideIn (slice_index words.now) (F.links_of filter.now) at → ⊥) }
+    ensures cause { IfErr result
+        (TellsStoredFault (Some F.KINDS) words.now (F.links_of filter.now)) }
+    ensures header { (cause : BadHeader)
+        → IsRefusedFor (Some F.KINDS) (8 * length words.now) (slice_index words.now) cause
+        → result ≡ Err (RecoverFault.Header cause) }
+{
+    let header = read_header(words, Some(F::KINDS))?;
+    if header.version == OLD_VERSION {
+        return Err(RecoverFault::Header(BadHeader::Version));
+    }
+    let current = Vec::from_slice(alloc, words)?;
+    recover_current(alloc, current, header.clean, filter, &InOrder)
 }
 
 /// The same in the room of the image, which is gone where it is refused.
