@@ -84,11 +84,14 @@ pub record Reports (image : Image) (with_sum with_map : Bool) (text : List ℕ) 
   pub entries_are : AreAscending (λ entry. entry.0) (IsEntryOf image) entries
   pub text_is : text ≡ shown_text image with_map (keys_text with_sum entries) held free words
 
+-- the map of a recovered heap where it is asked for, and else no text
+abbrev pub map_if : Recovered → Bool → List ℕ
+map_if recovered with_map = if with_map then map_of (slice_index recovered.heap.words) recovered.heap.held recovered.free.items else []
+
 -- the text on a recovered heap, with what is told of its keys
 abbrev pub text_of : Recovered → List ℕ → Bool → List ℕ
 text_of recovered keys with_map =
-    report_of (capacity_of (slice_index recovered.heap.words)) (is_clean recovered.was) keys recovered.heap.held
-    ++ (if with_map then map_of (slice_index recovered.heap.words) recovered.heap.held recovered.free.items else [])
+    report_of (capacity_of (slice_index recovered.heap.words)) (is_clean recovered.was) keys recovered.heap.held ++ map_if recovered with_map
 
 -- the text is that on the heap and on these maps
 pub record IsTextOf (recovered : Recovered) (maps : List (BTreeMap ℕ (List ℕ))) (with_sum with_map : Bool) (text : List ℕ) : Type 0 where

@@ -5,11 +5,12 @@ ghost use Rattle.heap_model.specs.Header.{HasGoodHeader, header_fault};
 ghost use Rattle.mixed_trace.specs.Conservative.{current_without_kinds, TellsHeader};
 ghost use Rattle.image_run.specs.Conservative.{IsHeapText, TellsByWords};
 
+use crate::reporting::with_map_behind;
 use heap_recover::{RecoverFault, Recovered};
 use mixed_trace::recover_conservatively;
 use region_header::Bytes;
 use std::alloc::{AllocError, Global};
-use trace_text::{map_text, report_text};
+use trace_text::report_text;
 
 /// The report without keys on an image that is recovered with no filter, and its map where that is
 /// asked for. Only a bad header is refused. No shard is read: what looks like a table need not be
@@ -43,10 +44,5 @@ pub(crate) fn unkeyed_text(
     ensures ok { IfOk result (IsHeapText recovered.now with_map) }
 {
     let report = report_text(alloc, recovered, None, false)?;
-    if !with_map {
-        return Ok(report);
-    }
-    let mut text = report.into_vec();
-    text.extend_from_slice(map_text(alloc, recovered)?.as_slice())?;
-    Ok(Bytes::from_vec(text))
+    with_map_behind(alloc, report, recovered, with_map)
 }

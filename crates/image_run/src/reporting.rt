@@ -1,7 +1,7 @@
 //! The text on a recovered heap.
-ghost use Rattle.std.specs.Prelude.{IfOk};
+ghost use Rattle.std.specs.Prelude.{◌≡◌, ◌++◌, IfOk};
 ghost use Rattle.heap_model.specs.Image.{Image};
-ghost use Rattle.image_run.specs.Reporting.{IsRecoveredHeap, IsTextOf, TellsHeap};
+ghost use Rattle.image_run.specs.Reporting.{IsRecoveredHeap, IsTextOf, TellsHeap, map_if};
 
 use heap_recover::Recovered;
 use region_header::Bytes;
@@ -21,6 +21,18 @@ pub fn recovered_text(
     ensures ok { IfOk result (IsTextOf recovered.now maps.now with_sum with_map) }
 {
     let report = report_text(alloc, recovered, Some(maps), with_sum)?;
+    with_map_behind(alloc, report, recovered, with_map)
+}
+
+/// The report on a heap, and behind it the heap's map where that is asked for.
+pub(crate) fn with_map_behind(
+    alloc: Global,
+    report: Bytes,
+    recovered: &Recovered,
+    with_map: bool,
+) -> Result<Bytes, AllocError>
+    ensures ok { IfOk result (λ text. text ≡ report ++ map_if recovered.now with_map) }
+{
     if !with_map {
         return Ok(report);
     }
