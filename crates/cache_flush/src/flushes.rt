@@ -17,6 +17,7 @@ use anchor_word::is_partial;
 use heap_rule::{Seat, Shared};
 use line_memory::{Chance, Stopped};
 use size_table::SizeClass;
+use super_block::FREE_LIST;
 use superblock_lists::{look_anchor, push_to};
 
 /// The list that a superblock with free blocks belongs to, by its anchor: that of its class, or
@@ -28,7 +29,7 @@ fn list_for(class: SizeClass, anchor: u64) -> u64
     if is_partial(anchor) {
         return class.number as u64;
     }
-    0
+    FREE_LIST
 }
 
 /// Puts a superblock that is claimed with its class on the list where it belongs, by its anchor as

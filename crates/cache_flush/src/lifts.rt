@@ -17,7 +17,7 @@ use heap_rule::{Seat, Shared};
 use line_memory::{Chance, Stopped};
 use seat_costs::{draw, draw_with};
 use size_table::SizeClass;
-use super_block::{Geometry, SUPERBLOCK_WORDS};
+use super_block::Geometry;
 
 /// The first blocks of a cache that lie in one superblock, as a batch.
 #[derive(Clone, Copy, Debug, PartialEq, Eq)]
@@ -78,7 +78,7 @@ pub fn lift_prefix<C: Chance>(
     seat.recall_soundness();
     let geometry = Geometry::new(seat.capacity(shared));
     let (first, _) = seat.cache(shared, class);
-    let d = (first - geometry.start(0)) / SUPERBLOCK_WORDS;
+    let d = geometry.superblock_of(first);
     let mut last = first;
     lift(seat, shared, class, first, chance)?;
     loop {
@@ -87,7 +87,7 @@ pub fn lift_prefix<C: Chance>(
             return Ok(Prefix { d, last });
         }
         seat.recall_soundness();
-        if (next - geometry.start(0)) / SUPERBLOCK_WORDS != d {
+        if geometry.superblock_of(next) != d {
             return Ok(Prefix { d, last });
         }
         lift(seat, shared, class, next, chance)?;

@@ -37,10 +37,10 @@ pub fn superblocks_of(seat: &Seat, shared: &Shared, block: u64) -> Superblocks
     ensures inside { result.first + result.count ≤ seat.now.view.setup.capacity }
 {
     seat.recall_soundness();
-    let start = Geometry::new(seat.capacity(shared)).start(0);
+    let geometry = Geometry::new(seat.capacity(shared));
     let held = seat.block(shared, WORD_BYTES * block);
     Superblocks {
-        first: (block - start) / SUPERBLOCK_WORDS,
+        first: geometry.superblock_of(block),
         count: held.words / SUPERBLOCK_WORDS,
     }
 }

@@ -1,5 +1,6 @@
-use Rattle.std.proofs.Common.{ℕ, ◌-◌, ◌/◌, ◌*◌, ap, sym, ◌∙◌, arith}
-use Rattle.heap_model.specs.Geometry.{largest_capacity_fits, start_word}
+use Rattle.std.proofs.Common.{ℕ, ◌*◌, ap, sym, ◌∙◌, arith}
+use Rattle.heap_model.specs.Geometry.{largest_capacity_fits}
+use Rattle.core_model.specs.Cells.{superblock_at}
 use Rattle.core_model.specs.Effects.{span_count}
 use Rattle.large_block.proofs.SplitLemmas.{block_small, counted, large, large_held, large_inside}
 use Rattle.large_block.proofs.splits.superblocks_of.Goals as goal
@@ -18,8 +19,8 @@ block-held-requires-clause-held c = (
 pub returns-clause-count : goal.returns-clause-count
 returns-clause-count c =
     counted c.args.seat.now.view c.recall_soundness.ensures c.args.block c.requires.held c.block-held.result c.block-held.ensures.only
-    ∙ ap (λ (n : ℕ). span_count ((c.args.block - n) / 8192) c.args.seat.now.view.large)
-    (sym (c.start-start.ensures ∙ ap (λ (n : ℕ). start_word n 0) (c.new.ensures ∙ c.capacity.ensures)))
+    ∙ ap (λ (d : ℕ). span_count d c.args.seat.now.view.large)
+    (sym (c.superblock_of.ensures ∙ ap (λ (n : ℕ). superblock_at n c.args.block) (c.new-geometry.ensures ∙ c.capacity.ensures)))
 
 pub returns-clause-some : goal.returns-clause-some
 returns-clause-some c = let n = counted c.args.seat.now.view c.recall_soundness.ensures c.args.block c.requires.held c.block-held.result
@@ -30,4 +31,4 @@ pub returns-clause-inside : goal.returns-clause-inside
 returns-clause-inside c = let n = counted c.args.seat.now.view c.recall_soundness.ensures c.args.block c.requires.held c.block-held.result
     c.block-held.ensures.only in
     let inside = large_inside c.args.seat.now.view c.recall_soundness.ensures c.args.block c.requires.held in
-    let start = c.start-start.ensures in let of = c.new.ensures in let at = c.capacity.ensures in omega arith
+    let first = c.superblock_of.ensures in let of = c.new-geometry.ensures in let at = c.capacity.ensures in omega arith
