@@ -14,10 +14,8 @@ ghost use Rattle.superblock_lists.specs.Pushes.{HasPushed};
 use heap_rule::{Seat, Shared};
 use line_memory::{Chance, Stopped};
 use seat_costs::a_row_bounds_its_draws;
+use super_block::FREE_LIST;
 use superblock_lists::{Pop, a_claimed_superblock_is_in_one_hand, pop_from, push_to};
-
-/// Which list it is: that of the free superblocks stands before those of the classes.
-const FREE_LIST: u64 = 0;
 
 /// Pops the first free superblock: it is in this hand alone. Where the list is empty, that is
 /// answered, with the head that said so.

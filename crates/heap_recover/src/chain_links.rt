@@ -8,7 +8,7 @@ ghost use Rattle.heap_recover.specs.Rebuilt.{IsLinked, AreListed};
 
 use crate::roles::Role;
 use std::alloc::{AllocError, Global};
-use super_block::{Geometry, HEAD_WORD, LISTS, ListHead, ListLink};
+use super_block::{FREE_LIST, Geometry, HEAD_WORD, LISTS, ListHead, ListLink};
 
 /// Links all lists, of superblocks with these roles.
 #[tactic(auto, using(heap_model::specs::Geometry::largest_capacity_fits))]
@@ -80,7 +80,7 @@ fn list_of(role: Role) -> Option<u8>
     ensures { result ≡ list_of role }
 {
     match role {
-        Role::Free => Some(0),
+        Role::Free => Some(FREE_LIST as u8),
         Role::Partial(class) => Some(class.number),
         Role::Full(_) | Role::Large => None,
     }

@@ -23,7 +23,7 @@ use filter_trace::{Filter, Marks, trace};
 use heap_model::BadHeader;
 use region_header::{current, migrate, read_header};
 use std::alloc::{AllocError, Global};
-use super_block::{OLD_VERSION, Ready};
+use super_block::{FREE_LIST, OLD_VERSION, Ready};
 
 /// Recovers an image: makes of any words a heap at rest in which exactly the blocks are held that
 /// the roots reach through the links of the filter. The kinds of what the roots lead to are those
@@ -297,7 +297,7 @@ pub fn keep_marked<P: RebuildPass>(
     ensures ok { IfOk result (IsMadeOf words.items (IsMarked marks.now.pairs)) }
 {
     let found = rebuild(alloc, &mut words, marks, pass)?;
-    let free = members(alloc, &found.roles, 0)?;
+    let free = members(alloc, &found.roles, FREE_LIST as u8)?;
     Ok(Recovered {
         heap: Ready::new(words, found.held),
         was: was(closed),

@@ -10,7 +10,7 @@ ghost use Rattle.quick_recover.specs.Written.{anchor_after, AreWritten};
 use anchor_word::{EMPTY, FULL, pack};
 use heap_recover::{Found, Recovered, Role, Was, link_lists, members, write_descriptor};
 use std::alloc::{AllocError, Global};
-use super_block::{CAPACITY_WORD, DIRTY, Geometry, Ready, STATE_WORD};
+use super_block::{CAPACITY_WORD, DIRTY, FREE_LIST, Geometry, Ready, STATE_WORD};
 
 /// The heap of a closed image whose anchors hold these blocks, with these roles of its superblocks.
 pub fn reopen(alloc: Global, mut words: Vec<u64>, found: Found) -> Result<Recovered, AllocError>
@@ -20,7 +20,7 @@ pub fn reopen(alloc: Global, mut words: Vec<u64>, found: Found) -> Result<Recove
         (IsReopenedAs words.items (IsHeldByAnchors (slice_index words.items))) }
 {
     write_words(alloc, &mut words, &found.roles)?;
-    let free = members(alloc, &found.roles, 0)?;
+    let free = members(alloc, &found.roles, FREE_LIST as u8)?;
     Ok(Recovered {
         heap: Ready::new(words, found.held),
         was: Was::Clean,
