@@ -10,11 +10,11 @@ use Rattle.cache_examples.specs.Seats.{before, with_cached, with_held}
 -- the first of two cached blocks, and the only one
 pub first_of_two : HasAllocated 20 (block_of 20 1080) (with_cached (1080 ∷ 2872 ∷ []) before) (with_held (1080 ∷ []) (with_cached (2872 ∷ []) before))
 unfolding blocks_of class_sizes
-first_of_two = record { going = refl; size = refl; cache = 2872 ∷ []; first = λ some. refl; short = omega arith; parts_are = refl }
+first_of_two = record { going = refl; size = refl; cache = 2872 ∷ []; first = λ some. refl; short = omega arith; cut = λ rose. absurd (omega (arith, rose)); parts_are = refl }
 
 pub the_only_one : HasAllocated 20 (block_of 20 1080) (with_cached (1080 ∷ []) before) (with_held (1080 ∷ []) before)
 unfolding blocks_of class_sizes
-the_only_one = record { going = refl; size = refl; cache = []; first = λ some. refl; short = omega arith; parts_are = refl }
+the_only_one = record { going = refl; size = refl; cache = []; first = λ some. refl; short = omega arith; cut = λ rose. absurd (omega (arith, rose)); parts_are = refl }
 
 -- one of those that an empty cache was filled with
 pub one_of_three : HasAllocated 20 (block_of 20 1080) before (with_held (1080 ∷ []) (with_cached (4664 ∷ 2872 ∷ []) before))
@@ -25,6 +25,7 @@ one_of_three = record {
   cache = 4664 ∷ 2872 ∷ [];
   first = λ some. absurd (omega (arith, some));
   short = omega arith;
+  cut = λ rose. absurd (omega (arith, rose));
   parts_are = refl;
 }
 
@@ -38,6 +39,16 @@ not_the_only_one held = let e : 1080 ≡ 2872 = ap first_of (held.first one_is_s
 pub not_the_first : HasAllocated 20 (block_of 20 2872) (with_cached (1080 ∷ 2872 ∷ []) before)
     (with_held (2872 ∷ []) (with_cached (1080 ∷ []) before)) → ⊥
 not_the_first held = let e : 1080 ≡ 2872 = ap first_of (held.first (omega arith)) in omega (arith, e)
+
+-- a superblock of four blocks was cut, and only two of the others are in the cache
+pub cut_and_lost : HasAllocated 20 (block_of 20 1080) before
+    (record (with_held (1080 ∷ []) (with_cached (4664 ∷ 2872 ∷ []) before)) { cuts = 1 }) → ⊥
+unfolding blocks_of class_sizes
+cut_and_lost held =
+    let cache : 4664 ∷ 2872 ∷ [] ≡ held.cache = ap (λ (p : Parts). of_class p.caches 20) held.parts_are in
+    let two : 2 ≡ length held.cache = ap length cache in
+    let three : length held.cache + 1 ≡ 4 = held.cut (omega arith) in
+    omega (arith, two, three)
 
 -- a cache with as many blocks as a superblock is left
 pub cache_too_long : HasAllocated 20 (block_of 20 9272) before (with_held (9272 ∷ []) (with_cached (1080 ∷ 2872 ∷ 4664 ∷ 6456 ∷ []) before)) → ⊥

@@ -104,6 +104,7 @@ served = record {
     cache = 2872 ∷ [];
     first = λ some. refl;
     short = omega arith;
+    cut = λ cut. absurd (omega (arith, cut));
     parts_are = refl;
   });
   gives = refl;
@@ -141,6 +142,7 @@ filled_by_ten = record {
     cache = 4664 ∷ 2872 ∷ [];
     first = λ some. absurd (omega (arith, some));
     short = omega arith;
+    cut = λ cut. absurd (omega (arith, cut));
     parts_are = refl;
   });
   gives = refl;

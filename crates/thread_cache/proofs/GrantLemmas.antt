@@ -1,10 +1,11 @@
 -- What a call for a block of a class leaves, once its cache was filled.
-use Rattle.std.proofs.Common.{◌≡◌, ◌≤◌, ℕ, ◌+◌, ◌-◌, get_or, length, ap, ◌∙◌, arith}
+use Rattle.std.proofs.Common.{◌≡◌, ◌<◌, ◌≤◌, ℕ, ◌+◌, ◌-◌, get_or, length, refl, ap, ◌∙◌, arith}
 use Rattle.std.proofs.lemmas.List.{set-set}
 use Rattle.heap_model.specs.declared.block.Block.{Block}
 use Rattle.heap_model.specs.Sizes.{blocks_of}
 use Rattle.heap_model.specs.Words.{head_first}
-use Rattle.core_model.specs.View.{LastLook, View, of_class}
+use Rattle.core_model.specs.View.{LastLook, Parts, View, of_class}
+use Rattle.core_model.proofs.BlockLemmas.{of_class_same}
 use Rattle.heap_rule.specs.Seated.{SeatView}
 use Rattle.seat_costs.specs.Costs.{Costs, no_costs, one_draw}
 use Rattle.seat_costs.specs.Rows.{HoldingRow, IsHeldBoth, Row, SameLooks, head_look, next_of, parts}
@@ -72,14 +73,22 @@ module _ (v t : SeatView) (class : ℕ) where
         (then_holding v t w (light (let a = row.view.passes.more.cuts in let b = holding.passes.more.cuts in omega (arith, a, b, same))) holding)
 
 -- the cache was filled before
-pub filled_alloc : (v t w : View) (class : ℕ) (b : Block) → length (of_class v.caches class) ≡ 0 → HasFilled class v t
-    → HasAllocated class b t w → HasAllocated class b v w
-filled_alloc v t w class b none filled allocated = record {
+pub filled_alloc : (v t w : View) (class : ℕ) (b : Block) → class < length v.caches → length (of_class v.caches class) ≡ 0
+    → HasFilled class v t → w.cuts ≤ t.cuts → HasAllocated class b t w → HasAllocated class b v w
+filled_alloc v t w class b less none filled uncut allocated = record {
   going = allocated.going;
   size = allocated.size;
   cache = allocated.cache;
   first = λ some. absurd (omega (arith, some, none));
   short = allocated.short;
+  cut = λ rose.
+      let whole = filled.whole (omega (arith, uncut, rose)) in
+      let some = filled.some in
+      let was : of_class t.caches class ≡ filled.blocks = ap (λ (p : Parts). of_class p.caches class) filled.parts_are
+      ∙ of_class_same v.caches class filled.blocks class refl less in
+      let all = ap length was in
+      let first = ap length (allocated.first (omega (arith, some, all))) in
+      omega (arith, whole, all, first);
   parts_are = allocated.parts_are ∙ ap (with_allocated class b.first_word allocated.cache) filled.parts_are
       ∙ ap (λ l. record (with_allocated class b.first_word allocated.cache (parts v)) { caches = l })
       (set-set v.caches class filled.blocks allocated.cache);

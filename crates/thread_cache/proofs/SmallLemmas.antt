@@ -343,6 +343,8 @@ module _ (v early w : View) (class found : ℕ) (settles : Settles v early) (eve
     cache = rest_of (of_class v.caches class);
     first = λ _. first_rest (of_class v.caches class) some ∙ ap (λ b. b ∷ rest_of (of_class v.caches class)) (sym is);
     short = let rest = rest_length (of_class v.caches class) some in omega (arith, rest, most);
+    cut = λ rose. absurd (let same = ap (λ (x : View). x.cuts) (shifted_is v early settles (Some (Alloc class)) w found event going) in
+        omega (arith, same, rose));
     parts_are = ap parts (shifted_is v early settles (Some (Alloc class)) w found event going)
         ∙ ap (λ b. record (parts v) {
           small = set v.small class (b ∷ of_class v.small class);

@@ -21,13 +21,15 @@ use Rattle.seat_costs.specs.Words.{IsHeldWord}
 abbrev pub with_allocated : ℕ → ℕ → List ℕ → Parts → Parts
 with_allocated class block cache p = record p { small = set p.small class (block ∷ of_class p.small class); caches = set p.caches class cache }
 
--- the block is one of the class, and new: the first of the cache, where that has one; the cache has fewer blocks than a superblock
+-- the block is one of the class, and new: the first of the cache, where that has one; the cache has fewer blocks than
+-- a superblock, and one less where a superblock was cut
 pub record HasAllocated (class : ℕ) (b : Block) (v w : View) : Type 0 where
   pub going : w.stopped ≡ None
   pub size : b.words ≡ words_of_class class
   pub cache : List ℕ
   pub first : 1 ≤ length (of_class v.caches class) → of_class v.caches class ≡ b.first_word ∷ cache
   pub short : length cache < blocks_of class
+  pub cut : v.cuts < w.cuts → length cache + 1 ≡ blocks_of class
   pub parts_are : parts w ≡ with_allocated class b.first_word cache (parts v)
 
 -- the block of the class that begins at the word

@@ -23,9 +23,12 @@ returns-in-Full-clause-row g c = full_row c.args.seat.now c.refill.new.seat c.ar
 pub returns-in_ok-block-in-Filled-clause-allocated : goal.returns-in_ok-block-in-Filled-clause-allocated
 returns-in_ok-block-in-Filled-clause-allocated g c = filled_alloc c.args.seat.now.view c.refill.new.seat.view
     c.alloc_cached-in-Filled.new.seat.view c.args.class.number c.in_ok-block-in-Filled.block
+    (let s = c.recall_soundness.ensures in let last = c.args.class.is.last in
+    let long = (s.sound.good.set_up s.seat c.args.seat.now.view s.below s.at).caches in omega (arith, last, long))
     (let n = c.cache-count.ensures.count in omega arith)
     (subst (λ filling. Refills c.args.class.number filling c.args.seat.now.view c.refill.new.seat.view)
-    c.in-Filled.is c.in_ok-looks.ensures.done) c.in_ok-block-in-Filled.ensures.allocated
+    c.in-Filled.is c.in_ok-looks.ensures.done)
+    (let most = c.alloc_cached-in-Filled.ensures.row.passes.most.cuts in omega (arith, most)) c.in_ok-block-in-Filled.ensures.allocated
 
 pub returns-in_ok-block-in-Filled-clause-light : goal.returns-in_ok-block-in-Filled-clause-light
 returns-in_ok-block-in-Filled-clause-light g c = alloc_light c.args.seat.now c.refill.new.seat c.args.class.number
