@@ -1,0 +1,3 @@
+pub mod Spent
+pub mod Gains
+pub mod Drains
