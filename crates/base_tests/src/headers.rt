@@ -3,12 +3,13 @@ ghost use Rattle.std.specs.Prelude.{◌≤◌};
 
 use crate::asserts::{count_of, must_hold};
 use region_header::{
-    BadHeader, Header, bytes_to_words, check_bytes, format, read_header, words_to_bytes,
+    BadHeader, Header, bytes_to_words, check_bytes, format, format_with_kinds, read_header,
+    words_to_bytes,
 };
 use std::alloc::{AllocError, Global};
 use std::process::Abort;
 use std::test::Fail;
-use super_block::OLD_VERSION;
+use super_block::{OLD_VERSION, ROOTS};
 use test_images::{image_of, old_image_of};
 
 /// An empty image of so many superblocks.
@@ -76,6 +77,28 @@ fn an_empty_image_has_the_size_of_its_capacity(rt: HostRuntime) -> Result<(), Fa
 fn the_largest_image_has_its_size(rt: HostRuntime) -> Result<(), Fail> {
     let image = empty(rt.alloc(), 4_096)?;
     must_hold(&rt, image.len() == 33_589_288, "words");
+    Ok(())
+}
+
+/// An empty image of two superblocks, whose roots have kind 1 but for the first and the last.
+#[tactic(auto, unfolding(heap_model::specs::Geometry::largest_capacity))]
+fn with_kinds(alloc: Global) -> Result<Vec<u64>, AllocError> {
+    let mut kinds = [1; ROOTS as usize];
+    kinds[0] = 2;
+    kinds[1_023] = 4;
+    format_with_kinds(alloc, 2, &kinds)
+}
+
+#[test]
+fn an_empty_image_has_the_kinds_that_are_given(rt: HostRuntime) -> Result<(), Fail> {
+    let image = with_kinds(rt.alloc())?;
+    must_hold(&rt, image.len() == 18_488, "words");
+    must_hold(&rt, image.get(17_464) == Some(&2), "of root 0");
+    must_hold(&rt, image.get(17_465) == Some(&1), "of root 1");
+    must_hold(&rt, image.get(18_487) == Some(&4), "of root 1023");
+    must_hold(&rt, read_header(&image, Some(5)).is_ok(), "five kinds");
+    let few = read_header(&image, Some(4));
+    must_hold(&rt, few == Err(BadHeader::Kind), "four kinds");
     Ok(())
 }
 
