@@ -1,9 +1,11 @@
 -- What a fault of recovery tells.
-use Rattle.std.specs.Prelude.{◌≡◌, ℕ, ◌*◌, List, length, slice_index, Option, Some, None}
+use Rattle.std.specs.Prelude.{◌≡◌, refl, ℕ, ◌*◌, List, [], length, slice_index, Option, Some, None}
+use Rattle.std.proofs.Common.{arith, inl}
 use Rattle.heap_model.specs.Image.{Image}
 use Rattle.heap_model.specs.declared.header.BadHeader.{BadHeader}
-use Rattle.heap_model.specs.declared.header.BadHeader.TheVariants.{Version}
-use Rattle.heap_model.specs.Header.{header_fault, IsWellFormed, IsOldWellFormed, HasKindsBelow}
+use Rattle.heap_model.specs.declared.header.BadHeader.TheVariants.{Short, Version}
+use Rattle.heap_model.specs.Header.{header_fault, has_fault, IsWellFormed, IsOldWellFormed, HasKindsBelow}
+use Rattle.heap_model.specs.Examples.{of_old_version}
 use Rattle.heap_model.specs.Reach.{Links, IsOutsideIn}
 use Rattle.filter_trace.specs.declared.fault.TraceFault.{TraceFault}
 use Rattle.filter_trace.specs.declared.fault.TraceFault.TheVariants.{Outside as OutsideTraced, Memory as MemoryTraced}
@@ -43,3 +45,19 @@ TellsStoredFault limit words links (Outside at value) =
     IsWellFormed (8 * length words) (slice_index words) × HasKindsBelow limit (slice_index words)
     × IsOutsideIn (slice_index words) links at × (value ≡ slice_index words at)
 TellsStoredFault limit words links Memory = Unit {0}
+
+-- worked examples: an empty file, and a good image of the old version
+empty_file : IsRefusedFor (Some 3) 0 (λ _. 0) Short
+unfolding header_fault has_fault
+empty_file = is_bad Short refl
+
+good_of_old : IsRefusedFor (Some 3) 74112 (of_old_version 1 []) Version
+good_of_old = is_old (record {
+  magic_is = refl;
+  version_is = refl;
+  some = omega arith;
+  small = omega arith;
+  length_is = refl;
+  state = inl refl;
+  used = omega arith;
+})

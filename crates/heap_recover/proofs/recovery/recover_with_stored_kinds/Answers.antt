@@ -10,7 +10,8 @@ pub returns-in_err-header-clause-cause : goal.returns-in_err-header-clause-cause
 returns-in_err-header-clause-cause g c =
     let words = c.args.words.now in
     let cause = c.in_err-header.field-0.0 in
-    let fault = subst (λ k. Some cause ≡ header_fault (Some k) (8 * length words) (slice_index words)) c.KINDS.ensures c.in_err-header.ensures.cause in
+    let fault = subst (λ k. Some cause ≡ header_fault (Some k) (8 * length words) (slice_index words)) c.KINDS.ensures
+    c.in_err-header.ensures.cause in
     let p = err_from_is_err_and c.from_residual.result c.from_residual.ensures.1 in
     rw (p.1, p.2) (is_bad cause (sym fault))
 
@@ -18,7 +19,8 @@ pub returns-in_err-header-clause-header : goal.returns-in_err-header-clause-head
 returns-in_err-header-clause-header g c other refused =
     let words = c.args.words.now in
     let cause = c.in_err-header.field-0.0 in
-    let fault = subst (λ k. Some cause ≡ header_fault (Some k) (8 * length words) (slice_index words)) c.KINDS.ensures c.in_err-header.ensures.cause in
+    let fault = subst (λ k. Some cause ≡ header_fault (Some k) (8 * length words) (slice_index words)) c.KINDS.ensures
+    c.in_err-header.ensures.cause in
     let same = refused_bad (Some g.F.Filter.KINDS) (8 * length words) (slice_index words) cause other (sym fault) refused in
     let p = err_from_is_err_and c.from_residual.result c.from_residual.ensures.1 in
     p.1 ∙ ap Err (p.2 ∙ ap Header (sym same))
