@@ -1,0 +1,30 @@
+//! A list of nodes behind root 0, over any open heap. The first word of a node leads to the next
+//! one, and the second has its value.
+ghost use Rattle.std.specs.Prelude.{◌≡◌, List, ◌∷◌, Contains, IfOk};
+ghost use Rattle.heap_model.specs.declared.block.Block.{Block};
+ghost use Rattle.first_filter.specs.Lists.{HoldsList};
+
+use heap_seat::{AllocFault, HeapSeat, Spot, persist};
+use offset_ptr::encode;
+use super_block::{Block, WORD_BYTES};
+
+/// The root of the list.
+pub const LIST: u64 = 0;
+
+/// How many bytes a node has: two words.
+const NODE_BYTES: u64 = 2 * WORD_BYTES;
+
+/// Puts a node with the value before the others of the list. The root is stored last, when the words
+/// of the node are durable.
+pub fn push<H: HeapSeat>(heap: &mut H, value: u64) -> Result<Block, AllocFault>
+    requires { Contains (H.view heap.old).roots 0 }
+    ensures ok { (nodes : List Block) → HoldsList (H.view heap.old) nodes
+        → IfOk result (λ node. HoldsList (H.view heap.new) (node ∷ nodes)) }
+{
+    let node = heap.alloc(NODE_BYTES)?;
+    let next = heap.load(Spot::Root(LIST))?;
+    persist(heap, Spot::InBlock(node, 1), value)?;
+    persist(heap, Spot::InBlock(node, 0), next)?;
+    persist(heap, Spot::Root(LIST), encode(WORD_BYTES * node.first_word))?;
+    Ok(node)
+}
