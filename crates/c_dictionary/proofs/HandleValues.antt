@@ -1,10 +1,10 @@
 -- The machine values of a `Handle`. Assumes `Logic`.
 use Rattle.std.proofs.Common.{◌≡◌, ℕ, ◌<◌, ◌^◌, List, [], ◌∷◌, Option, None, Some, T, refl, sym, subst, arith, lit<, w64}
-use Rattle.std.specs.Prelude.{◌≢◌, IsSome, IfSome}
+use Rattle.std.specs.Prelude.{IsSome}
 use seplogic.Ra.Ura.{Ura}
 use base.Logic.{ent, guard}
 use base.Fml.{ftrue}
-use Rattle.c_dictionary.specs.Ready.{IsReady}
+use Rattle.c_dictionary.specs.Ready.{IsHeldAt, IsStateOf}
 use mir.Val.{Val, vptr, vint, vstruct, vcons, vnil}
 use types.Logic.{Logic, sem}
 use types.Kit.{Item, Goal, Step, step, ‵, ◌$◌, ◌∵◌, !, qed, check, done, fsplit, fpick, fjoin, fpack, feq_i, feq_l}
@@ -30,28 +30,22 @@ the_some None h = absurd (subst T (sym h) tt)
 abbrev pub the_none : Option Store
 the_none = None
 
-no_both : (s : ℕ) → s ≡ 0 → s ≡ 1 → ⊥
-no_both s e f = omega arith
-
 abbrev pub two : ℕ → Val → Val
 two s v = vstruct (vcons v (vcons (vint w64 s) vnil))
 
 module _ {M : Type 1} {𝓤 : Ura M} (𝓛 : Logic 𝓤) where
-  abbrev pub Told : ℕ → Option Store → Type 0
-  Told s m = (s ≢ 0 → IsSome m) × (s ≡ 1 → IfSome m IsReady)
-
-  pub tells : (s : ℕ) (p : Ptr) (m : Option Store) → ent 𝓤 (sem 𝓛 (owns_by s p m)) (guard 𝓤 (Told s m) (sem 𝓛 (owns_by s p m)))
+  pub tells : (s : ℕ) (p : Ptr) (m : Option Store)
+      → ent 𝓤 (sem 𝓛 (owns_by s p m)) (guard 𝓤 (IsStateOf s m) (sem 𝓛 (owns_by s p m)))
   tells s p (Some x) = qed 𝓛 (‵ (owns_by s p (Some x)) ∷ []) ∵ fsplit ! $ fpick !
-      (λ good. check ! ((λ _. refl), good) $ fpack ! (s ≡ 1 → IsReady x) (λ _. ftrue) good $ fjoin ! $ done !)
-  tells s p None = qed 𝓛 (‵ (owns_by s p None) ∷ []) ∵ feq_l ! (λ e. check !
-      ((λ some. absurd (some e)), (λ one. absurd (no_both s e one))) $ feq_i ! ℕ s 0 e $ done !)
+      (λ good. check ! good $ fpack ! (IsHeldAt s x) (λ _. ftrue) good $ fjoin ! $ done !)
+  tells s p None = qed 𝓛 (‵ (owns_by s p None) ∷ []) ∵ feq_l ! (λ e. check ! e $ feq_i ! ℕ s 0 e $ done !)
 
 module _ {M : Type 1} {𝓤 : Ura M} {𝓛 : Logic 𝓤} {K : Type 0} {Γ : List (Item 𝓤)} {G : Goal 𝓤 𝓛.H} where
-  pub handle_in : K → (b o n : ℕ) (x : R.Denot) → n < 2 ^ 64 → (n ≡ 1 → IsReady x)
+  pub handle_in : K → (b o n : ℕ) (x : R.Denot) → n < 2 ^ 64 → IsHeldAt n x
       → Step K 𝓛 (‵ (handle.the_row.own_val (record { at = block_ptr b o; state = n; value = Some x }) (two n (vptr b o) ∷ [])) ∷ Γ) G
       (‵ (box_owns (g.dealloc_token global) R (block_ptr b o) x) ∷ Γ) G
   handle_in t b o n x fits good = step (λ s. let v : Val = two n (vptr b o) in
-      nothing t $ fpack t (n ≡ 1 → IsReady x) (λ _. ftrue) good $ fjoin t $ nothing t $ owned t u64 (Is u64) (uint_Makes 𝓛 w64) n
+      nothing t $ fpack t (IsHeldAt n x) (λ _. ftrue) good $ fjoin t $ nothing t $ owned t u64 (Is u64) (uint_Makes 𝓛 w64) n
       (vint w64 n ∷ []) (refl, fits) $ fjoin t $
       feq_i t (List Val) (vptr b o ∷ []) (vptr b o ∷ []) refl $ fjoin t $ feq_i t (List Val) (v ∷ []) (v ∷ []) refl $ fjoin t $
       fpack t (Valss (RawPtr ∷ u64 ∷ [])) (within (shape handle.the_type) (block_ptr b o, (n, tt)) (v ∷ []))

@@ -1,9 +1,15 @@
-pub mod ClosedLemmas
+pub mod ClosingLemmas
+pub mod EmptyLemmas
+pub mod FaultLemmas
 pub mod HandleValues
+pub mod ImageLemmas
 pub mod KeyLemmas
+pub mod MixLemmas
 pub mod Numbers
 pub mod OpenLemmas
 pub mod Passing
 pub mod ReadyLemmas
+pub mod SoundLemmas
+pub mod StateLemmas
 pub mod TurnLemmas
 pub mod Values

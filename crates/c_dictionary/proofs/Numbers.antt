@@ -61,3 +61,37 @@ three_two e = omega arith
 
 pub eleven_two : ◌≡◌ {A = ℕ} 11 2 → ⊥
 eleven_two e = omega arith
+
+pub zero_twelve : ◌≡◌ {A = ℕ} 0 12 → ⊥
+zero_twelve e = omega arith
+
+pub one_twelve : ◌≡◌ {A = ℕ} 1 12 → ⊥
+one_twelve e = omega arith
+
+pub three_twelve : ◌≡◌ {A = ℕ} 3 12 → ⊥
+three_twelve e = omega arith
+
+pub eleven_twelve : ◌≡◌ {A = ℕ} 11 12 → ⊥
+eleven_twelve e = omega arith
+
+pub twelve_zero : ◌≡◌ {A = ℕ} 12 0 → ⊥
+twelve_zero e = omega arith
+
+pub twelve_one : ◌≡◌ {A = ℕ} 12 1 → ⊥
+twelve_one e = omega arith
+
+pub twelve_two : ◌≡◌ {A = ℕ} 12 2 → ⊥
+twelve_two e = omega arith
+
+pub twelve_three : ◌≡◌ {A = ℕ} 12 3 → ⊥
+twelve_three e = omega arith
+
+pub twelve_eleven : ◌≡◌ {A = ℕ} 12 11 → ⊥
+twelve_eleven e = omega arith
+
+pub two_twelve : ◌≡◌ {A = ℕ} 2 12 → ⊥
+two_twelve e = omega arith
+
+pub low_not_two : (r : ℕ) → (r ≡ 0) ⊎ (r ≡ 1) → r ≡ 2 → ⊥
+low_not_two r (inl a) e = omega arith
+low_not_two r (inr a) e = omega arith

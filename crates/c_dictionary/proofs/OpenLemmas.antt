@@ -1,12 +1,18 @@
 -- A dictionary that was opened is the map of the image.
-use Rattle.std.proofs.Common.{◌≡◌, ◌≢◌, ℕ, ◌<◌, inl, inr, List, Bool, true, false, cond, nat_eq, Option, None, Some, refl, sym, ap, subst, ◌∙◌, arith}
+use Rattle.std.proofs.Common.{◌≡◌, ◌≢◌, ℕ, ◌*◌, ◌<◌, inl, inr, List, length, Bool, true, false, cond, nat_eq, Option, None, Some, refl, sym}
+use Rattle.std.proofs.Common.{ap, subst, ◌∙◌, arith}
 use Rattle.std.specs.Prelude.{is_some}
 use Rattle.std.specs.BTreeMap.{BTreeMap, get}
 use Rattle.std.specs.BTreeSet.{BTreeSet, contains}
 use Rattle.std.specs.Ordering.{nat_cmp}
 use Rattle.std.proofs.lemmas.Bool.{cases_eq, cond-false, ne_eqb}
+use Rattle.heap_model.specs.Geometry.{capacity_word, image_words}
+use Rattle.heap_model.specs.Header.{capacity_of}
 use Rattle.heap_model.specs.Image.{Image}
+use Rattle.heap_model.specs.Recovery.{in_header}
+use Rattle.line_memory.specs.View.{View}
 use Rattle.block_heap.specs.Closing.{IsOpened}
+use Rattle.block_heap.specs.Laws.{keeps_none_law}
 use Rattle.block_heap.specs.SeqState.{SeqState, seat_of}
 use Rattle.dict_model.specs.Links.{shards}
 use Rattle.dict_model.specs.Nodes.{shard_of}
@@ -17,17 +23,18 @@ use Rattle.run_model.specs.Arrivals.{IsWholeMap}
 use Rattle.dictionary_heap.specs.Images.{current_image}
 use Rattle.dictionary_heap.specs.Opened.{GivesMapsOf, IsDictionaryOf}
 use Rattle.dictionary_heap.specs.declared.recovering.RecoveredDictionary.{RecoveredDictionary}
-use Rattle.dictionary_heap.proofs.OpenedLemmas.{opened_shards, opened_maps}
+use Rattle.dictionary_heap.proofs.OpenedLemmas.{opened_shards, opened_maps, all_reached}
 use Rattle.c_dictionary.specs.Dictionary.{GivesWhole, Holds}
 use Rattle.c_dictionary.specs.Keys.{Lists, ListsAll}
-use Rattle.c_dictionary.specs.Passing.{IsMapOf}
-use Rattle.c_dictionary.specs.Ready.{IsReady}
+use Rattle.c_dictionary.specs.Images.{IsMapOf}
+use Rattle.c_dictionary.specs.Ready.{HasAllSteps, IsReady, IsSound}
 use Rattle.c_dictionary.specs.declared.store.Store.{Store}
 use Rattle.c_dictionary.proofs.KeyLemmas.{some_same}
 use Rattle.c_dictionary.proofs.TurnLemmas.{low}
 
 -- a key of a shard's map belongs to the shard
-own_key : (leads : Leading) (image : Image) (shard : ℕ) (map : Map) → IsMap leads image shard map → (key : ℕ) → map key ≢ None → shard_of key ≡ shard
+own_key : (leads : Leading) (image : Image) (shard : ℕ) (map : Map) → IsMap leads image shard map → (key : ℕ) → map key ≢ None → shard_of
+    key ≡ shard
 own_key leads image shard map (is_empty null none) key some = absurd (some (none key))
 own_key leads image shard map (has_table table nodes there chains means) key some =
     elim (cases_eq (shard_of key) shard) as (λ _. shard_of key ≡ shard) [
@@ -89,7 +96,7 @@ module _ (image : Image) (s : SeqState) (maps : GivesMapsOf image (seat_of s)) w
 -- what was recovered, opened
 module _ (words : List ℕ) (found : RecoveredDictionary) (is : IsDictionaryOf (current_image words) found) (s : Store) (budget : ℕ)
     (opened : IsOpened found.heap.words found.heap.held budget s.heap)
-    (all : ListsAll found.maps.items s.keys) where
+    (all : ListsAll found.maps.items s.keys) (length_is : s.length ≡ 8 * length found.heap.words) where
   maps : GivesMapsOf (current_image words) (seat_of s.heap)
   maps = opened_maps found.heap.words found.heap.held budget s.heap opened is.dictionary (current_image words) is.recovers
 
@@ -99,17 +106,48 @@ module _ (words : List ℕ) (found : RecoveredDictionary) (is : IsDictionaryOf (
     listed = listed (current_image words) s.heap maps found.maps.items s.keys is.maps_are all;
   }
 
+  -- recovery leaves the capacity
+  long : s.length ≡ 8 * image_words (capacity_of (current_image words))
+  long =
+      length_is ∙ is.ready.formed.length_is
+      ∙ ap (λ n. 8 * image_words n) (is.recovers.recovered.same capacity_word (in_header capacity_word (inr (inr (inl refl)))))
+
   pub opened_words : IsMapOf words s
   opened_words = record {
     maps = maps;
     map = whole (current_image words) s.heap maps;
     whole = whole_is (current_image words) s.heap maps;
     holds = holds;
+    long = long;
   }
 
   pub opened_ready : IsReady s
   opened_ready = record {
+    running = opened.stopped;
     shards = opened_shards found.heap.words found.heap.held budget s.heap opened is.dictionary;
     map = whole (current_image words) s.heap maps;
     holds = holds;
+  }
+
+  pub opened_sound : IsSound s
+  opened_sound = record {
+    words = found.heap.words;
+    held = found.heap.held;
+    budget = budget;
+    begun = s.heap;
+    at_rest = is.ready;
+    dictionary = is.dictionary;
+    opened = opened;
+    keeps = keeps_none_law s.heap;
+    length_is = length_is;
+    only = (all_reached found.heap.words found.heap.held budget s.heap opened is.dictionary).only;
+    maps = λ shard small.
+        let p = maps.each shard small in
+        record { one = p.0; other = p.0; either = record { each = λ image mixes. inl (p.2.each image mixes) } };
+  }
+
+  pub opened_steps : HasAllSteps budget s
+  opened_steps = record {
+    budget_is = ap (λ (m : View). m.budget) opened.opens.words_are;
+    none = ap (λ (m : View). m.drawn) opened.opens.words_are;
   }

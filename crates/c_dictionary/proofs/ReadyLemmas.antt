@@ -1,5 +1,5 @@
 -- What an answered request leaves of a dictionary.
-use Rattle.std.proofs.Common.{◌≡◌, ℕ, List, [], Bool, true, false, refl, sym, subst}
+use Rattle.std.proofs.Common.{◌≡◌, ℕ, List, [], Bool, true, false, None, refl, sym, subst}
 use Rattle.std.specs.Prelude.{is_some}
 use Rattle.std.specs.BTreeSet.{BTreeSet}
 use Rattle.block_heap.specs.Laws.{seat_law}
@@ -21,10 +21,14 @@ module _ (s t : Store) (ready : IsReady s) (key : ℕ) (may made : Map → Map)
     (changes : MayChange (shard_of key) may (seat_of s.heap) (seat_of t.heap)) (local : IsLocal key made)
     (done : Changes (shard_of key) made (seat_of s.heap) (seat_of t.heap)) (lists : (map : Map) → Holds map s → Lists t.keys (made map)) where
   pub turns_after : Turns made s t
-  turns_after map holds = record { gives = turned s.heap t.heap key may ready.shards changes made local done map holds.gives; listed = lists map holds }
+  turns_after map holds = record {
+    gives = turned s.heap t.heap key may ready.shards changes made local done map holds.gives;
+    listed = lists map holds;
+  }
 
-  pub ready_after : IsReady t
-  ready_after = record {
+  pub ready_after : t.heap.stopped ≡ None → IsReady t
+  ready_after running = record {
+    running = running;
     shards = shards_on (seat_of s.heap) (seat_of t.heap) (shard_of key) may (seat_law s.heap) (low key) changes made ready.shards done;
     map = made ready.map;
     holds = turns_after ready.map ready.holds;

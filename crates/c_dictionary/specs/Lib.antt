@@ -1,5 +1,9 @@
 pub mod Dictionary
+pub mod Examples
+pub mod Faults
+pub mod Images
 pub mod Keys
 pub mod Owning
 pub mod Passing
 pub mod Ready
+pub mod Taking

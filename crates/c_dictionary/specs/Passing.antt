@@ -1,14 +1,11 @@
 -- What a request makes of what a handle owns.
-use Rattle.std.specs.Prelude.{◌≡◌, ◌⊎◌, ℕ, List, Option, Some}
+use Rattle.std.specs.Prelude.{◌≡◌, ◌⊎◌, Option, Some}
 use Rattle.heap_seat.specs.View.{View}
 use Rattle.block_heap.specs.SeqState.{seat_of}
-use Rattle.region_header.specs.Words.{AreWordsOf}
 use Rattle.dict_model.specs.Shards.{Map}
-use Rattle.run_model.specs.Arrivals.{IsWholeMap}
-use Rattle.dictionary_heap.specs.Images.{current_image}
-use Rattle.dictionary_heap.specs.Opened.{GivesMapsOf}
 use Rattle.c_dictionary.specs.declared.store.Store.{Store}
 use Rattle.c_dictionary.specs.Dictionary.{Holds, Turns}
+use Rattle.c_dictionary.specs.Ready.{HasStopped}
 
 -- it had a dictionary and has one, and this is so of the heap before and after
 pub record Passes (old new : Option Store) (how : View → View → Type 0) : Type 0 where
@@ -21,25 +18,6 @@ pub record Passes (old new : Option Store) (how : View → View → Type 0) : Ty
 -- nothing was done, or this is so
 abbrev pub MayPass : Option Store → Option Store → (View → View → Type 0) → Type 0
 MayPass old new how = (new ≡ old) ⊎ Passes old new how
-
--- the map of the image of these words, of which each shard gives its own
-pub record IsMapOf (words : List ℕ) (s : Store) : Type 0 where
-  pub maps : GivesMapsOf (current_image words) (seat_of s.heap)
-  pub map : Map
-  pub whole : IsWholeMap (current_image words) map
-  pub holds : Holds map s
-
--- it has a dictionary, and that is the map of the image of these words
-pub record OpensWords (words : List ℕ) (new : Option Store) : Type 0 where
-  pub store : Store
-  pub has : new ≡ Some store
-  pub opened : IsMapOf words store
-
--- the same of the image in these bytes
-pub record OpensBytes (bytes : List ℕ) (new : Option Store) : Type 0 where
-  pub words : List ℕ
-  pub are : AreWordsOf words bytes
-  pub opens : OpensWords words new
 
 -- where it had a dictionary that was a map and has one, that is what is made of the map
 pub record Becomes (change : Map → Map) (old new : Option Store) : Type 0 where
@@ -55,3 +33,9 @@ pub record Tells (how : Map → Type 0) (old new : Option Store) : Type 0 where
   pub had : old ≡ Some store
   pub stays : new ≡ old
   pub tells : (map : Map) → Holds map store → how map
+
+-- it has a dictionary, and that has stopped
+pub record HasHalted (value : Option Store) : Type 0 where
+  pub store : Store
+  pub has : value ≡ Some store
+  pub stopped : HasStopped store

@@ -1,5 +1,5 @@
 //! The requests of a program in C.
-ghost use Rattle.std.specs.Prelude.{◌≡◌, ◌≢◌, ◌⊎◌, ◌+◌, ◌^◌, ◌-◌, Some, None, true, false};
+ghost use Rattle.std.specs.Prelude.{◌≡◌, ◌≢◌, ◌⊎◌, ◌↔◌, ◌+◌, ◌^◌, ◌-◌, ◌<◌, length, Some, None, true, false};
 ghost use Rattle.dict_model.specs.Nodes.{shard_of};
 ghost use Rattle.dict_model.specs.Requests.{with_key, without_key};
 ghost use Rattle.dict_requests.specs.Changes.{MayChange, Changes};
@@ -8,7 +8,7 @@ ghost use Rattle.dict_requests.specs.Answers.{Deletes};
 ghost use Rattle.dict_model.specs.Shards.{Map};
 ghost use Rattle.c_dictionary.specs.Dictionary.{Holds};
 ghost use Rattle.c_dictionary.specs.Keys.{IsLeastFrom, HasNoneFrom};
-ghost use Rattle.c_dictionary.specs.Passing.{Passes, MayPass, Becomes, Tells};
+ghost use Rattle.c_dictionary.specs.Passing.{Passes, MayPass, Becomes, Tells, HasHalted};
 
 use crate::handle::{CLOSED, GOING, HALTED, Handle};
 use crate::keys::least_from;
@@ -24,14 +24,16 @@ const LONGEST_VALUE: usize = 131_072;
 /// Why no request is made of a handle in this state.
 fn refusal(state: u64) -> u32
     ensures refused { (result ≡ 2) ⊎ (result ≡ 12) }
-    ensures closed { state ≡ 0 → result ≡ 2 }
+    ensures closed { (result ≡ 2) ↔ (state ≡ 0) }
 {
     if state == CLOSED { USAGE } else { STOPPED }
 }
 
 /// The state of a handle after a request that answered this.
 fn state_after(status: u32) -> u64
-    ensures { result ≡ 1 → status ≢ 12 }
+    ensures some { result ≢ 0 }
+    ensures going { result ≡ 1 → status ≢ 12 }
+    ensures halted { result ≢ 1 → status ≡ 12 }
 {
     if status == STOPPED { HALTED } else { GOING }
 }
@@ -49,7 +51,11 @@ pub extern "C" fn heap_put(alloc: Global, handle: &mut Handle, key: u64, value: 
     ensures memory { result ≡ 3 → handle.new.value ≡ handle.old.value }
     ensures crash { MayPass handle.old.value handle.new.value
         (MayChange (shard_of key) (λ map. with_key map key value.now)) }
-    ensures usage { result ≡ 2 → handle.new.value ≡ handle.old.value }
+    ensures stopped { result ≡ 12 → HasHalted handle.new.value }
+    ensures halted { HasHalted handle.old.value
+        → (result ≡ 12) × (handle.new.value ≡ handle.old.value) }
+    ensures usage { result ≡ 2 → (handle.new.value ≡ handle.old.value)
+        × ((handle.old.value ≡ None) ⊎ (131072 < length value.now)) }
     ensures closed { handle.old.value ≡ None → result ≡ 2 }
 {
     let state = handle.state();
@@ -80,8 +86,12 @@ pub extern "C" fn heap_get(
         (Gets key None room.old room.new) }
     ensures same { (result ≡ 0) ⊎ (result ≡ 1)
         → Becomes (λ map. map) handle.old.value handle.new.value }
-    ensures usage { result ≡ 2 → handle.new.value ≡ handle.old.value }
-    ensures closed { handle.old.value ≡ None → result ≡ 2 }
+    ensures stopped { result ≡ 12 → HasHalted handle.new.value }
+    ensures halted { HasHalted handle.old.value
+        → (result ≡ 12) × (handle.new.value ≡ handle.old.value) }
+    ensures usage { (result ≡ 2) ↔ (handle.old.value ≡ None) }
+    ensures kept { result ≡ 2 → (handle.new.value ≡ handle.old.value)
+        × (room.new ≡ room.old) × (length.new ≡ length.old) }
 {
     let state = handle.state();
     if state != GOING {
@@ -102,8 +112,11 @@ pub extern "C" fn heap_del(alloc: Global, handle: &mut Handle, key: u64) -> u32
         → Becomes (λ map. without_key map key) handle.old.value handle.new.value }
     ensures crash { MayPass handle.old.value handle.new.value
         (MayChange (shard_of key) (λ map. without_key map key)) }
-    ensures usage { result ≡ 2 → handle.new.value ≡ handle.old.value }
-    ensures closed { handle.old.value ≡ None → result ≡ 2 }
+    ensures stopped { result ≡ 12 → HasHalted handle.new.value }
+    ensures halted { HasHalted handle.old.value
+        → (result ≡ 12) × (handle.new.value ≡ handle.old.value) }
+    ensures usage { (result ≡ 2) ↔ (handle.old.value ≡ None) }
+    ensures kept { result ≡ 2 → handle.new.value ≡ handle.old.value }
 {
     let state = handle.state();
     if state != GOING {
@@ -138,8 +151,9 @@ pub extern "C" fn heap_first(alloc: Global, handle: &mut Handle, found: &mut u64
         handle.old.value handle.new.value }
     ensures absent { result ≡ 1 → Tells (λ map. HasNoneFrom 0 map)
         handle.old.value handle.new.value }
-    ensures usage { result ≡ 2 → handle.new.value ≡ handle.old.value }
-    ensures closed { handle.old.value ≡ None → result ≡ 2 }
+    ensures stopped { (result ≡ 12) ↔ HasHalted handle.old.value }
+    ensures usage { (result ≡ 2) ↔ (handle.old.value ≡ None) }
+    ensures kept { handle.new.value ≡ handle.old.value }
 {
     let state = handle.state();
     if state != GOING {
@@ -158,8 +172,9 @@ pub extern "C" fn heap_next(alloc: Global, handle: &mut Handle, key: u64, found:
         handle.old.value handle.new.value }
     ensures absent { result ≡ 1 → key ≢ 2 ^ 64 - 1 → Tells (λ map. HasNoneFrom (key + 1) map)
         handle.old.value handle.new.value }
-    ensures usage { result ≡ 2 → handle.new.value ≡ handle.old.value }
-    ensures closed { handle.old.value ≡ None → result ≡ 2 }
+    ensures stopped { (result ≡ 12) ↔ HasHalted handle.old.value }
+    ensures usage { (result ≡ 2) ↔ (handle.old.value ≡ None) }
+    ensures kept { handle.new.value ≡ handle.old.value }
 {
     let state = handle.state();
     if state != GOING {

@@ -1,7 +1,7 @@
 //! What C keeps of an open dictionary between calls.
-ghost use Rattle.std.specs.Prelude.{◌≡◌, ◌≢◌, Option, None, Some, IsSome, IfSome};
+ghost use Rattle.std.specs.Prelude.{◌≡◌, Option, None, Some, IsSome};
 ghost use Rattle.c_dictionary.specs.declared.store.Store.{Store};
-ghost use Rattle.c_dictionary.specs.Ready.{IsReady};
+ghost use Rattle.c_dictionary.specs.Ready.{IsHeldAt, IsStateOf};
 
 use crate::loose::Loose;
 use crate::store::Store;
@@ -39,15 +39,14 @@ unsafe impl Send for Handle {}
 impl Handle {
     /// Its state, which tells whether it has a dictionary and whether that takes requests.
     pub fn state(&mut self) -> u64
-        ensures { ((result ≢ 0 → IsSome self.old.value) × (result ≡ 1 → IfSome self.old.value IsReady))
-            × (self.new.value ≡ self.old.value) }
+        ensures { IsStateOf result self.old.value × (self.new.value ≡ self.old.value) }
     {
         self.state
     }
 
     /// Puts a dictionary in, in this state. What was in is forgotten.
     pub fn set(&mut self, loose: Loose<Store, Global>, state: u64)
-        requires { state ≡ 1 → IsReady loose.value }
+        requires { IsHeldAt state loose.value }
         ensures { self.new.value ≡ Some loose.value }
     {
         let Loose { at, alloc: _ } = loose;

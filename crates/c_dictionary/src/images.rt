@@ -1,156 +1,29 @@
-//! Opening and closing.
+//! Images: of an open dictionary, as it is closed, and as a crash leaves it.
+ghost use Rattle.std.specs.Prelude.{◌≡◌, ◌≢◌, ◌⊎◌, ◌↔◌, ◌*◌, [], ◌∷◌, length, slice_index, Contains, None, IfOk, OnOk, IfErr, OnErr};
+ghost use Rattle.heap_model.specs.Geometry.{clean, dirty};
+ghost use Rattle.heap_model.specs.Header.{state_of};
+ghost use Rattle.heap_model.specs.Image.{image_of_bytes};
+ghost use Rattle.c_dictionary.specs.Images.{OpensBytes, IsImageOf, LeavesImage, HasOtherLength, IsScrambledBy, length_of};
+ghost use Rattle.c_dictionary.specs.Passing.{Becomes, HasHalted};
+ghost use Rattle.region_header.specs.Words.{AreWordsOf};
+ghost use Rattle.c_dictionary.specs.Ready.{IsHeldAt, HasStopped};
+ghost use Rattle.c_dictionary.specs.Taking.{IsTaken, IsNotTaken};
 
-ghost use Rattle.std.specs.Prelude.{◌≡◌, ◌≢◌, IfOk};
-ghost use Rattle.c_dictionary.specs.Passing.{IsMapOf, OpensWords, OpensBytes};
-ghost use Rattle.c_dictionary.specs.Ready.{IsReady};
-
-use crate::handle::{CLOSED, GOING, HALTED, Handle};
-use crate::keys::keys_of;
+use crate::fault::Fault;
+use crate::handle::{CLOSED, Handle};
+use crate::left::{put_words, words_left, words_of_crash};
 use crate::loose::Loose;
-use crate::status::{DONE, HEADER, MEMORY, OUTSIDE, ROOM, SHARD, USAGE};
+use crate::opening::open_words;
+use crate::status::{DONE, ROOM, USAGE};
 use crate::store::{BUDGET, Store};
-use block_heap::{Closed, SeqHeap};
-use byteorder::{ByteOrder, LittleEndian};
-use dictionary_heap::{OpenFault, recover_dictionary};
-use line_memory::ConstantChance;
-use region_header::{BadHeader, bytes_to_words, check_bytes, format};
-use std::alloc::{AllocError, Global};
-use super_block::{CLEAN, LARGEST_CAPACITY, OLD_VERSION, ROOTS, STATE_WORD, VERSION_WORD};
-
-/// Why an image was not opened.
-#[repr(C)]
-#[derive(Drop)]
-pub struct Fault {
-    /// Of a bad header: the place of the cause in the order in which causes are looked for, from 1.
-    pub cause: u64,
-    /// Of a bad shard: its number.
-    pub shard: u64,
-    /// The index of the word.
-    pub at: u64,
-    /// What stands there.
-    pub value: u64,
-}
-
-fn cause_number(bad: BadHeader) -> u64 {
-    match bad {
-        BadHeader::Short => 1,
-        BadHeader::Magic => 2,
-        BadHeader::Version => 3,
-        BadHeader::Capacity => 4,
-        BadHeader::Length => 5,
-        BadHeader::State => 6,
-        BadHeader::Used => 7,
-        BadHeader::Kind => 8,
-    }
-}
-
-fn tell(fault: OpenFault, out: &mut Fault) -> u32
-    ensures { result ≢ 0 }
-{
-    match fault {
-        OpenFault::Header(bad) => {
-            out.cause = cause_number(bad);
-            HEADER
-        }
-        OpenFault::Outside { at, value } => {
-            out.at = at;
-            out.value = value;
-            OUTSIDE
-        }
-        OpenFault::BadShard { shard, at } => {
-            out.shard = shard as u64;
-            out.at = at;
-            SHARD
-        }
-        OpenFault::Memory => MEMORY,
-    }
-}
-
-/// How many bytes the image of these words has, once it is one of this version: the old version has
-/// no kinds of the roots at its end.
-fn image_length(words: &[u64]) -> u64 {
-    let length = 8 * words.len() as u64;
-    match words.get(VERSION_WORD as usize) {
-        Some(&version) if version == OLD_VERSION => length + 8 * ROOTS,
-        _ => length,
-    }
-}
-
-// A dictionary of the image of these words.
-fn open_store(alloc: Global, words: &[u64], length: u64) -> Result<Box<Store>, OpenFault>
-    ensures ready { IfOk result (λ store. IsReady store.value) }
-    ensures opens { IfOk result (λ store. IsMapOf words.now store.value) }
-{
-    let found = recover_dictionary(alloc, words)?;
-    let keys = keys_of(alloc, &found.maps)?;
-    let heap = SeqHeap::new(alloc, found.heap, BUDGET, ConstantChance(0))?;
-    match Box::new(alloc, Store { heap, keys, length }) {
-        Ok(store) => Ok(store),
-        Err(e) => Err(AllocError::from(e).into()),
-    }
-}
-
-// Opens the image of these words.
-fn open_words(alloc: Global, words: &[u64], handle: &mut Handle, fault: &mut Fault) -> u32
-    ensures opened { result ≡ 0 → OpensWords words.now handle.new.value }
-{
-    let length = image_length(words);
-    match open_store(alloc, words, length) {
-        Ok(store) => {
-            handle.set(Loose::of(store), GOING);
-            DONE
-        }
-        Err(cause) => tell(cause, fault),
-    }
-}
-
-/// Opens an empty image of so many superblocks.
-#[tactic(auto, unfolding(heap_model::specs::Geometry::largest_capacity))]
-#[unsafe(no_mangle)]
-pub extern "C" fn heap_format(
-    alloc: Global,
-    superblocks: u64,
-    handle: &mut Handle,
-    fault: &mut Fault,
-) -> u32 {
-    if handle.state() != CLOSED || superblocks == 0 || superblocks > LARGEST_CAPACITY {
-        return USAGE;
-    }
-    match format(alloc, superblocks) {
-        Ok(words) => open_words(alloc, &words, handle, fault),
-        Err(_) => MEMORY,
-    }
-}
-
-/// Opens the image in these bytes, after a close or a crash.
-#[unsafe(no_mangle)]
-pub extern "C" fn heap_open(
-    alloc: Global,
-    bytes: &[u8],
-    handle: &mut Handle,
-    fault: &mut Fault,
-) -> u32
-    ensures opened { result ≡ 0 → OpensBytes bytes.now handle.new.value }
-{
-    if handle.state() != CLOSED {
-        return USAGE;
-    }
-    match check_bytes(bytes, Some(3)) {
-        Ok(_) => {}
-        Err(bad) => {
-            fault.cause = cause_number(bad);
-            return HEADER;
-        }
-    }
-    match bytes_to_words(alloc, bytes) {
-        Ok(words) => open_words(alloc, &words, handle, fault),
-        Err(_) => MEMORY,
-    }
-}
+use std::alloc::Global;
 
 /// How many bytes the image has.
 #[unsafe(no_mangle)]
-pub extern "C" fn heap_length(alloc: Global, handle: &mut Handle) -> u64 {
+pub extern "C" fn heap_length(alloc: Global, handle: &mut Handle) -> u64
+    ensures length { result ≡ length_of handle.old.value }
+    ensures kept { handle.new.value ≡ handle.old.value }
+{
     let state = handle.state();
     if state == CLOSED {
         return 0;
@@ -161,43 +34,44 @@ pub extern "C" fn heap_length(alloc: Global, handle: &mut Handle) -> u64 {
     length
 }
 
-/// The image that is left of a heap: that of a close or, where it has stopped, of a crash.
-fn words_left(heap: SeqHeap<ConstantChance>, state: u64) -> Vec<u64> {
-    let Closed { now, kept } = heap.finish();
-    if state != GOING {
-        return kept;
-    }
-    let mut words = now;
-    if let Some(word) = words.get_mut(STATE_WORD as usize) {
-        *word = CLEAN;
-    }
-    words
+/// A dictionary that was taken out of its handle, and the handle's state then.
+#[derive(Drop)]
+struct Taken {
+    store: Store,
+    state: u64,
 }
 
-/// Writes the words into a room of as many bytes.
-fn write_words(words: &[u64], room: &mut [u8]) -> u32 {
-    if room.len() % 8 != 0 || room.len() / 8 != words.len() {
-        return ROOM;
-    }
-    LittleEndian::write_u64_into(words, room);
-    DONE
-}
-
-/// Closes the dictionary: its image goes into the room, which has that many bytes. Where it has
-/// stopped, the image is one that a crash leaves.
-#[unsafe(no_mangle)]
-pub extern "C" fn heap_close(alloc: Global, handle: &mut Handle, room: &mut [u8]) -> u32 {
+// Takes the dictionary out, where its image has so many bytes; or says why not.
+fn take_out(alloc: Global, handle: &mut Handle, size: usize) -> Result<Taken, u32>
+    ensures ok { IfOk result (λ taken. IsTaken handle.old.value size taken) }
+    ensures gone { OnOk result (handle.new.value ≡ None) }
+    ensures err { IfErr result (IsNotTaken handle.old.value size) }
+    ensures kept { OnErr result (handle.new.value ≡ handle.old.value) }
+{
     let state = handle.state();
     if state == CLOSED {
-        return USAGE;
+        return Err(USAGE);
     }
     let store = handle.take(alloc).into_box();
-    if room.len() as u64 != store.length {
+    if store.length != size as u64 {
         handle.set(Loose::of(store), state);
-        return ROOM;
+        return Err(ROOM);
     }
-    let Store { heap, .. } = Box::into_inner(store);
-    write_words(&words_left(heap, state), room)
+    let store = Box::into_inner(store);
+    Ok(Taken { store, state })
+}
+
+// Puts its image into the room, and gives the words of it.
+fn leave(taken: Taken, room: &mut [u8]) -> Vec<u64>
+    requires held { IsHeldAt taken.state taken.store }
+    requires size { taken.store.length ≡ length room.old }
+    ensures image { IsImageOf taken.store result.items }
+    ensures are { AreWordsOf result.items room.new }
+    ensures clean { HasStopped taken.store ⊎ (state_of (slice_index result.items) ≡ clean) }
+{
+    let words = words_left(taken.store, taken.state);
+    put_words(&words, room);
+    words
 }
 
 /// Puts the image of now into the room, as a close would leave it, and opens it again.
@@ -207,42 +81,79 @@ pub extern "C" fn heap_image(
     handle: &mut Handle,
     room: &mut [u8],
     fault: &mut Fault,
-) -> u32 {
-    let state = handle.state();
-    if state == CLOSED {
-        return USAGE;
+) -> u32
+    ensures left { (result ≡ 0) ⊎ (result ≡ 3) → LeavesImage handle.old.value room.new }
+    ensures clean { (result ≡ 0) ⊎ (result ≡ 3)
+        → HasHalted handle.old.value ⊎ (state_of (image_of_bytes room.new) ≡ clean) }
+    ensures opened { result ≡ 0 → OpensBytes room.new handle.new.value }
+    ensures same { result ≡ 0 → Becomes (λ map. map) handle.old.value handle.new.value }
+    ensures closed { result ≡ 3 → handle.new.value ≡ None }
+    ensures usage { (result ≡ 2) ↔ (handle.old.value ≡ None) }
+    ensures room { (result ≡ 13) ↔ HasOtherLength handle.old.value (length room.old) }
+    ensures kept { (result ≡ 2) ⊎ (result ≡ 13)
+        → (handle.new.value ≡ handle.old.value) × (room.new ≡ room.old) }
+    ensures told { fault.new ≡ fault.old }
+    ensures answers { Contains (0 ∷ 2 ∷ 3 ∷ 13 ∷ []) result }
+{
+    match take_out(alloc, handle, room.len()) {
+        Ok(taken) => {
+            let words = leave(taken, room);
+            open_words(alloc, &words, BUDGET, handle, fault)
+        }
+        Err(status) => status,
     }
-    let store = handle.take(alloc).into_box();
-    if room.len() as u64 != store.length {
-        handle.set(Loose::of(store), state);
-        return ROOM;
-    }
-    let Store { heap, .. } = Box::into_inner(store);
-    let words = words_left(heap, state);
-    let written = write_words(&words, room);
-    let opened = open_words(alloc, &words, handle, fault);
-    if written != DONE { written } else { opened }
 }
 
-/// Puts into the room what a crash now leaves, and closes the dictionary, as a crash does.
+/// Closes the dictionary: its image goes into the room, which has that many bytes. Where it has
+/// stopped, the image is one that a crash leaves.
 #[unsafe(no_mangle)]
-pub extern "C" fn heap_crash(alloc: Global, handle: &mut Handle, room: &mut [u8]) -> u32 {
-    let state = handle.state();
-    if state == CLOSED {
-        return USAGE;
+pub extern "C" fn heap_close(alloc: Global, handle: &mut Handle, room: &mut [u8]) -> u32
+    ensures left { result ≡ 0 → LeavesImage handle.old.value room.new }
+    ensures clean { result ≡ 0
+        → HasHalted handle.old.value ⊎ (state_of (image_of_bytes room.new) ≡ clean) }
+    ensures closed { result ≡ 0 → handle.new.value ≡ None }
+    ensures usage { (result ≡ 2) ↔ (handle.old.value ≡ None) }
+    ensures room { (result ≡ 13) ↔ HasOtherLength handle.old.value (length room.old) }
+    ensures kept { result ≢ 0 → (handle.new.value ≡ handle.old.value) × (room.new ≡ room.old) }
+    ensures answers { Contains (0 ∷ 2 ∷ 13 ∷ []) result }
+{
+    match take_out(alloc, handle, room.len()) {
+        Ok(taken) => {
+            leave(taken, room);
+            DONE
+        }
+        Err(status) => status,
     }
-    let store = handle.take(alloc).into_box();
-    if room.len() as u64 != store.length {
-        handle.set(Loose::of(store), state);
-        return ROOM;
+}
+
+/// Puts into the room what a crash now may leave, by this seed, and closes the dictionary, as a
+/// crash does.
+#[unsafe(no_mangle)]
+pub extern "C" fn heap_crash(alloc: Global, handle: &mut Handle, seed: u64, room: &mut [u8]) -> u32
+    ensures left { result ≡ 0 → LeavesImage handle.old.value room.new }
+    ensures dirty { result ≡ 0 → state_of (image_of_bytes room.new) ≡ dirty }
+    ensures seeded { result ≡ 0 → IsScrambledBy seed (image_of_bytes room.new) }
+    ensures closed { result ≡ 0 → handle.new.value ≡ None }
+    ensures usage { (result ≡ 2) ↔ (handle.old.value ≡ None) }
+    ensures room { (result ≡ 13) ↔ HasOtherLength handle.old.value (length room.old) }
+    ensures kept { result ≢ 0 → (handle.new.value ≡ handle.old.value) × (room.new ≡ room.old) }
+    ensures answers { Contains (0 ∷ 2 ∷ 13 ∷ []) result }
+{
+    match take_out(alloc, handle, room.len()) {
+        Ok(taken) => {
+            let words = words_of_crash(taken.store, seed);
+            put_words(&words, room);
+            DONE
+        }
+        Err(status) => status,
     }
-    let Store { heap, .. } = Box::into_inner(store);
-    write_words(&words_left(heap, HALTED), room)
 }
 
 /// Lets the dictionary go, and keeps nothing of it.
 #[unsafe(no_mangle)]
-pub extern "C" fn heap_drop(alloc: Global, handle: &mut Handle) {
+pub extern "C" fn heap_drop(alloc: Global, handle: &mut Handle)
+    ensures { handle.new.value ≡ None }
+{
     if handle.state() != CLOSED {
         let _store = handle.take(alloc).into_box();
     }

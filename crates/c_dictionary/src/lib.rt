@@ -3,10 +3,13 @@
 #![tactic(auto)]
 
 mod calls;
+mod fault;
 mod handle;
 mod images;
 mod keys;
+mod left;
 mod loose;
+mod opening;
 mod requests;
 mod status;
 mod store;

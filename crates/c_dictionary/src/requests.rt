@@ -7,7 +7,7 @@ ghost use Rattle.dict_requests.specs.Changes.{MayChange, Changes};
 ghost use Rattle.dict_requests.specs.Gets.{Gets};
 ghost use Rattle.dict_requests.specs.Answers.{Deletes};
 ghost use Rattle.c_dictionary.specs.Dictionary.{Turns};
-ghost use Rattle.c_dictionary.specs.Ready.{IsReady};
+ghost use Rattle.c_dictionary.specs.Ready.{HasStopped, IsReady, IsSound};
 
 use crate::keys::{add_key, take_key, undo_add};
 use crate::status::{ABSENT, DONE, FULL, MEMORY, STOPPED};
@@ -17,8 +17,11 @@ use dict_requests::{PutFault, Shard};
 /// Sets a key.
 pub fn put(store: &mut Store, key: u64, value: &[u8]) -> u32
     requires ready { IsReady store.old }
+    requires sound { IsSound store.old }
     requires short { length value.now ≤ 131072 }
     ensures ready { result ≢ 12 → IsReady store.new }
+    ensures sound { IsSound store.new }
+    ensures stopped { result ≡ 12 → HasStopped store.new }
     ensures done { result ≡ 0 → Changes (shard_of key) (λ map. with_key map key value.now)
         (seat_of store.old.heap) (seat_of store.new.heap) }
     ensures set { result ≡ 0
@@ -47,7 +50,10 @@ pub fn put(store: &mut Store, key: u64, value: &[u8]) -> u32
 /// Reads a key's value, as far as it fits, and its length.
 pub fn get(store: &mut Store, key: u64, room: &mut [u8], length: &mut u64) -> u32
     requires ready { IsReady store.old }
+    requires sound { IsSound store.old }
     ensures ready { result ≢ 12 → IsReady store.new }
+    ensures sound { IsSound store.new }
+    ensures stopped { result ≡ 12 → HasStopped store.new }
     ensures found { result ≡ 0 → Gets key (Some length.new) room.old room.new
         (seat_of store.old.heap) (seat_of store.new.heap) }
     ensures absent { result ≡ 1 → Gets key None room.old room.new
@@ -68,7 +74,10 @@ pub fn get(store: &mut Store, key: u64, room: &mut [u8], length: &mut u64) -> u3
 /// Takes a key out.
 pub fn del(store: &mut Store, key: u64) -> u32
     requires ready { IsReady store.old }
+    requires sound { IsSound store.old }
     ensures ready { result ≢ 12 → IsReady store.new }
+    ensures sound { IsSound store.new }
+    ensures stopped { result ≡ 12 → HasStopped store.new }
     ensures found { result ≡ 0 → Deletes key true
         (seat_of store.old.heap) (seat_of store.new.heap) }
     ensures absent { result ≡ 1 → Deletes key false

@@ -1,4 +1,4 @@
-use Rattle.std.proofs.Common.{Bool, true, false, subst}
+use Rattle.std.proofs.Common.{Bool, true, false, refl, subst}
 use Rattle.block_heap.specs.SeqState.{seat_of}
 use Rattle.dict_model.specs.Nodes.{shard_of}
 use Rattle.dict_model.specs.Requests.{without_key}
@@ -8,8 +8,9 @@ use Rattle.dict_requests.specs.Changes.{Changes}
 use Rattle.c_dictionary.specs.Dictionary.{Holds}
 use Rattle.c_dictionary.specs.declared.store.Store.{Store}
 use Rattle.c_dictionary.proofs.KeyLemmas.{lists_absent}
-use Rattle.c_dictionary.proofs.Numbers.{zero_two, one_two, zero_one, one_zero}
+use Rattle.c_dictionary.proofs.Numbers.{zero_two, one_two, twelve_two, zero_one, zero_twelve, one_zero, one_twelve, twelve_zero, twelve_one}
 use Rattle.c_dictionary.proofs.ReadyLemmas.{turns_after, ready_after}
+use Rattle.c_dictionary.proofs.SoundLemmas.{sound_after, stopped_by}
 use Rattle.c_dictionary.proofs.TurnLemmas.{without_local, was_absent}
 use Rattle.c_dictionary.proofs.requests.del.Goals as goal
 
@@ -25,7 +26,9 @@ returns-in-Ok-true c =
     let lists = λ (map : Map) (h : Holds map s). c.take_key.ensures map h.listed in
     record {
       answers = zero_two;
-      ready = λ _. ready_after s t c.requires.ready key made made c.in-Ok-true.ensures.crash (without_local key) changes lists;
+      ready = λ _. ready_after s t c.requires.ready key made made c.in-Ok-true.ensures.crash (without_local key) changes lists told.runs.running;
+      sound = sound_after s t c.requires.ready c.requires.sound key made c.in-Ok-true.ensures.crash c.in-Ok-true.ensures.kept refl;
+      stopped = λ e. absurd (zero_twelve e);
       found = λ _. told;
       absent = λ e. absurd (zero_one e);
       gone = λ _. turns_after s t c.requires.ready key made made c.in-Ok-true.ensures.crash (without_local key) changes lists;
@@ -46,9 +49,28 @@ returns-in-Ok-false c =
     (was_absent key (seat_of s.heap) (seat_of t.heap) told map h.gives) h.listed in
     record {
       answers = one_two;
-      ready = λ _. ready_after s t c.requires.ready key made made c.in-Ok-false.ensures.crash (without_local key) changes lists;
+      ready = λ _. ready_after s t c.requires.ready key made made c.in-Ok-false.ensures.crash (without_local key) changes lists told.runs.running;
+      sound = sound_after s t c.requires.ready c.requires.sound key made c.in-Ok-false.ensures.crash c.in-Ok-false.ensures.kept refl;
+      stopped = λ e. absurd (one_twelve e);
       found = λ e. absurd (one_zero e);
       absent = λ _. told;
       gone = λ _. turns_after s t c.requires.ready key made made c.in-Ok-false.ensures.crash (without_local key) changes lists;
       crash = c.in-Ok-false.ensures.crash;
+    }
+
+-- where the heap stopped
+pub returns-in-Err : goal.returns-in-Err
+returns-in-Err c =
+    let s = c.args.store.now in
+    let t : Store = record s { heap = c.del.new.seat } in
+    let key = c.args.key in
+    record {
+      answers = twelve_two;
+      ready = λ going. absurd (going refl);
+      sound = sound_after s t c.requires.ready c.requires.sound key (λ map. without_key map key) c.in-Err.ensures.crash c.in-Err.ensures.kept refl;
+      stopped = λ _. stopped_by s t c.in-Err.field-0.step c.in-Err.ensures.cause;
+      found = λ e. absurd (twelve_zero e);
+      absent = λ e. absurd (twelve_one e);
+      gone = λ going. absurd (going refl);
+      crash = c.in-Err.ensures.crash;
     }

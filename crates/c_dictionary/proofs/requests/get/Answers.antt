@@ -1,11 +1,12 @@
-use Rattle.std.proofs.Common.{ℕ, Option, Some, None, subst}
+use Rattle.std.proofs.Common.{ℕ, Option, refl, subst}
 use Rattle.block_heap.specs.SeqState.{seat_of}
 use Rattle.dict_model.specs.Shards.{Map}
 use Rattle.dict_requests.specs.Gets.{Gets}
 use Rattle.c_dictionary.specs.Dictionary.{Holds}
 use Rattle.c_dictionary.specs.declared.store.Store.{Store}
-use Rattle.c_dictionary.proofs.Numbers.{zero_two, one_two, zero_one, one_zero}
+use Rattle.c_dictionary.proofs.Numbers.{zero_two, one_two, twelve_two, zero_one, zero_twelve, one_zero, one_twelve, twelve_zero, twelve_one}
 use Rattle.c_dictionary.proofs.ReadyLemmas.{turns_after, ready_after}
+use Rattle.c_dictionary.proofs.SoundLemmas.{sound_after, stopped_by}
 use Rattle.c_dictionary.proofs.TurnLemmas.{same_local}
 use Rattle.c_dictionary.proofs.requests.get.Goals as goal
 
@@ -18,7 +19,9 @@ returns-in-Ok-Some c =
     record {
       answers = zero_two;
       ready = λ _. ready_after s t c.requires.ready key (λ map. map) (λ map. map) c.in-Ok-Some.ensures.crash
-          (same_local key) c.in-Ok-Some.ensures.maps lists;
+          (same_local key) c.in-Ok-Some.ensures.maps lists c.in-Ok-Some.ensures.ok.runs.running;
+      sound = sound_after s t c.requires.ready c.requires.sound key (λ map. map) c.in-Ok-Some.ensures.crash c.in-Ok-Some.ensures.kept refl;
+      stopped = λ e. absurd (zero_twelve e);
       found = λ _. subst (λ (answer : Option ℕ). Gets key answer c.args.room.now c.get.new.out (seat_of s.heap) (seat_of t.heap))
           c.in-Ok-Some.field-0-is c.in-Ok-Some.ensures.ok;
       absent = λ e. absurd (zero_one e);
@@ -35,10 +38,28 @@ returns-in-Ok-None c =
     record {
       answers = one_two;
       ready = λ _. ready_after s t c.requires.ready key (λ map. map) (λ map. map) c.in-Ok-None.ensures.crash
-          (same_local key) c.in-Ok-None.ensures.maps lists;
+          (same_local key) c.in-Ok-None.ensures.maps lists c.in-Ok-None.ensures.ok.runs.running;
+      sound = sound_after s t c.requires.ready c.requires.sound key (λ map. map) c.in-Ok-None.ensures.crash c.in-Ok-None.ensures.kept refl;
+      stopped = λ e. absurd (one_twelve e);
       found = λ e. absurd (one_zero e);
       absent = λ _. subst (λ (answer : Option ℕ). Gets key answer c.args.room.now c.get.new.out (seat_of s.heap) (seat_of t.heap))
           c.in-Ok-None.field-0-is c.in-Ok-None.ensures.ok;
       same = λ _. turns_after s t c.requires.ready key (λ map. map) (λ map. map) c.in-Ok-None.ensures.crash
           (same_local key) c.in-Ok-None.ensures.maps lists;
+    }
+
+-- where the heap stopped
+pub returns-in-Err : goal.returns-in-Err
+returns-in-Err c =
+    let s = c.args.store.now in
+    let t : Store = record s { heap = c.get.new.seat } in
+    let key = c.args.key in
+    record {
+      answers = twelve_two;
+      ready = λ going. absurd (going refl);
+      sound = sound_after s t c.requires.ready c.requires.sound key (λ map. map) c.in-Err.ensures.crash c.in-Err.ensures.kept refl;
+      stopped = λ _. stopped_by s t c.in-Err.field-0.step c.in-Err.ensures.cause;
+      found = λ e. absurd (twelve_zero e);
+      absent = λ e. absurd (twelve_one e);
+      same = λ going. absurd (going refl);
     }

@@ -1,6 +1,5 @@
-use Rattle.std.proofs.Common.{◌≡◌, ℕ, inl, inr, List, [], Option, Some, None, true, false, length, refl, sym, ap, subst, ◌∙◌}
-use Rattle.std.specs.Prelude.{is_some, not}
-use Rattle.std.specs.BTreeSet.{BTreeSet}
+use Rattle.std.proofs.Common.{◌≡◌, ℕ, inl, inr, List, [], length, refl, sym, ap, subst, ◌∙◌}
+use Rattle.std.specs.Prelude.{is_some}
 use Rattle.std.proofs.lemmas.Bool.{not-true}
 use Rattle.block_heap.specs.SeqState.{seat_of}
 use Rattle.dict_model.specs.Nodes.{shard_of, node_bytes}
@@ -8,12 +7,15 @@ use Rattle.dict_model.specs.Requests.{with_key}
 use Rattle.dict_model.specs.Shards.{Map}
 use Rattle.dict_requests.specs.Puts.{PutAnswers}
 use Rattle.heap_seat.specs.declared.fault.AllocFault.{AllocFault}
-use Rattle.heap_seat.specs.declared.fault.AllocFault.TheVariants.{Full}
+use Rattle.heap_seat.specs.declared.fault.AllocFault.TheVariants.{Full, Stopped}
 use Rattle.c_dictionary.specs.Dictionary.{Holds}
-use Rattle.c_dictionary.specs.Ready.{IsReady}
+use Rattle.c_dictionary.specs.Ready.{IsReady, IsSound}
 use Rattle.c_dictionary.specs.declared.store.Store.{Store}
-use Rattle.c_dictionary.proofs.Numbers.{zero_two, three_two, eleven_two, zero_three, zero_eleven, three_zero, three_eleven, eleven_zero, eleven_three}
+use Rattle.c_dictionary.proofs.Numbers.{zero_two, three_two, eleven_two, twelve_two, zero_three, zero_eleven, zero_twelve, three_zero}
+use Rattle.c_dictionary.proofs.Numbers.{three_eleven, three_twelve, eleven_zero, eleven_three, eleven_twelve, twelve_zero, twelve_three}
+use Rattle.c_dictionary.proofs.Numbers.{twelve_eleven}
 use Rattle.c_dictionary.proofs.ReadyLemmas.{turns_after, ready_after, lists_undone}
+use Rattle.c_dictionary.proofs.SoundLemmas.{sound_after, stopped_by, refused_runs}
 use Rattle.c_dictionary.proofs.TurnLemmas.{with_local, same_local}
 use Rattle.c_dictionary.proofs.requests.put.Goals as goal
 
@@ -25,7 +27,10 @@ returns-in-Ok-put c =
     let made : Map → Map = λ map. with_key map key value in
     let lists = λ (map : Map) (h : Holds map s). c.in-Ok.ensures.set map value h.listed in
     record {
-      ready = λ _. ready_after s t c.requires.ready key made made c.in-Ok-put.ensures.crash (with_local key value) c.in-Ok-put.ensures.ok lists;
+      ready = λ _. ready_after s t c.requires.ready key made made c.in-Ok-put.ensures.crash (with_local key value) c.in-Ok-put.ensures.ok lists
+          c.in-Ok-put.ensures.runs.running;
+      sound = sound_after s t c.requires.ready c.requires.sound key made c.in-Ok-put.ensures.crash c.in-Ok-put.ensures.kept refl;
+      stopped = λ e. absurd (zero_twelve e);
       answers = zero_two;
       done = λ _. c.in-Ok-put.ensures.ok;
       set = λ _. turns_after s t c.requires.ready key made made c.in-Ok-put.ensures.crash (with_local key value) c.in-Ok-put.ensures.ok lists;
@@ -51,7 +56,9 @@ returns-in-Err-Full c =
     (λ is. c.undo_add.ensures.taken is (with_key map key [])) (λ no. c.undo_add.ensures.same no) in
     record {
       ready = λ _. ready_after s t c.requires.ready key made (λ map. map) c.in-Err-Full.ensures.crash (same_local key)
-          (record { gives = told.1 }) lists;
+          (record { gives = told.1 }) lists (refused_runs _ (shard_of key) _ (seat_of s.heap) (seat_of t.heap) told.0);
+      sound = sound_after s t c.requires.ready c.requires.sound key made c.in-Err-Full.ensures.crash c.in-Err-Full.ensures.kept refl;
+      stopped = λ e. absurd (eleven_twelve e);
       answers = eleven_two;
       done = λ e. absurd (eleven_zero e);
       set = λ e. absurd (eleven_zero e);
@@ -62,6 +69,29 @@ returns-in-Err-Full c =
       crash = inr c.in-Err-Full.ensures.crash;
     }
 
+-- where the heap stopped, only that the put was done or not is known
+pub returns-in-Err-Stopped : goal.returns-in-Err-Stopped
+returns-in-Err-Stopped c =
+    let s = c.args.store.now in
+    let t : Store = record s { heap = c.put.new.seat; keys = c.add_key.new.keys } in
+    let key = c.args.key in let value = c.args.value.now in
+    let made : Map → Map = λ map. with_key map key value in
+    let told : PutAnswers (node_bytes (length value)) (shard_of key) (Stopped c.in-Err-Stopped.field-0-0) (seat_of s.heap) (seat_of t.heap)
+    = subst (λ (fault : AllocFault). PutAnswers (node_bytes (length value)) (shard_of key) fault (seat_of s.heap) (seat_of t.heap))
+    c.in-Err-Stopped.field-0-is c.in-Err-Stopped.ensures.cause in
+    record {
+      ready = λ going. absurd (going refl);
+      sound = sound_after s t c.requires.ready c.requires.sound key made c.in-Err-Stopped.ensures.crash c.in-Err-Stopped.ensures.kept refl;
+      stopped = λ _. stopped_by s t c.in-Err-Stopped.field-0-0.step told.0;
+      answers = twelve_two;
+      done = λ e. absurd (twelve_zero e);
+      set = λ e. absurd (twelve_zero e);
+      full = λ e. absurd (twelve_eleven e);
+      refused = λ e. absurd (twelve_eleven e);
+      memory = λ e. absurd (twelve_three e);
+      crash = inr c.in-Err-Stopped.ensures.crash;
+    }
+
 -- where memory ran out nothing was done
 pub returns-in_default : goal.returns-in_default
 returns-in_default c =
@@ -70,6 +100,8 @@ returns-in_default c =
     ap (λ (ks : List ℕ). record s { keys = record { keys = ks } }) c.in_default.ensures.err in
     record {
       ready = λ _. subst IsReady (sym same) c.requires.ready;
+      sound = subst IsSound (sym same) c.requires.sound;
+      stopped = λ e. absurd (three_twelve e);
       answers = three_two;
       done = λ e. absurd (three_zero e);
       set = λ e. absurd (three_zero e);

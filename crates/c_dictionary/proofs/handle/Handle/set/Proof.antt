@@ -34,7 +34,7 @@ use Rattle.c_dictionary.proofs.HandleValues.{two, handle_in}
 use denote.Builtin.{u64}
 use mir.Val.{vint}
 use Rattle.std.proofs.Common.{w64}
-use Rattle.c_dictionary.specs.Ready.{IsReady}
+use Rattle.c_dictionary.specs.Ready.{IsHeldAt}
 use Rattle.c_dictionary.specs.contracts.handle.Handle.set.{ended, clauses}
 use Rattle.c_dictionary.specs.contracts.handle.Handle.set.Key.{name as #self}
 use Rattle.c_dictionary.proofs.handle.Handle.set.Statement.{statement}
@@ -59,7 +59,7 @@ set_spec 𝓤 𝓛 𝓜 𝓡 wired =
     let Post : Val → SProp 𝓤 = (walk_of 𝓛 ended hs c).post z in let Run : List Val → SProp 𝓤 = λ ws. WpFn 𝓤 H 𝓣.C 𝓣.Λ fn ws Post in
     let r : Val = vptr rb ro in
     qed 𝓛 (((‵ (flft κs.0 qs.0) ⊛ ‵ ftrue) ⊛ ‵ (owns (types_at ended.signature.params κs) z.0.3 z.0.4)) ∷ raw
-    (fact 𝓤 (n ≡ 1 → IsReady d.value)) ∷ []) ∵ move ! (1 ∷ []) $ heard ! (n ≡ 1 → IsReady d.value) (λ good.
+    (fact 𝓤 (IsHeldAt n d.value)) ∷ []) ∵ move ! (1 ∷ []) $ heard ! (IsHeldAt n d.value) (λ good.
     split ! $ split ! $ move ! (2 ∷ []) $ fsplit ! $ move ! (1 ∷ []) $ fsplit ! $ loose_out R Z LZ g ! d z.0.4.1.0 (λ b o hv e us fits.
     -- [what the box owns; the allocator; true; the reference; the token; true; true]
     keep ! (3 ∷ 4 ∷ 0 ∷ []) $ let w : Val = both (vptr b o) hv in let m : Val = vint w64 n in

@@ -23,7 +23,8 @@ use Rattle.std.proofs.raw_atomic.Walks.{proved_at, leaves}
 use Rattle.c_dictionary.specs.Owning.{owned}
 use Rattle.c_dictionary.specs.contracts.handle.Handle.{the_row as Hd}
 use Rattle.c_dictionary.proofs.handle.Handle.TheLaws.{lowers}
-use Rattle.c_dictionary.proofs.HandleValues.{Told, tells}
+use Rattle.c_dictionary.proofs.HandleValues.{tells}
+use Rattle.c_dictionary.specs.Ready.{IsStateOf}
 use types.Kit.{given, learn, use1}
 use denote.Builtin.{u64}
 use denote.Laws.{Is}
@@ -51,7 +52,7 @@ state_spec 𝓤 𝓛 𝓜 𝓡 wired =
     fsplit3 ! $ move ! (1 ∷ 2 ∷ 3 ∷ []) $
     enter ! 𝓣.C 𝓣.Λ fn (r ∷ []) Post $ alloc_all ! (λ l. pass_all ! refl ((tt, tt), tt) $
     opens ! tt Hd rb ro (λ ws. move ! (1 ∷ []) $ peeks ! Hd _ (shows 𝓛 Hd) h ws (λ is. fsplit ! $ move ! (1 ∷ []) $
-    use1 𝓛 (given (Told 𝓛 h.state h.value) (‵ (owned h.state h.at h.value))) (tells 𝓛 h.state h.at h.value) $ learn ! (λ says_some.
+    use1 𝓛 (given (IsStateOf h.state h.value) (‵ (owned h.state h.at h.value))) (tells 𝓛 h.state h.at h.value) $ learn ! (λ says_some.
     let word = lowers.val_is h ws is in let Cell = λ (vs : List Val). ‵ (cell_at full_share Hd.mir vs rb ro) in
     rewrite ! 2 Cell word refl $
     let fits : h.state < 2 ^ 64 = is.0.1.1.1.0.1 in
@@ -62,6 +63,6 @@ state_spec 𝓤 𝓛 𝓜 𝓡 wired =
     returns ! (look_at ! 0 refl) $ free_all ! refl $
     move ! (3 ∷ 0 ∷ 1 ∷ []) $ fjoin3 ! $ nothing ! $ move ! (1 ∷ 0 ∷ []) $ fjoin ! $ nothing ! $ move ! (2 ∷ 0 ∷ []) $ join ! $
     Steps.owned ! u64 (Is u64) (uint_Makes 𝓛 w64) h.state (vint w64 h.state ∷ []) (refl, fits) $
-    use0 𝓛 (raw (fact 𝓤 (Told 𝓛 h.state h.value × (h.value ≡ h.value))))
-    (fact_i 𝓤 (Told 𝓛 h.state h.value × (h.value ≡ h.value)) (emp 𝓤) (says_some, refl)) $ keep ! (2 ∷ 3 ∷ 1 ∷ 0 ∷ []) $
+    use0 𝓛 (raw (fact 𝓤 (IsStateOf h.state h.value × (h.value ≡ h.value))))
+    (fact_i 𝓤 (IsStateOf h.state h.value × (h.value ≡ h.value)) (emp 𝓤) (says_some, refl)) $ keep ! (2 ∷ 3 ∷ 1 ∷ 0 ∷ []) $
     by ! (leaves 𝓛 ended hs c z (vint w64 h.state) h.state (h, tt) (tt, tt)))))))
