@@ -25,13 +25,16 @@ enum {
     HEAP_OUTSIDE = 8,  /* word fault.at, whose value is fault.value, leads to no block */
     HEAP_SHARD = 9,    /* shard fault.shard is no map, and word fault.at is the first that is wrong */
     HEAP_FULL = 11,    /* there is no room: the dictionary is as it was */
-    HEAP_STOPPED = 12, /* its 2^40 - 1 steps are used up: close it, and open what it leaves */
+    HEAP_STOPPED = 12, /* its steps are used up: close it, and open what it leaves */
     HEAP_ROOM = 13     /* the room has another size than heap_length: nothing was done */
 };
 
 /* The longest value, and the greatest number of superblocks of 64 KiB. */
 #define HEAP_LONGEST_VALUE 131072
 #define HEAP_MOST_SUPERBLOCKS 4096
+
+/* The steps that a dictionary has, unless it is opened with fewer: hours of nothing but puts. */
+#define HEAP_MOST_STEPS ((UINT64_C(1) << 40) - 1)
 
 /* A dictionary. Fill it with zeros first: then it is closed. Don't look into it and don't copy it.
    One call at a time may have it; it may go to another thread. */
@@ -56,6 +59,11 @@ uint32_t heap_format(uint64_t superblocks, heap_dict *dict, heap_fault *fault);
 /* Opens the image in these bytes, which are not kept. */
 uint32_t heap_open(const uint8_t *bytes, size_t size, heap_dict *dict, heap_fault *fault);
 
+/* For tests: the same with so many steps, HEAP_MOST_STEPS at most, so that it stops in the middle of
+   a request. */
+uint32_t heap_open_limited(const uint8_t *bytes, size_t size, uint64_t budget, heap_dict *dict,
+                           heap_fault *fault);
+
 /* Sets a key. */
 uint32_t heap_put(heap_dict *dict, uint64_t key, const uint8_t *value, size_t size);
 
@@ -72,17 +80,19 @@ uint32_t heap_next(heap_dict *dict, uint64_t key, uint64_t *found);
 /* How many bytes its image has; 0 where it is closed. */
 uint64_t heap_length(heap_dict *dict);
 
-/* Its image goes into the room, which has heap_length bytes, and it is opened over it again, so that
-   its steps begin anew. At HEAP_MEMORY the room has the image, and it is closed. After HEAP_STOPPED
-   it is an image of a crash. */
+/* Its image goes into the room, which has heap_length bytes, and it is opened over it again, with
+   HEAP_MOST_STEPS. At HEAP_MEMORY the room has the image, and it is closed. After HEAP_STOPPED it is
+   the image of heap_crash with the seed 0. */
 uint32_t heap_image(heap_dict *dict, uint8_t *room, size_t size, heap_fault *fault);
 
-/* Its image goes into the room, and it is closed. After HEAP_STOPPED it is an image of a crash. */
+/* Its image goes into the room, and it is closed. After HEAP_STOPPED it is the image of heap_crash
+   with the seed 0. */
 uint32_t heap_close(heap_dict *dict, uint8_t *room, size_t size);
 
-/* For tests: what a crash may leave now goes into the room, and it is closed. It is the image in
-   which nothing was written back before a fence asked for it. */
-uint32_t heap_crash(heap_dict *dict, uint8_t *room, size_t size);
+/* For tests: what a crash may leave now goes into the room, and it is closed. The seed decides which
+   words were written back before a fence asked for it, and what stands in words of which a crash
+   promises nothing. */
+uint32_t heap_crash(heap_dict *dict, uint64_t seed, uint8_t *room, size_t size);
 
 /* It is closed, and nothing of it is kept. */
 void heap_drop(heap_dict *dict);

@@ -13,6 +13,8 @@ from collections.abc import MutableMapping
 DONE, ABSENT, USAGE, MEMORY, READ, WRITE, NO_IMAGE, HEADER, OUTSIDE, SHARD = range(10)
 FULL, STOPPED, ROOM = 11, 12, 13
 
+MOST_STEPS = 2**40 - 1
+
 
 class Dict(ctypes.Structure):
     """The struct heap_dict of heap.h."""
@@ -33,7 +35,7 @@ def _load_library():
     handle, fault, number = (ctypes.POINTER(it) for it in (Dict, Fault, ctypes.c_uint64))
     arguments = {
         "heap_format": [word, handle, fault],
-        "heap_open": [ctypes.c_char_p, size, handle, fault],
+        "heap_open_limited": [ctypes.c_char_p, size, word, handle, fault],
         "heap_put": [handle, word, ctypes.c_char_p, size],
         "heap_get": [handle, word, room, size, number],
         "heap_del": [handle, word],
@@ -42,7 +44,7 @@ def _load_library():
         "heap_length": [handle],
         "heap_image": [handle, room, size, fault],
         "heap_close": [handle, room, size],
-        "heap_crash": [handle, room, size],
+        "heap_crash": [handle, word, room, size],
         "heap_drop": [handle],
         "heap_save": [ctypes.c_char_p, ctypes.c_char_p, size],
         "heap_reason": [ctypes.c_uint32, fault, ctypes.c_char_p, size],
@@ -75,17 +77,20 @@ def _as_key(key):
 
 
 class Heap(MutableMapping):
-    """A dictionary over the image in a file, if there is one, or over an empty one; `image` opens these bytes instead."""
+    """A dictionary over the image in a file, if there is one, or over an empty one; `image` opens these bytes instead.
 
-    def __init__(self, path=None, superblocks=16, image=None):
-        self._dict, self._room, self.path = Dict(), ctypes.create_string_buffer(256), path
+    `budget` limits the steps that it takes over an image, for tests: then it stops in the middle of a request.
+    """
+
+    def __init__(self, path=None, superblocks=16, image=None, budget=MOST_STEPS):
+        self._dict, self._value, self.path = Dict(), ctypes.create_string_buffer(256), path
         if image is None and path is not None and os.path.exists(path):
             with open(path, "rb") as file:
                 image = file.read()
         if image is None:
             self._check(*self._with_fault("heap_format", superblocks))
         else:
-            self._check(*self._with_fault("heap_open", image, len(image)))
+            self._check(*self._with_fault("heap_open_limited", image, len(image), budget))
 
     def _with_fault(self, name, *arguments):
         fault = Fault()
@@ -106,10 +111,10 @@ class Heap(MutableMapping):
 
     def __getitem__(self, key):
         length = ctypes.c_uint64()
-        while self._call("heap_get", _as_key(key), self._room, len(self._room), length):
-            if length.value <= len(self._room):
-                return self._room.raw[: length.value]
-            self._room = ctypes.create_string_buffer(length.value)
+        while self._call("heap_get", _as_key(key), self._value, len(self._value), length):
+            if length.value <= len(self._value):
+                return self._value.raw[: length.value]
+            self._value = ctypes.create_string_buffer(length.value)
         raise KeyError(key)
 
     def __delitem__(self, key):
@@ -127,19 +132,20 @@ class Heap(MutableMapping):
     def __len__(self):
         return sum(1 for _ in self)
 
-    def _write(self, name, fault=None):
-        room = ctypes.create_string_buffer(_library.heap_length(self._dict) or 1)
-        behind = [] if fault is None else [fault]
-        self._check(getattr(_library, name)(self._dict, room, len(room), *behind), fault)
-        return room.raw
+    def _room(self):
+        return ctypes.create_string_buffer(_library.heap_length(self._dict) or 1)
 
     def image(self):
         """The bytes of its image."""
-        return self._write("heap_image", fault=Fault())
+        room, fault = self._room(), Fault()
+        self._check(_library.heap_image(self._dict, room, len(room), fault), fault)
+        return room.raw
 
-    def crash(self):
-        """The bytes that a crash now may leave. It is closed."""
-        return self._write("heap_crash")
+    def crash(self, seed=0):
+        """The bytes that a crash now may leave: the seed decides which of these. It is closed."""
+        room = self._room()
+        self._check(_library.heap_crash(self._dict, seed, room, len(room)))
+        return room.raw
 
     def save(self, path=None):
         """Writes its image to the file: a crash leaves the old file or the new one."""

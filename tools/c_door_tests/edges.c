@@ -30,7 +30,7 @@ static void try_closed(void) {
     expect("length of a closed one", heap_length(&dict), 0);
     expect("image of a closed one", heap_image(&dict, room, 1, &fault), HEAP_USAGE);
     expect("close of a closed one", heap_close(&dict, room, 1), HEAP_USAGE);
-    expect("crash of a closed one", heap_crash(&dict, room, 1), HEAP_USAGE);
+    expect("crash of a closed one", heap_crash(&dict, 1, room, 1), HEAP_USAGE);
     heap_drop(&dict);
     expect("a closed one is zeros", dict.state, 0);
 }
@@ -68,7 +68,7 @@ static void try_values(void) {
     expect("next of the greatest", heap_next(&dict, UINT64_MAX, &key), HEAP_ABSENT);
     expect("a room too short", heap_close(&dict, room, 8), HEAP_ROOM);
     expect("the same for an image", heap_image(&dict, room, 8, &fault), HEAP_ROOM);
-    expect("the same for a crash", heap_crash(&dict, room, 8), HEAP_ROOM);
+    expect("the same for a crash", heap_crash(&dict, 1, room, 8), HEAP_ROOM);
     expect("del", heap_del(&dict, 0), HEAP_DONE);
     expect("del again", heap_del(&dict, 0), HEAP_ABSENT);
     heap_drop(&dict);
@@ -90,10 +90,36 @@ static void try_ends(void) {
     expect("close", heap_close(&dict, image, size), HEAP_DONE);
     expect("open again", heap_open(image, size, &dict, &fault), HEAP_DONE);
     expect("put over a value", heap_put(&dict, 0, value, 9), HEAP_FULL);
-    expect("its crash", heap_crash(&dict, image, size), HEAP_DONE);
+    expect("its crash", heap_crash(&dict, 1, image, size), HEAP_DONE);
     expect("open after it", heap_open(image, size, &dict, &fault), HEAP_DONE);
     expect("the old value", heap_get(&dict, 0, room, 1, &length), HEAP_DONE);
     expect("its length", length, 14000);
+    heap_drop(&dict);
+    free(image);
+}
+
+/* One with no steps stops at the first request, and leaves what it was opened over. */
+static void try_budgets(void) {
+    heap_dict dict = {0};
+    heap_fault fault = {0};
+    uint64_t length = 0, key = 0;
+    expect("format", heap_format(2, &dict, &fault), HEAP_DONE);
+    expect("put", heap_put(&dict, 5, value, 3), HEAP_DONE);
+    size_t size = heap_length(&dict);
+    uint8_t *image = malloc(size);
+    if (!image) return;
+    expect("close", heap_close(&dict, image, size), HEAP_DONE);
+    expect("too many steps", heap_open_limited(image, size, HEAP_MOST_STEPS + 1, &dict, &fault), HEAP_USAGE);
+    expect("no steps", heap_open_limited(image, size, 0, &dict, &fault), HEAP_DONE);
+    expect("first, which takes none", heap_first(&dict, &key), HEAP_DONE);
+    expect("the least key", key, 5);
+    expect("put without steps", heap_put(&dict, 6, value, 3), HEAP_STOPPED);
+    expect("get after it", heap_get(&dict, 5, room, 3, &length), HEAP_STOPPED);
+    expect("first after it", heap_first(&dict, &key), HEAP_STOPPED);
+    expect("its length", heap_length(&dict), size);
+    expect("its image", heap_image(&dict, image, size, &fault), HEAP_DONE);
+    expect("the key in it", heap_get(&dict, 5, room, 3, &length), HEAP_DONE);
+    expect("the key that was not set", heap_get(&dict, 6, room, 3, &length), HEAP_ABSENT);
     heap_drop(&dict);
     free(image);
 }
@@ -103,6 +129,7 @@ int main(void) {
     try_capacities();
     try_values();
     try_ends();
+    try_budgets();
     if (!wrong) puts("the ends of each range");
     return wrong;
 }

@@ -1,4 +1,4 @@
-"""random_requests.py SEED ROUNDS: random requests beside a dict, with images, crashes and damage between them.
+"""random_requests.py SEED ROUNDS: random requests beside a dict, with images, crashes, stops and damage between them.
 
 A damaged image is opened or refused, and where HEAP_TOOL names the program, as `heap_tool show` does.
 """
@@ -9,7 +9,7 @@ import sys
 import tempfile
 from collections import Counter
 
-from heap import FULL, USAGE, Heap, HeapError
+from heap import FULL, STOPPED, USAGE, Heap, HeapError
 
 LENGTHS = [0, 1, 7, 8, 9, 100, 14_000, 14_337, 70_000, 131_072]
 TOOL = os.environ.get("HEAP_TOOL")
@@ -46,31 +46,70 @@ class Trial:
         assert list(heap) == sorted(self.model)
 
     def request(self):
+        """A request, which may stop the dictionary: then it answers the key, and the value that it may have now."""
         key, what = self.random.choice(self.keys), self.random.random()
-        if what < 0.6:
-            value = self.random.randbytes(self.random.choice(LENGTHS))
-            try:
-                self.heap[key] = value
-                self.model[key] = value
+        old, new = self.model.get(key), self.model.get(key)
+        try:
+            if what < 0.6:
+                new = self.random.randbytes(self.random.choice(LENGTHS))
+                self.heap[key] = new
+                self.model[key] = new
                 self.counts["put"] += 1
-            except HeapError as error:
-                assert error.status == FULL, error
-                self.counts["full"] += 1
-        elif what < 0.8:
-            assert (self.heap.pop(key, None) is None) == (self.model.pop(key, None) is None)
-        else:
-            assert self.heap.get(key) == self.model.get(key)
+            elif what < 0.8:
+                new = None
+                assert self.heap.pop(key, None) == old
+                self.model.pop(key, None)
+            else:
+                assert self.heap.get(key) == old
+        except HeapError as error:
+            assert error.status in (FULL, STOPPED), error
+            self.counts["full" if error.status == FULL else "stopped"] += 1
+            return (key, new) if error.status == STOPPED else None
+        return None
 
-    def crash(self):
-        image = self.heap.crash()
+    def reopen(self, pending=None):
+        """A crash by a seed, after which it is as before the request that stopped, or with it done."""
+        image = self.heap.crash(self.random.getrandbits(64))
         try:
             self.heap.get(1)
             raise AssertionError("a closed dictionary answered")
         except HeapError as error:
             assert error.status == USAGE
         self.heap = Heap(image=image)
+        if pending is not None:
+            key, value = pending
+            found = self.heap.get(key)
+            assert found in (self.model.get(key), value), key
+            self.counts["a stopped request was done" if found == value else "a stopped request was not"] += 1
+            self.model.pop(key, None)
+            if found is not None:
+                self.model[key] = found
         self.holds(self.heap)
         self.counts["crash"] += 1
+
+    def crash(self):
+        self.reopen()
+
+    def stop(self):
+        """It stops at a random step, in one of a row of requests."""
+        self.heap = Heap(image=self.heap.image(), budget=self.random.randrange(self.random.choice([100, 1000, 10_000])))
+        for _ in range(200):
+            pending = self.request()
+            if pending is not None:
+                assert self.refuses_all()
+                return self.reopen(pending)
+        return self.reopen()
+
+    def refuses_all(self):
+        """A stopped dictionary answers each request that it has stopped."""
+        for request in (lambda: self.heap.get(1), lambda: next(iter(self.heap)), lambda: self.heap.pop(1)):
+            try:
+                request()
+                return False
+            except HeapError as error:
+                if error.status != STOPPED:
+                    return False
+        return True
 
     def damage(self):
         image = bytearray(self.heap.image())
@@ -85,7 +124,7 @@ class Trial:
     def round(self):
         for _ in range(self.random.randrange(30)):
             self.request()
-        self.random.choice([self.crash, self.damage, lambda: self.holds(Heap(image=self.heap.image()))])()
+        self.random.choice([self.crash, self.stop, self.damage, lambda: self.holds(Heap(image=self.heap.image()))])()
 
 
 def main():
