@@ -1,8 +1,8 @@
 -- What an image is that was left of what a handle had, and why none was left.
-use Rattle.std.proofs.Common.{◌≡◌, ◌⊎◌, ℕ, ◌<◌, List, [], ◌∷◌, Option, None, Some, Contains, inl, inr, refl, sym, ap, subst, ◌∙◌, arith}
+use Rattle.std.proofs.Common.{◌≡◌, ◌⊎◌, ℕ, ◌<◌, List, [], ◌∷◌, Option, None, Some, Contains, inl, inr, sym, ap, subst, ◌∙◌, arith}
 use Rattle.std.specs.Prelude.{◌↔◌, slice_index}
 use Rattle.std.proofs.Math.Path.{fun_ext}
-use Rattle.heap_model.specs.Geometry.{clean, dirty}
+use Rattle.heap_model.specs.Geometry.{clean}
 use Rattle.heap_model.specs.Header.{state_of}
 use Rattle.heap_model.specs.Image.{Image, image_of_bytes}
 use Rattle.heap_model.proofs.MemberLemmas.{in_head, in_rest}

@@ -1,5 +1,5 @@
 -- The image of an empty heap is opened as a dictionary without keys.
-use Rattle.std.proofs.Common.{◌≡◌, ◌≢◌, ℕ, ◌+◌, ◌*◌, ◌<◌, ◌≤◌, inl, inr, List, length, Option, Some, refl, sym, ap, subst, ◌∙◌, arith}
+use Rattle.std.proofs.Common.{◌≡◌, ◌≢◌, ℕ, ◌*◌, ◌<◌, ◌≤◌, inr, List, length, Option, Some, refl, sym, ap, subst, ◌∙◌, arith}
 use Rattle.std.specs.Prelude.{slice_index, cond, nat_lt}
 use Rattle.std.proofs.Math.Path.{fun_ext}
 use Rattle.std.proofs.lemmas.Bool.{lt-ltb, cond-true, cond_both}
@@ -26,7 +26,7 @@ use Rattle.c_dictionary.specs.declared.fault.Fault.{Fault}
 use Rattle.c_dictionary.specs.declared.store.Store.{Store}
 use Rattle.c_dictionary.specs.Dictionary.{Holds}
 use Rattle.c_dictionary.specs.Faults.{IsRefused, status_of, told}
-use Rattle.c_dictionary.specs.Images.{IsMapOf, OpensWords, OpensEmpty}
+use Rattle.c_dictionary.specs.Images.{OpensWords, OpensEmpty}
 use Rattle.c_dictionary.proofs.ImageLemmas.{current_is}
 use Rattle.c_dictionary.proofs.TurnLemmas.{low}
 

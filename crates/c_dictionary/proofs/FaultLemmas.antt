@@ -1,8 +1,7 @@
 -- What faults are told as.
-use Rattle.std.proofs.Common.{◌≡◌, ◌≢◌, ℕ, ◌*◌, List, length, Some, None, sym, subst, ap, ◌∙◌, arith}
+use Rattle.std.proofs.Common.{◌≡◌, ℕ, ◌*◌, List, length, Some, sym, ap, ◌∙◌, arith}
 use Rattle.std.specs.Prelude.{slice_index}
 use Rattle.std.proofs.Math.Path.{fun_ext}
-use Rattle.heap_model.specs.declared.header.BadHeader.{BadHeader}
 use Rattle.heap_model.specs.Header.{header_fault}
 use Rattle.heap_model.specs.Image.{Image, image_of_bytes}
 use Rattle.region_header.specs.Words.{AreWordsOf}

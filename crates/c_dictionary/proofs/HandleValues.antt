@@ -1,5 +1,5 @@
 -- The machine values of a `Handle`. Assumes `Logic`.
-use Rattle.std.proofs.Common.{◌≡◌, ℕ, ◌<◌, ◌^◌, List, [], ◌∷◌, Option, None, Some, T, refl, sym, subst, arith, lit<, w64}
+use Rattle.std.proofs.Common.{◌≡◌, ℕ, ◌<◌, ◌^◌, List, [], ◌∷◌, Option, None, Some, T, refl, sym, subst, lit<, w64}
 use Rattle.std.specs.Prelude.{IsSome}
 use seplogic.Ra.Ura.{Ura}
 use base.Logic.{ent, guard}

@@ -1,12 +1,12 @@
 -- The words that are left of a dictionary are an image of it.
-use Rattle.std.proofs.Common.{◌≡◌, ℕ, ◌+◌, ◌*◌, ◌<◌, ◌≤◌, ◌⊎◌, inl, inr, List, length, Option, None, Some, Contains, refl, sym, ap, subst}
+use Rattle.std.proofs.Common.{◌≡◌, ℕ, ◌*◌, ◌<◌, ◌≤◌, ◌⊎◌, inl, inr, List, length, Some, refl, sym, ap, subst}
 use Rattle.std.proofs.Common.{◌∙◌, arith}
-use Rattle.std.specs.Prelude.{slice_index, cond, false, ◌≢◌}
+use Rattle.std.specs.Prelude.{slice_index, cond, false}
 use Rattle.std.proofs.lemmas.Bool.{ne_eqb}
 use Rattle.heap_model.specs.Durability.{Mixes, IsTransient, is_head, is_anchor, is_link, IsCrashImage, IsClosedImage}
-use Rattle.heap_model.specs.Geometry.{roots, largest_capacity, version, old_version, clean, dirty, magic_word, version_word, capacity_word}
-use Rattle.heap_model.specs.Geometry.{state_word, used_word, kind_word, image_words, IsFixed}
-use Rattle.heap_model.specs.Header.{IsWellFormed, HasKindsBelow, header_fault, capacity_of, state_of, used_of, kinds_of, is_old, first_kinds}
+use Rattle.heap_model.specs.Geometry.{largest_capacity, version, old_version, clean, dirty, magic_word, version_word, capacity_word}
+use Rattle.heap_model.specs.Geometry.{used_word, kind_word, image_words, IsFixed}
+use Rattle.heap_model.specs.Header.{IsWellFormed, HasKindsBelow, capacity_of, state_of, used_of, is_old, first_kinds}
 use Rattle.heap_model.specs.Image.{Image}
 use Rattle.heap_model.proofs.HeaderLemmas.{no_fault}
 use Rattle.heap_model.specs.Reach.{IsOutsideIn}
@@ -14,7 +14,7 @@ use Rattle.heap_seat.specs.View.{kind_of}
 use Rattle.line_memory.specs.Crash.{IsValueOf}
 use Rattle.line_memory.specs.View.{word_count, volatile_at, durable_at}
 use Rattle.block_heap.specs.Laws.{seat_law, mixed_law, named_law, stored_law}
-use Rattle.block_heap.specs.SeqState.{SeqState, seat_of, MayLeave}
+use Rattle.block_heap.specs.SeqState.{seat_of, MayLeave}
 use Rattle.block_heap.proofs.ImageLemmas.{closed_left}
 use Rattle.block_heap.proofs.FixedLemmas.{fixed_opened, long_opened, kinds_opened, kinds_left}
 use Rattle.region_header.specs.Migration.{current_words, migrated}
@@ -25,7 +25,6 @@ use Rattle.dict_requests.specs.Maps.{GivesEither, IsMapIn}
 use Rattle.run_model.specs.Arrivals.{IsWholeMap}
 use Rattle.worker_run.specs.Left.{AreWholeImage}
 use Rattle.worker_run.proofs.ImageLeftLemmas.{nothing_outside, map_left}
-use Rattle.dictionary_heap.specs.Images.{current_image, CanBeRecovered}
 use Rattle.dictionary_heap.proofs.OpenedLemmas.{has_all}
 use Rattle.c_dictionary.specs.declared.store.Store.{Store}
 use Rattle.c_dictionary.specs.Dictionary.{Holds}

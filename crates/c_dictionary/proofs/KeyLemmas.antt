@@ -1,7 +1,7 @@
 -- Keys that are listed.
-use Rattle.std.proofs.Common.{◌≡◌, ◌≢◌, ℕ, ◌+◌, ◌<◌, ◌⊎◌, inl, inr, List, [], Bool, true, false, cond, nat_eq, Option, None, Some, refl}
+use Rattle.std.proofs.Common.{◌≡◌, ◌≢◌, ℕ, ◌+◌, ◌⊎◌, inl, inr, List, [], Bool, true, false, cond, nat_eq, Option, None, Some, refl}
 use Rattle.std.proofs.Common.{sym, ap, ◌∙◌, arith}
-use Rattle.std.specs.Prelude.{◌||◌, is_some, not, slice_get}
+use Rattle.std.specs.Prelude.{◌||◌, is_some, slice_get}
 use Rattle.std.specs.List.{list_any}
 use Rattle.std.specs.BTreeMap.{BTreeMap, get, is_at}
 use Rattle.std.specs.BTreeSet.{BTreeSet, contains, Updates, IsUnchanged}

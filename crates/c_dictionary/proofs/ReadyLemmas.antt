@@ -1,5 +1,5 @@
 -- What an answered request leaves of a dictionary.
-use Rattle.std.proofs.Common.{◌≡◌, ℕ, List, [], Bool, true, false, None, refl, sym, subst}
+use Rattle.std.proofs.Common.{◌≡◌, ℕ, [], Bool, true, false, None, refl, sym, subst}
 use Rattle.std.specs.Prelude.{is_some}
 use Rattle.std.specs.BTreeSet.{BTreeSet}
 use Rattle.block_heap.specs.Laws.{seat_law}

@@ -1,5 +1,5 @@
 -- What an open dictionary keeps over a request, wherever that ends.
-use Rattle.std.proofs.Common.{◌≡◌, ◌≢◌, ℕ, ◌<◌, inl, inr, None, sym, subst, ◌∙◌}
+use Rattle.std.proofs.Common.{◌≡◌, ℕ, ◌<◌, inl, inr, None, sym, subst, ◌∙◌}
 use Rattle.std.proofs.lemmas.Bool.{cases_eq}
 use Rattle.heap_seat.specs.View.{View}
 use Rattle.heap_seat.specs.Tickets.{Stops}

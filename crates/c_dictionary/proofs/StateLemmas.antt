@@ -4,7 +4,7 @@ use Rattle.std.specs.Prelude.{◌↔◌, IsSome}
 use Rattle.c_dictionary.specs.declared.store.Store.{Store}
 use Rattle.c_dictionary.specs.Passing.{HasHalted}
 use Rattle.c_dictionary.specs.Ready.{HasStopped, IsReady, IsHeldAt, IsStateOf}
-use Rattle.c_dictionary.proofs.Numbers.{two_twelve}
+use Rattle.c_dictionary.proofs.Numbers.{differ}
 
 no_step : (s : Store) → IsReady s → HasStopped s → ⊥
 no_step s ready stopped = let none = ready.running in let some = stopped.stopped in absurd (cc)
@@ -44,7 +44,7 @@ module _ (state result : ℕ) (old new : Option Store) (is : IsStateOf state old
   refused_none two = none_at state old is (tells.0 two)
 
   pub refused_halted : state ≢ 1 → result ≡ 12 → HasHalted old
-  refused_halted other twelve = halted_at state old is (λ zero. two_twelve (sym (tells.1 zero) ∙ twelve)) other
+  refused_halted other twelve = halted_at state old is (λ zero. differ 2 12 refl (sym (tells.1 zero) ∙ twelve)) other
 
   pub refused_new : state ≢ 1 → result ≡ 12 → HasHalted new
   refused_new other twelve = subst HasHalted (sym same) (refused_halted other twelve)

@@ -1,7 +1,10 @@
--- Worked examples: the least key from one on, the statuses of faults, and what has no dictionary.
-use Rattle.std.specs.Prelude.{◌≡◌, ◌≢◌, ℕ, List, [], ◌∷◌, Option, None, Some, refl}
-use Rattle.std.proofs.Common.{nat_eq, arith, ◌∙◌}
-use Rattle.std.proofs.lemmas.Bool.{cond-false, ne_eqb}
+-- Worked examples: keys that are listed and the least of them, the statuses of faults, a closed handle, and a mixture.
+use Rattle.std.specs.Prelude.{◌≡◌, ◌≢◌, ◌⊎◌, ◌||◌, ℕ, zero, suc, false, List, [], ◌∷◌, Option, None, Some, is_some, slice_index, refl}
+use Rattle.std.specs.BTreeMap.{is_at}
+use Rattle.std.specs.BTreeSet.{BTreeSet, contains}
+use Rattle.std.specs.Ordering.{nat_cmp}
+use Rattle.std.proofs.Common.{nat_eq, inl, inr, ap, sym, subst, arith, ◌∙◌}
+use Rattle.std.proofs.lemmas.Bool.{cases_eq, cases_order, cond-false, lt-ltb, le-ltb, ne_eqb}
 use Rattle.heap_model.specs.declared.header.BadHeader.TheVariants.{Version, Kind}
 use Rattle.dict_model.specs.Requests.{with_key}
 use Rattle.dict_model.specs.Shards.{Map, no_keys}
@@ -9,8 +12,8 @@ use Rattle.dictionary_heap.specs.declared.fault.OpenFault.TheVariants.{Header, O
 use Rattle.c_dictionary.specs.declared.fault.Fault.{Fault}
 use Rattle.c_dictionary.specs.declared.store.Store.{Store}
 use Rattle.c_dictionary.specs.Faults.{place_of, status_of, told}
-use Rattle.c_dictionary.specs.Images.{length_of}
-use Rattle.c_dictionary.specs.Keys.{IsLeastFrom, HasNoneFrom}
+use Rattle.c_dictionary.specs.Images.{length_of, IsMixing}
+use Rattle.c_dictionary.specs.Keys.{IsLeastFrom, HasNoneFrom, Lists}
 use Rattle.c_dictionary.specs.Ready.{IsStateOf}
 
 -- a map with the keys 3 and 7
@@ -76,3 +79,33 @@ closed_at_zero = refl
 
 closed_at_no_other : IsStateOf 1 nothing → ⊥
 closed_at_no_other is = omega arith
+
+-- the keys 3 and 7 are listed, and no others
+abbrev both_listed : BTreeSet ℕ
+both_listed = record { keys = 3 ∷ 7 ∷ [] }
+
+not_at : (key k : ℕ) → k ≢ key → is_at (nat_cmp key) k ≡ false
+not_at key k other = elim (cases_order key k) as (λ _. is_at (nat_cmp key) k ≡ false) [
+  | inl same ↦ absurd (other (sym same))
+  | inr (inl below) ↦ rw (lt-ltb key k below) refl
+  | inr (inr above) ↦ rw (le-ltb key k (omega arith)) (rw (ne_eqb key k (λ e. other (sym e))) refl)
+]
+
+listed : (key : ℕ) → (7 ≡ key) ⊎ (7 ≢ key) → (3 ≡ key) ⊎ (3 ≢ key) → contains nat_cmp both_listed key ≡ is_some (two_keys key)
+listed key (inl seven) three = subst (λ k. contains nat_cmp both_listed k ≡ is_some (two_keys k)) seven refl
+listed key (inr seven) (inl three) = subst (λ k. contains nat_cmp both_listed k ≡ is_some (two_keys k)) three refl
+listed key (inr seven) (inr three) =
+    ap (λ b. b || (is_at (nat_cmp key) 7 || false)) (not_at key 3 three) ∙ ap (λ b. b || false) (not_at key 7 seven)
+    ∙ sym (ap is_some (missing key seven three))
+
+lists_both : Lists both_listed two_keys
+lists_both = record { each = λ key. listed key (cases_eq 7 key) (cases_eq 3 key) }
+
+-- of the two words loads saw the first, and the second is as it was
+mixes_two : IsMixing (1 ∷ 2 ∷ []) (3 ∷ 4 ∷ []) (1 ∷ 4 ∷ [])
+mixes_two = record { long = refl; mixes = record { each = each } } where
+  each : (word : ℕ) → (slice_index (1 ∷ 4 ∷ []) word ≡ slice_index (1 ∷ 2 ∷ []) word)
+      ⊎ (slice_index (1 ∷ 4 ∷ []) word ≡ slice_index (3 ∷ 4 ∷ []) word)
+  each zero = inl refl
+  each (suc zero) = inr refl
+  each (suc (suc n)) = inl refl

@@ -1,5 +1,5 @@
 -- Why an image is not opened, as C is told.
-use Rattle.std.specs.Prelude.{◌≡◌, ℕ, List, length, Some, refl}
+use Rattle.std.specs.Prelude.{◌≡◌, ℕ, List, length, Some}
 use Rattle.heap_model.specs.declared.header.BadHeader.{BadHeader}
 use Rattle.heap_model.specs.declared.header.BadHeader.TheVariants.{Short, Magic, Version, Capacity, Length, State, Used, Kind}
 use Rattle.heap_model.specs.Header.{header_fault}

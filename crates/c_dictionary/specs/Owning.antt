@@ -1,5 +1,5 @@
 -- What a handle owns: nothing, or the box behind its pointer, as its state says.
-use Rattle.std.specs.Prelude.{◌≡◌, ℕ, Option, None, Some}
+use Rattle.std.specs.Prelude.{ℕ, Option, None, Some}
 use base.Fml.{Fml, ftrue, feq, fex, fsep}
 use denote.RawPtr.{Ptr}
 use Rattle.std.specs.declared.alloc.Global.{Global}

@@ -1,4 +1,4 @@
-use Rattle.std.proofs.Common.{ℕ, length}
+use Rattle.std.proofs.Common.{length}
 use Rattle.c_dictionary.proofs.ClosingLemmas.{clean_in, is_room, leaves}
 use Rattle.c_dictionary.proofs.images.heap_close.Goals as goal
 

@@ -3,7 +3,7 @@ use Rattle.std.proofs.lemmas.Bool.{cases_eq}
 use Rattle.dictionary_heap.specs.Faults.{TellsFault}
 use Rattle.c_dictionary.specs.Faults.{IsRefused}
 use Rattle.c_dictionary.specs.Images.{OpensWords}
-use Rattle.c_dictionary.proofs.ClosingLemmas.{again_bytes, again_memory, again_same, clean_in, is_answer_too, is_room, is_usage, leaves}
+use Rattle.c_dictionary.proofs.ClosingLemmas.{again_bytes, again_memory, again_same, clean_in, is_room, leaves}
 use Rattle.c_dictionary.proofs.ClosingLemmas.{two_answers}
 use Rattle.c_dictionary.proofs.images.heap_image.Goals as goal
 

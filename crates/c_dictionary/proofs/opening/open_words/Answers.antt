@@ -1,14 +1,14 @@
-use Rattle.std.proofs.Common.{◌≡◌, Option, Some, refl, sym, ap, subst, ◌∙◌}
+use Rattle.std.proofs.Common.{Option, Some, refl, sym, ap, subst, ◌∙◌}
 use Rattle.std.specs.Prelude.{IfSome}
 use Rattle.c_dictionary.specs.Ready.{HasAllSteps, IsHeldAt}
 use Rattle.c_dictionary.specs.declared.store.Store.{Store}
 use Rattle.c_dictionary.proofs.FaultLemmas.{not_done}
-use Rattle.c_dictionary.proofs.Numbers.{one_zero}
+use Rattle.c_dictionary.proofs.Numbers.{differ}
 use Rattle.c_dictionary.proofs.opening.open_words.Goals as goal
 
 pub set-requires : goal.set-requires
 set-requires c = subst (IsHeldAt 1) (sym c.of.ensures) (record {
-  some = one_zero;
+  some = differ 1 0 refl;
   sound = c.in-Ok.ensures.sound;
   going = λ _. c.in-Ok.ensures.ready;
   halted = λ other. absurd (other refl);

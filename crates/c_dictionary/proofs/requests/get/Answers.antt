@@ -4,10 +4,10 @@ use Rattle.dict_model.specs.Shards.{Map}
 use Rattle.dict_requests.specs.Gets.{Gets}
 use Rattle.c_dictionary.specs.Dictionary.{Holds}
 use Rattle.c_dictionary.specs.declared.store.Store.{Store}
-use Rattle.c_dictionary.proofs.Numbers.{zero_two, one_two, twelve_two, zero_one, zero_twelve, one_zero, one_twelve, twelve_zero, twelve_one}
 use Rattle.c_dictionary.proofs.ReadyLemmas.{turns_after, ready_after}
 use Rattle.c_dictionary.proofs.SoundLemmas.{sound_after, stopped_by}
 use Rattle.c_dictionary.proofs.TurnLemmas.{same_local}
+use Rattle.c_dictionary.proofs.Numbers.{differ}
 use Rattle.c_dictionary.proofs.requests.get.Goals as goal
 
 pub returns-in-Ok-Some : goal.returns-in-Ok-Some
@@ -17,14 +17,14 @@ returns-in-Ok-Some c =
     let key = c.args.key in
     let lists = λ (map : Map) (h : Holds map s). h.listed in
     record {
-      answers = zero_two;
+      answers = differ 0 2 refl;
       ready = λ _. ready_after s t c.requires.ready key (λ map. map) (λ map. map) c.in-Ok-Some.ensures.crash
           (same_local key) c.in-Ok-Some.ensures.maps lists c.in-Ok-Some.ensures.ok.runs.running;
       sound = sound_after s t c.requires.ready c.requires.sound key (λ map. map) c.in-Ok-Some.ensures.crash c.in-Ok-Some.ensures.kept refl;
-      stopped = λ e. absurd (zero_twelve e);
+      stopped = λ e. absurd (differ 0 12 refl e);
       found = λ _. subst (λ (answer : Option ℕ). Gets key answer c.args.room.now c.get.new.out (seat_of s.heap) (seat_of t.heap))
           c.in-Ok-Some.field-0-is c.in-Ok-Some.ensures.ok;
-      absent = λ e. absurd (zero_one e);
+      absent = λ e. absurd (differ 0 1 refl e);
       same = λ _. turns_after s t c.requires.ready key (λ map. map) (λ map. map) c.in-Ok-Some.ensures.crash
           (same_local key) c.in-Ok-Some.ensures.maps lists;
     }
@@ -36,12 +36,12 @@ returns-in-Ok-None c =
     let key = c.args.key in
     let lists = λ (map : Map) (h : Holds map s). h.listed in
     record {
-      answers = one_two;
+      answers = differ 1 2 refl;
       ready = λ _. ready_after s t c.requires.ready key (λ map. map) (λ map. map) c.in-Ok-None.ensures.crash
           (same_local key) c.in-Ok-None.ensures.maps lists c.in-Ok-None.ensures.ok.runs.running;
       sound = sound_after s t c.requires.ready c.requires.sound key (λ map. map) c.in-Ok-None.ensures.crash c.in-Ok-None.ensures.kept refl;
-      stopped = λ e. absurd (one_twelve e);
-      found = λ e. absurd (one_zero e);
+      stopped = λ e. absurd (differ 1 12 refl e);
+      found = λ e. absurd (differ 1 0 refl e);
       absent = λ _. subst (λ (answer : Option ℕ). Gets key answer c.args.room.now c.get.new.out (seat_of s.heap) (seat_of t.heap))
           c.in-Ok-None.field-0-is c.in-Ok-None.ensures.ok;
       same = λ _. turns_after s t c.requires.ready key (λ map. map) (λ map. map) c.in-Ok-None.ensures.crash
@@ -55,11 +55,11 @@ returns-in-Err c =
     let t : Store = record s { heap = c.get.new.seat } in
     let key = c.args.key in
     record {
-      answers = twelve_two;
+      answers = differ 12 2 refl;
       ready = λ going. absurd (going refl);
       sound = sound_after s t c.requires.ready c.requires.sound key (λ map. map) c.in-Err.ensures.crash c.in-Err.ensures.kept refl;
       stopped = λ _. stopped_by s t c.in-Err.field-0.step c.in-Err.ensures.cause;
-      found = λ e. absurd (twelve_zero e);
-      absent = λ e. absurd (twelve_one e);
+      found = λ e. absurd (differ 12 0 refl e);
+      absent = λ e. absurd (differ 12 1 refl e);
       same = λ going. absurd (going refl);
     }

@@ -11,12 +11,10 @@ use Rattle.heap_seat.specs.declared.fault.AllocFault.TheVariants.{Full, Stopped}
 use Rattle.c_dictionary.specs.Dictionary.{Holds}
 use Rattle.c_dictionary.specs.Ready.{IsReady, IsSound}
 use Rattle.c_dictionary.specs.declared.store.Store.{Store}
-use Rattle.c_dictionary.proofs.Numbers.{zero_two, three_two, eleven_two, twelve_two, zero_three, zero_eleven, zero_twelve, three_zero}
-use Rattle.c_dictionary.proofs.Numbers.{three_eleven, three_twelve, eleven_zero, eleven_three, eleven_twelve, twelve_zero, twelve_three}
-use Rattle.c_dictionary.proofs.Numbers.{twelve_eleven}
 use Rattle.c_dictionary.proofs.ReadyLemmas.{turns_after, ready_after, lists_undone}
 use Rattle.c_dictionary.proofs.SoundLemmas.{sound_after, stopped_by, refused_runs}
 use Rattle.c_dictionary.proofs.TurnLemmas.{with_local, same_local}
+use Rattle.c_dictionary.proofs.Numbers.{differ}
 use Rattle.c_dictionary.proofs.requests.put.Goals as goal
 
 pub returns-in-Ok-put : goal.returns-in-Ok-put
@@ -30,13 +28,13 @@ returns-in-Ok-put c =
       ready = λ _. ready_after s t c.requires.ready key made made c.in-Ok-put.ensures.crash (with_local key value) c.in-Ok-put.ensures.ok lists
           c.in-Ok-put.ensures.runs.running;
       sound = sound_after s t c.requires.ready c.requires.sound key made c.in-Ok-put.ensures.crash c.in-Ok-put.ensures.kept refl;
-      stopped = λ e. absurd (zero_twelve e);
-      answers = zero_two;
+      stopped = λ e. absurd (differ 0 12 refl e);
+      answers = differ 0 2 refl;
       done = λ _. c.in-Ok-put.ensures.ok;
       set = λ _. turns_after s t c.requires.ready key made made c.in-Ok-put.ensures.crash (with_local key value) c.in-Ok-put.ensures.ok lists;
-      full = λ e. absurd (zero_eleven e);
-      refused = λ e. absurd (zero_eleven e);
-      memory = λ e. absurd (zero_three e);
+      full = λ e. absurd (differ 0 11 refl e);
+      refused = λ e. absurd (differ 0 11 refl e);
+      memory = λ e. absurd (differ 0 3 refl e);
       crash = inr c.in-Ok-put.ensures.crash;
     }
 
@@ -58,14 +56,14 @@ returns-in-Err-Full c =
       ready = λ _. ready_after s t c.requires.ready key made (λ map. map) c.in-Err-Full.ensures.crash (same_local key)
           (record { gives = told.1 }) lists (refused_runs _ (shard_of key) _ (seat_of s.heap) (seat_of t.heap) told.0);
       sound = sound_after s t c.requires.ready c.requires.sound key made c.in-Err-Full.ensures.crash c.in-Err-Full.ensures.kept refl;
-      stopped = λ e. absurd (eleven_twelve e);
-      answers = eleven_two;
-      done = λ e. absurd (eleven_zero e);
-      set = λ e. absurd (eleven_zero e);
+      stopped = λ e. absurd (differ 11 12 refl e);
+      answers = differ 11 2 refl;
+      done = λ e. absurd (differ 11 0 refl e);
+      set = λ e. absurd (differ 11 0 refl e);
       full = λ _. record { gives = told.1 };
       refused = λ _. turns_after s t c.requires.ready key made (λ map. map) c.in-Err-Full.ensures.crash (same_local key)
           (record { gives = told.1 }) lists;
-      memory = λ e. absurd (eleven_three e);
+      memory = λ e. absurd (differ 11 3 refl e);
       crash = inr c.in-Err-Full.ensures.crash;
     }
 
@@ -83,12 +81,12 @@ returns-in-Err-Stopped c =
       ready = λ going. absurd (going refl);
       sound = sound_after s t c.requires.ready c.requires.sound key made c.in-Err-Stopped.ensures.crash c.in-Err-Stopped.ensures.kept refl;
       stopped = λ _. stopped_by s t c.in-Err-Stopped.field-0-0.step told.0;
-      answers = twelve_two;
-      done = λ e. absurd (twelve_zero e);
-      set = λ e. absurd (twelve_zero e);
-      full = λ e. absurd (twelve_eleven e);
-      refused = λ e. absurd (twelve_eleven e);
-      memory = λ e. absurd (twelve_three e);
+      answers = differ 12 2 refl;
+      done = λ e. absurd (differ 12 0 refl e);
+      set = λ e. absurd (differ 12 0 refl e);
+      full = λ e. absurd (differ 12 11 refl e);
+      refused = λ e. absurd (differ 12 11 refl e);
+      memory = λ e. absurd (differ 12 3 refl e);
       crash = inr c.in-Err-Stopped.ensures.crash;
     }
 
@@ -101,12 +99,12 @@ returns-in_default c =
     record {
       ready = λ _. subst IsReady (sym same) c.requires.ready;
       sound = subst IsSound (sym same) c.requires.sound;
-      stopped = λ e. absurd (three_twelve e);
-      answers = three_two;
-      done = λ e. absurd (three_zero e);
-      set = λ e. absurd (three_zero e);
-      full = λ e. absurd (three_eleven e);
-      refused = λ e. absurd (three_eleven e);
+      stopped = λ e. absurd (differ 3 12 refl e);
+      answers = differ 3 2 refl;
+      done = λ e. absurd (differ 3 0 refl e);
+      set = λ e. absurd (differ 3 0 refl e);
+      full = λ e. absurd (differ 3 11 refl e);
+      refused = λ e. absurd (differ 3 11 refl e);
       memory = λ _. same;
       crash = inl same;
     }
