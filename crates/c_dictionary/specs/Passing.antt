@@ -1,8 +1,11 @@
 -- What a request makes of what a handle owns.
-use Rattle.std.specs.Prelude.{◌≡◌, ◌⊎◌, Option, Some}
+use Rattle.std.specs.Prelude.{◌≡◌, ◌⊎◌, ℕ, List, length, Option, Some}
+use Rattle.heap_seat.specs.declared.fault.Looks.{Looks}
 use Rattle.heap_seat.specs.View.{View}
 use Rattle.block_heap.specs.SeqState.{seat_of}
+use Rattle.dict_model.specs.Nodes.{node_bytes, shard_of}
 use Rattle.dict_model.specs.Shards.{Map}
+use Rattle.dict_requests.specs.Puts.{PutRefused}
 use Rattle.c_dictionary.specs.declared.store.Store.{Store}
 use Rattle.c_dictionary.specs.Dictionary.{Holds, Turns}
 use Rattle.c_dictionary.specs.Ready.{HasStopped}
@@ -33,6 +36,10 @@ pub record Tells (how : Map → Type 0) (old new : Option Store) : Type 0 where
   pub had : old ≡ Some store
   pub stays : new ≡ old
   pub tells : (map : Map) → Holds map store → how map
+
+-- within a put the heap refused a request for want of room: that of the node, or of the shard's first table
+abbrev pub HadNoRoom : ℕ → List ℕ → View → View → Type 0
+HadNoRoom key value v w = (looks : Looks) × PutRefused (node_bytes (length value)) (shard_of key) looks v w
 
 -- it has a dictionary, and that has stopped
 pub record HasHalted (value : Option Store) : Type 0 where

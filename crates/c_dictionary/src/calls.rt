@@ -8,7 +8,7 @@ ghost use Rattle.dict_requests.specs.Answers.{Deletes};
 ghost use Rattle.dict_model.specs.Shards.{Map};
 ghost use Rattle.c_dictionary.specs.Dictionary.{Holds};
 ghost use Rattle.c_dictionary.specs.Keys.{IsLeastFrom, HasNoneFrom};
-ghost use Rattle.c_dictionary.specs.Passing.{Passes, MayPass, Becomes, Tells, HasHalted};
+ghost use Rattle.c_dictionary.specs.Passing.{Passes, MayPass, Becomes, Tells, HadNoRoom, HasHalted};
 
 use crate::handle::{CLOSED, GOING, HALTED, Handle};
 use crate::keys::least_from;
@@ -48,6 +48,8 @@ pub extern "C" fn heap_put(alloc: Global, handle: &mut Handle, key: u64, value: 
     ensures full { result ≡ 11 → Passes handle.old.value handle.new.value
         (Changes (shard_of key) (λ map. map)) }
     ensures refused { result ≡ 11 → Becomes (λ map. map) handle.old.value handle.new.value }
+    ensures room { result ≡ 11 → Passes handle.old.value handle.new.value
+        (HadNoRoom key value.now) }
     ensures memory { result ≡ 3 → handle.new.value ≡ handle.old.value }
     ensures crash { MayPass handle.old.value handle.new.value
         (MayChange (shard_of key) (λ map. with_key map key value.now)) }

@@ -1,5 +1,5 @@
 //! Images: of an open dictionary, as it is closed, and as a crash leaves it.
-ghost use Rattle.std.specs.Prelude.{◌≡◌, ◌≢◌, ◌⊎◌, ◌↔◌, ◌*◌, [], ◌∷◌, length, slice_index, Contains, None, IfOk, OnOk, IfErr, OnErr};
+ghost use Rattle.std.specs.Prelude.{◌≡◌, ◌≢◌, ◌⊎◌, ◌↔◌, [], ◌∷◌, length, slice_index, Contains, None, IfOk, OnOk, IfErr, OnErr};
 ghost use Rattle.heap_model.specs.Geometry.{clean, dirty};
 ghost use Rattle.heap_model.specs.Header.{state_of};
 ghost use Rattle.heap_model.specs.Image.{image_of_bytes};

@@ -3,7 +3,6 @@ ghost use Rattle.std.specs.Prelude.{◌≡◌, ◌≢◌, ◌⊎◌, ◌↔◌, 
 ghost use Rattle.heap_model.specs.declared.header.BadHeader.{BadHeader};
 ghost use Rattle.heap_model.specs.Header.{header_fault};
 ghost use Rattle.heap_model.specs.Image.{image_of_bytes};
-ghost use Rattle.region_header.specs.Words.{AreWordsOf};
 ghost use Rattle.dict_model.specs.Links.{kind_count};
 ghost use Rattle.dictionary_heap.specs.Images.{CanBeRecovered};
 ghost use Rattle.dictionary_heap.specs.Faults.{TellsFault};

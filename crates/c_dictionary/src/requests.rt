@@ -7,6 +7,7 @@ ghost use Rattle.dict_requests.specs.Changes.{MayChange, Changes};
 ghost use Rattle.dict_requests.specs.Gets.{Gets};
 ghost use Rattle.dict_requests.specs.Answers.{Deletes};
 ghost use Rattle.c_dictionary.specs.Dictionary.{Turns};
+ghost use Rattle.c_dictionary.specs.Passing.{HadNoRoom};
 ghost use Rattle.c_dictionary.specs.Ready.{HasStopped, IsReady, IsSound};
 
 use crate::keys::{add_key, take_key, undo_add};
@@ -29,6 +30,8 @@ pub fn put(store: &mut Store, key: u64, value: &[u8]) -> u32
     ensures full { result ≡ 11 → Changes (shard_of key) (λ map. map)
         (seat_of store.old.heap) (seat_of store.new.heap) }
     ensures refused { result ≡ 11 → Turns (λ map. map) store.old store.new }
+    ensures room { result ≡ 11 → HadNoRoom key value.now
+        (seat_of store.old.heap) (seat_of store.new.heap) }
     ensures memory { result ≡ 3 → store.new ≡ store.old }
     ensures crash { (store.new ≡ store.old) ⊎ MayChange (shard_of key) (λ map. with_key map key value.now)
         (seat_of store.old.heap) (seat_of store.new.heap) }

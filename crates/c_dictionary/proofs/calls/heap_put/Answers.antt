@@ -7,7 +7,7 @@ use Rattle.block_heap.specs.SeqState.{seat_of}
 use Rattle.dict_model.specs.Nodes.{shard_of}
 use Rattle.dict_model.specs.Requests.{with_key}
 use Rattle.dict_requests.specs.Changes.{MayChange, Changes}
-use Rattle.c_dictionary.specs.Passing.{MayPass}
+use Rattle.c_dictionary.specs.Passing.{HadNoRoom, MayPass}
 use Rattle.c_dictionary.proofs.StateLemmas.{closed, closed_refused, halted_not, halted_refused, lent_at, refused_new, refused_none, some_at}
 use Rattle.c_dictionary.proofs.Numbers.{not_zero, not_three, not_eleven}
 use Rattle.c_dictionary.proofs.Passing.{passes, becomes, stays}
@@ -39,6 +39,15 @@ returns-clause-full c = λ e. passes c.args.handle.now.value c.state-state.new.s
     c.into_box-store.result.value c.deref_mut.result.now c.put-status.new.store c.of.result.value c.state-state.ensures.1 c.take.ensures.0
     c.into_box-store.ensures c.deref_mut.ensures.value c.set.ensures c.of.ensures (Changes (shard_of c.args.key) (λ map. map))
     (c.put-status.ensures.full e)
+
+pub returns-then-state-ne-GOING-clause-room : goal.returns-then-state-ne-GOING-clause-room
+returns-then-state-ne-GOING-clause-room c = λ e. absurd (not_eleven c.refusal.result c.refusal.ensures.refused e)
+
+pub returns-clause-room : goal.returns-clause-room
+returns-clause-room c = λ e. passes c.args.handle.now.value c.state-state.new.self.value c.set.new.self.value c.take.result.value
+    c.into_box-store.result.value c.deref_mut.result.now c.put-status.new.store c.of.result.value c.state-state.ensures.1 c.take.ensures.0
+    c.into_box-store.ensures c.deref_mut.ensures.value c.set.ensures c.of.ensures (HadNoRoom c.args.key c.args.value.now)
+    (c.put-status.ensures.room e)
 
 pub returns-then-state-ne-GOING-clause-refused : goal.returns-then-state-ne-GOING-clause-refused
 returns-then-state-ne-GOING-clause-refused c = λ e. absurd (not_eleven c.refusal.result c.refusal.ensures.refused e)

@@ -34,6 +34,7 @@ returns-in-Ok-put c =
       set = λ _. turns_after s t c.requires.ready key made made c.in-Ok-put.ensures.crash (with_local key value) c.in-Ok-put.ensures.ok lists;
       full = λ e. absurd (differ 0 11 refl e);
       refused = λ e. absurd (differ 0 11 refl e);
+      room = λ e. absurd (differ 0 11 refl e);
       memory = λ e. absurd (differ 0 3 refl e);
       crash = inr c.in-Ok-put.ensures.crash;
     }
@@ -63,6 +64,7 @@ returns-in-Err-Full c =
       full = λ _. record { gives = told.1 };
       refused = λ _. turns_after s t c.requires.ready key made (λ map. map) c.in-Err-Full.ensures.crash (same_local key)
           (record { gives = told.1 }) lists;
+      room = λ _. (c.in-Err-Full.field-0-0, told.0);
       memory = λ e. absurd (differ 11 3 refl e);
       crash = inr c.in-Err-Full.ensures.crash;
     }
@@ -86,6 +88,7 @@ returns-in-Err-Stopped c =
       set = λ e. absurd (differ 12 0 refl e);
       full = λ e. absurd (differ 12 11 refl e);
       refused = λ e. absurd (differ 12 11 refl e);
+      room = λ e. absurd (differ 12 11 refl e);
       memory = λ e. absurd (differ 12 3 refl e);
       crash = inr c.in-Err-Stopped.ensures.crash;
     }
@@ -105,6 +108,7 @@ returns-in_default c =
       set = λ e. absurd (differ 3 0 refl e);
       full = λ e. absurd (differ 3 11 refl e);
       refused = λ e. absurd (differ 3 11 refl e);
+      room = λ e. absurd (differ 3 11 refl e);
       memory = λ _. same;
       crash = inl same;
     }
