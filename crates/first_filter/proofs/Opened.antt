@@ -1,15 +1,13 @@
--- A heap as it is opened with an empty image, and what is left of one with a list.
-use Rattle.std.proofs.Common.{◌≡◌, ℕ, ◌<◌, List, [], Some, Contains, slice_index, refl, sym, ap, subst, ◌∙◌, arith}
+-- A heap as it is opened with an empty image.
+use Rattle.std.proofs.Common.{◌≡◌, ℕ, ◌<◌, List, [], Some, Contains, slice_index, ap, ◌∙◌, arith}
 use Rattle.heap_model.specs.declared.block.Block.{Block}
 use Rattle.heap_model.specs.Geometry.{roots, root_word}
-use Rattle.heap_model.specs.Image.{Image}
 use Rattle.heap_model.proofs.ImageLemmas.{length-words_from, get_or-words_from}
 use Rattle.line_memory.specs.View.{volatile_at, durable_at}
-use Rattle.heap_seat.specs.View.{View, kind_of}
-use Rattle.heap_seat.specs.Words.{NamesAll, StoresKinds}
+use Rattle.heap_seat.specs.View.{kind_of}
 use Rattle.block_heap.specs.Closing.{IsOpened}
 use Rattle.block_heap.specs.SeqState.{SeqState, seat_of, all_roots}
-use Rattle.first_filter.specs.Lists.{IsList, HasList, IsKept, IsKeptList, ends, leads, HoldsList}
+use Rattle.first_filter.specs.Lists.{IsKept, ends, HoldsList}
 
 has_root : (i : ℕ) → i < roots → Contains all_roots i
 has_root i less =
@@ -31,21 +29,4 @@ opened_holds words held budget s opened kind null = record {
   kept i less = record {
     seen = ap Some (ap (λ v. volatile_at v (root_word i)) opened.opens.words_are ∙ null i less);
     left = ap Some (ap (λ v. durable_at v (root_word i)) opened.opens.words_are ∙ null i less);
-  }
-
--- an image with the durable words has the list
-module _ (v : View) (image : Image)
-    (reads : (word value : ℕ) → v.durable word ≡ Some value → image word ≡ value) (names : NamesAll image v.held) where
-  list_left : (word : ℕ) (nodes : List Block) → IsKeptList v word nodes → IsList image word nodes
-  list_left _ _ ends = refl
-  list_left _ _ (leads b word next bs pointer has kept list) = (
-    record { pointer = pointer; names = names b has },
-    subst (λ w. IsList image w bs) (sym (reads b.first_word next kept.left)) (list_left next bs list),
-  )
-
-  pub left_has : (nodes : List Block) → StoresKinds v image → HoldsList v nodes → HasList image nodes
-  left_has nodes kinds holds = record {
-    list = subst (λ w. IsList image w nodes) (sym (reads (root_word 0) holds.first holds.root.left)) (list_left holds.first nodes holds.list);
-    kind = kinds.each 0 (omega arith) ∙ holds.kind;
-    others = λ i less other. reads (root_word i) 0 (holds.others i less other).left;
   }
