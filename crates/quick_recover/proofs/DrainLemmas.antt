@@ -8,8 +8,8 @@ use Rattle.heap_model.specs.Reach.{Links, IsReachedIn}
 use Rattle.heap_model.specs.Recovered.{IsDrained}
 use Rattle.heap_model.proofs.ReachLemmas.{reached_block}
 use Rattle.heap_at_rest.proofs.RecoveredLemmas.{same_used}
-use Rattle.heap_shape.specs.Draining.{IsDrainable, IsToDrain}
-use Rattle.heap_shape.proofs.RecoveredLemmas.{LeavesPlaces, recovered_places, left_drainable, left_drains, same_drained}
+use Rattle.heap_at_rest.specs.Draining.{IsDrainable, IsToDrain}
+use Rattle.heap_at_rest.proofs.DrainableLemmas.{LeavesPlaces, recovered_places, left_drainable, left_drains, same_drained}
 use Rattle.heap_at_rest.specs.Orderly.{IsHeldByAnchors}
 use Rattle.heap_at_rest.proofs.AnchorHeldLemmas.{held_block}
 use Rattle.heap_recover.specs.declared.answer.Recovered.{Recovered}

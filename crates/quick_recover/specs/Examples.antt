@@ -13,11 +13,14 @@ use Rattle.heap_model.specs.Recovery.{IsListed, IsPartial, in_header, is_root, i
 use Rattle.heap_model.specs.Chains.{Follows}
 use Rattle.heap_model.specs.Examples.{image_with, formatted}
 use Rattle.heap_model.proofs.MemberLemmas.{in_none, in_head, head_or_rest}
-use Rattle.heap_shape.proofs.BasicLemmas.{with_at_other}
 use Rattle.heap_at_rest.specs.Orderly.{IsHeldByAnchors}
 use Rattle.heap_at_rest.specs.OrderlyExamples.{with_chain, quarter, is_quarter, third_is_held, chained_is_not_held}
 use Rattle.heap_recover.proofs.PassLemmas.{kept_no_state, kept_no_head}
 use Rattle.quick_recover.specs.Reopened.{IsReopened}
+
+-- another word is as it was
+with_at_other : (image : Image) (at value n : ℕ) → n ≢ at → put image at value n ≡ image n
+with_at_other image at value n other = cond-false (nat_eq n at) value (image n) (ne_eqb n at other)
 
 -- an empty image, closed, and what it is opened as
 abbrev pub empty : Image

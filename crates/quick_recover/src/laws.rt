@@ -6,7 +6,7 @@ ghost use Rattle.heap_model.specs.Blocks.{layout_of};
 ghost use Rattle.heap_model.specs.Header.{IsWellFormed, capacity_of};
 ghost use Rattle.heap_model.specs.Reach.{Links, IsReachedIn};
 ghost use Rattle.heap_model.specs.Recovered.{IsDrained};
-ghost use Rattle.heap_shape.specs.Draining.{IsDrainable, IsToDrain};
+ghost use Rattle.heap_at_rest.specs.Draining.{IsDrainable, IsToDrain};
 ghost use Rattle.heap_at_rest.specs.Orderly.{IsOrderly, IsHeldByAnchors};
 ghost use Rattle.heap_at_rest.specs.Agreement.{AgreeButFull};
 ghost use Rattle.heap_recover.specs.declared.answer.Recovered.{Recovered};
