@@ -8,7 +8,8 @@ use Rattle.heap_model.specs.Words.{head_pops, large_info}
 use Rattle.heap_model.proofs.BlockLemmas.{block_words, block_inside}
 use Rattle.heap_model.proofs.PartLemmas.{same_fields}
 use Rattle.heap_shape.specs.Shape.{Place, in_list, is_full, in_large}
-use Rattle.heap_shape.specs.Whole.{layout_at, IsShape}
+use Rattle.heap_shape.specs.Whole.{IsShape}
+use Rattle.heap_at_rest.specs.Draining.{layout_at}
 use Rattle.heap_shape.specs.Effects.{IsSet}
 use Rattle.heap_shape.specs.Moves.{after_join, AddsTo}
 use Rattle.heap_shape.proofs.AccountLemmas.{accounted_joined}

@@ -11,7 +11,8 @@ use Rattle.heap_model.proofs.BlockLemmas.{block_inside}
 use Rattle.heap_model.proofs.PartLemmas.{same_fields}
 use Rattle.heap_model.proofs.SizeLemmas.{few_words, size_of-words}
 use Rattle.size_table.proofs.ClassLemmas.{least_of_size, least_small, one_least}
-use Rattle.heap_shape.specs.Whole.{layout_at, IsShape}
+use Rattle.heap_shape.specs.Whole.{IsShape}
+use Rattle.heap_at_rest.specs.Draining.{layout_at}
 use Rattle.heap_shape.specs.Moves.{AddsTo}
 use Rattle.heap_shape.specs.Draining.{IsAccounted, DrainsSame, DrainsOne}
 use Rattle.heap_shape.proofs.DrainLemmas.{drained_none}

@@ -10,8 +10,9 @@ use Rattle.heap_model.proofs.BlockLemmas.{block_words}
 use Rattle.heap_model.proofs.MemberLemmas.{head_or_rest}
 use Rattle.heap_model.proofs.SizeLemmas.{four_blocks}
 use Rattle.heap_shape.specs.Shape.{in_list, is_full, Shape, with_at}
-use Rattle.heap_shape.specs.Standing.{first_of, HasNoHeld}
-use Rattle.heap_shape.specs.Whole.{layout_at, IsShape}
+use Rattle.heap_shape.specs.Standing.{first_of}
+use Rattle.heap_at_rest.specs.Draining.{HasNoHeld, layout_at}
+use Rattle.heap_shape.specs.Whole.{IsShape}
 use Rattle.heap_shape.specs.Effects.{IsSet, IsCut, firsts_from, all_firsts}
 use Rattle.heap_shape.specs.Draining.{DrainsSame}
 use Rattle.heap_shape.specs.Moves.{after_cut, after_fresh}

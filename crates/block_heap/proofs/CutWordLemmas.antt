@@ -3,7 +3,7 @@ use Rattle.std.proofs.Common.{◌≡◌, ◌≢◌, ℕ, ◌<◌, inl, inr, List
 use Rattle.std.proofs.lemmas.Bool.{cases_eq}
 use Rattle.heap_model.specs.declared.block.Block.{Block}
 use Rattle.heap_model.specs.Geometry.{info_word, anchor_word, used_word}
-use Rattle.heap_shape.specs.Standing.{HasNoHeld}
+use Rattle.heap_at_rest.specs.Draining.{HasNoHeld}
 use Rattle.heap_shape.specs.Effects.{IsCut, IsInSuperblock}
 use Rattle.line_memory.specs.View.{View, volatile_at, durable_at}
 use Rattle.block_heap.specs.Divide.{IsDivideWord, IsDivided}

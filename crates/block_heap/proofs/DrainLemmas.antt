@@ -11,7 +11,7 @@ use Rattle.heap_model.specs.Recovered.{IsDrained, beside, freed, fresh}
 use Rattle.heap_model.specs.Sizes.{words_of_class}
 use Rattle.heap_model.proofs.MemberLemmas.{in_none, in_head, head_or_rest}
 use Rattle.heap_model.proofs.PartLemmas.{same_fields}
-use Rattle.heap_shape.specs.Draining.{IsDrainable, IsToDrain}
+use Rattle.heap_at_rest.specs.Draining.{IsDrainable, IsToDrain}
 use Rattle.block_heap.specs.Parts.{image_of, held_in}
 use Rattle.block_heap.specs.Requests.{IsDrainableFor, IsDrainedOf, Drains}
 use Rattle.block_heap.specs.SeqState.{SeqState}

@@ -14,7 +14,7 @@ use Rattle.heap_model.proofs.CountingLemmas.{times_none}
 use Rattle.heap_model.proofs.BlockLemmas.{block_step}
 use Rattle.heap_model.proofs.SizeLemmas.{size_of-words, few_words, few_blocks}
 use Rattle.heap_shape.specs.Standing.{first_of}
-use Rattle.heap_shape.specs.Whole.{layout_at}
+use Rattle.heap_at_rest.specs.Draining.{layout_at}
 use Rattle.heap_shape.proofs.BasicLemmas.{times_here, times_past}
 use Rattle.heap_model.proofs.ListLemmas.{times_append}
 use Rattle.heap_shape.proofs.CountLemmas.{few_members}

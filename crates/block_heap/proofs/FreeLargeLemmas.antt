@@ -7,7 +7,8 @@ use Rattle.heap_model.specs.Sizes.{IsClass, words_of_class}
 use Rattle.heap_model.specs.Words.{head_first}
 use Rattle.heap_model.specs.Recovered.{HasPartIn}
 use Rattle.heap_shape.specs.Shape.{in_list, in_large}
-use Rattle.heap_shape.specs.Standing.{HasNoHeld, IsTakenByLarge, IsAs}
+use Rattle.heap_shape.specs.Standing.{IsTakenByLarge, IsAs}
+use Rattle.heap_at_rest.specs.Draining.{HasNoHeld}
 use Rattle.heap_shape.specs.Whole.{IsShape}
 use Rattle.heap_shape.specs.Moves.{TakesFrom}
 use Rattle.heap_shape.proofs.AccountLemmas.{use_without}

@@ -14,7 +14,8 @@ use Rattle.heap_shape.specs.Whole.{IsShape}
 use Rattle.heap_shape.specs.Effects.{IsSet, IsPushedOn}
 use Rattle.heap_shape.specs.Moves.{after_split}
 use Rattle.heap_shape.specs.Draining.{for_later}
-use Rattle.heap_shape.proofs.AccountLemmas.{free_follows, use_kept}
+use Rattle.heap_shape.proofs.AccountLemmas.{use_kept}
+use Rattle.heap_at_rest.proofs.DrainableLemmas.{free_follows}
 use Rattle.heap_shape.proofs.BasicLemmas.{with_at_same, with_at_other}
 use Rattle.heap_shape.proofs.FreeLargeLemmas.{split_one}
 use Rattle.heap_at_rest.proofs.ListLemmas.{one_following}

@@ -13,8 +13,9 @@ use Rattle.heap_model.proofs.PartLemmas.{cases_of_part, same_fields}
 use Rattle.heap_model.proofs.SizeLemmas.{two_words, few_words, four_blocks, few_blocks}
 use Rattle.heap_at_rest.proofs.PartLemmas.{part_taken}
 use Rattle.heap_shape.specs.Shape.{Place, in_list, is_full, in_large, is_new, Shape}
-use Rattle.heap_shape.specs.Standing.{HasNoHeld, IsAs}
-use Rattle.heap_shape.specs.Whole.{layout_at, IsShape}
+use Rattle.heap_shape.specs.Standing.{IsAs}
+use Rattle.heap_at_rest.specs.Draining.{HasNoHeld, layout_at}
+use Rattle.heap_shape.specs.Whole.{IsShape}
 use Rattle.heap_shape.specs.Effects.{IsInSuperblock}
 use Rattle.heap_shape.specs.Moves.{TakesFrom, with_cache}
 use Rattle.heap_shape.proofs.AccountLemmas.{accounted_kept, accounted_without}

@@ -8,9 +8,8 @@ use Rattle.heap_model.specs.Blocks.{Layout, layout_of}
 use Rattle.heap_model.specs.Reach.{Links, IsReached}
 use Rattle.heap_model.specs.Recovered.{IsDrained}
 use Rattle.heap_model.specs.Recovery.{in_header}
-use Rattle.heap_shape.specs.Whole.{layout_at}
-use Rattle.heap_shape.specs.Draining.{IsDrainable, IsToDrain}
-use Rattle.heap_shape.proofs.RecoveredLemmas.{same_drained, reached_drainable, reached_drains}
+use Rattle.heap_at_rest.specs.Draining.{layout_at, IsDrainable, IsToDrain}
+use Rattle.heap_at_rest.proofs.DrainableLemmas.{same_drained, reached_drainable, reached_drains}
 use Rattle.line_memory.specs.View.{View, volatile_at}
 use Rattle.block_heap.specs.Closing.{IsOpened}
 use Rattle.block_heap.specs.Parts.{image_of, held_in}

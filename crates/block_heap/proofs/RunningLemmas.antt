@@ -3,7 +3,8 @@ use Rattle.std.proofs.Common.{◌≡◌, ℕ, ◌+◌, ◌*◌, ◌<◌, ◌≤�
 use Rattle.heap_model.specs.Geometry.{roots, kind_word, lists, head_word, info_word, used_word, capacity_word}
 use Rattle.heap_model.specs.Words.{head_first, head_pops}
 use Rattle.heap_at_rest.proofs.PartLemmas.{part_taken}
-use Rattle.heap_shape.specs.Whole.{IsShape, layout_at}
+use Rattle.heap_shape.specs.Whole.{IsShape}
+use Rattle.heap_at_rest.specs.Draining.{layout_at}
 use Rattle.heap_shape.specs.Effects.{IsSet}
 use Rattle.heap_model.proofs.ListLemmas.{follows_small}
 use Rattle.line_memory.specs.View.{View, volatile_at, durable_at}

@@ -4,7 +4,7 @@ use Rattle.heap_model.specs.declared.block.Block.{Block}
 use Rattle.heap_model.specs.Geometry.{lists, roots, largest_capacity, kind_word, head_word, info_word, anchor_word, link_word, used_word, capacity_word, start_word, superblocks_end}
 use Rattle.heap_model.specs.Blocks.{IsBlock, IsIn}
 use Rattle.heap_model.specs.Recovered.{HasPartIn}
-use Rattle.heap_shape.specs.Standing.{HasNoHeld}
+use Rattle.heap_at_rest.specs.Draining.{HasNoHeld}
 use Rattle.line_memory.specs.View.{View, volatile_at, durable_at}
 use Rattle.block_heap.specs.Medium.{StoresOnly}
 

@@ -3,7 +3,7 @@ use Rattle.std.specs.Prelude.{◌≡◌, ℕ, ◌+◌, ◌*◌, ◌<◌, ◌≤�
 use Rattle.heap_model.specs.declared.block.Block.{Block}
 use Rattle.heap_model.specs.Geometry.{used_word, info_word, superblock_words, start_word}
 use Rattle.heap_model.specs.Sizes.{IsClass}
-use Rattle.heap_shape.specs.Standing.{HasNoHeld}
+use Rattle.heap_at_rest.specs.Draining.{HasNoHeld}
 use Rattle.heap_shape.specs.Moves.{AddsTo}
 use Rattle.block_heap.specs.Parts.{Parts, image_of, held_in}
 use Rattle.block_heap.specs.Lists.{LeadsAlong}

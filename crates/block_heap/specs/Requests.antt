@@ -2,7 +2,7 @@
 use Rattle.std.specs.Prelude.{◌≡◌, ◌≢◌, ℕ, ◌*◌, ◌⊎◌, List, None, Some, Contains, AllPairs}
 use Rattle.heap_model.specs.declared.block.Block.{Block}
 use Rattle.heap_model.specs.Sizes.{words_of_class}
-use Rattle.heap_shape.specs.Draining.{IsDrainable, IsToDrain}
+use Rattle.heap_at_rest.specs.Draining.{IsDrainable, IsToDrain}
 use Rattle.heap_seat.specs.Calls.{SameRefusals}
 use Rattle.heap_seat.specs.Words.{IsOwn, KeepsWord, KeepsPending}
 use Rattle.heap_seat.specs.View.{View}

@@ -4,7 +4,7 @@ use Rattle.heap_model.specs.declared.block.Block.{Block}
 use Rattle.heap_model.specs.Geometry.{used_word, start_word, superblock_words}
 use Rattle.heap_model.specs.Sizes.{IsLeastClassFor, largest_small, span_of, words_of_class}
 use Rattle.heap_shape.specs.Moves.{AddsTo}
-use Rattle.heap_shape.specs.Draining.{IsToDrain, IsDrainable}
+use Rattle.heap_at_rest.specs.Draining.{IsToDrain, IsDrainable}
 use Rattle.heap_seat.specs.declared.fault.Looks.{Looks}
 use Rattle.block_heap.specs.Accounts.{AreAccounted}
 use Rattle.heap_seat.specs.Alloc.{IsSizeFor}

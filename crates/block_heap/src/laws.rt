@@ -9,7 +9,7 @@ ghost use Rattle.heap_model.specs.Header.{capacity_of, used_of, kinds_of};
 ghost use Rattle.heap_model.specs.Blocks.{layout_of};
 ghost use Rattle.heap_model.specs.Reach.{Links, IsReached};
 ghost use Rattle.heap_model.specs.Recovered.{IsDrained};
-ghost use Rattle.heap_shape.specs.Draining.{IsDrainable, IsToDrain};
+ghost use Rattle.heap_at_rest.specs.Draining.{IsDrainable, IsToDrain};
 ghost use Rattle.line_memory.specs.View.{word_count, volatile_at, durable_at};
 ghost use Rattle.heap_seat.specs.Rows.{IsRow};
 ghost use Rattle.heap_seat.specs.Words.{HasPicked};

@@ -21,7 +21,7 @@ impl<C: Chance> Arena<C> {
     ghost use Rattle.std.specs.Prelude.{◌≡◌, ◌≢◌, ℕ, ◌+◌, ◌*◌, ◌/◌, ◌<◌, ◌≤◌, IfOk, OnOk, OnErr, IfErr, if◌then◌else◌, length, true};
     ghost use Rattle.heap_model.specs.Counting.{one_if};
     ghost use Rattle.heap_model.specs.Geometry.{used_word, lists, largest_capacity};
-    ghost use Rattle.heap_shape.specs.Standing.{HasNoHeld};
+    ghost use Rattle.heap_at_rest.specs.Draining.{HasNoHeld};
     ghost use Rattle.line_memory.specs.Marks.{IsMarked};
     ghost use Rattle.block_heap.specs.Medium.{StoresOnly, RunsWithin, StopsWithin};
     ghost use Rattle.block_heap.specs.Divide.{IsDivideWord};

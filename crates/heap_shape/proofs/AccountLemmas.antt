@@ -17,7 +17,7 @@ use Rattle.heap_shape.specs.Moves.{AddsTo, TakesFrom}
 use Rattle.heap_shape.specs.Draining.{HasUse, for_class, for_held, for_later, IsAccounted}
 use Rattle.heap_at_rest.specs.Draining.{IsInFreeList}
 use Rattle.heap_shape.proofs.BasicLemmas.{member_place}
-pub use Rattle.heap_at_rest.proofs.DrainableLemmas.{free_follows}
+use Rattle.heap_at_rest.proofs.DrainableLemmas.{free_follows}
 use Rattle.heap_at_rest.proofs.ListLemmas.{one_following}
 
 -- in a heap of a shape that is its first list

@@ -12,4 +12,3 @@ pub mod FreeLargeLemmas
 pub mod OwnLemmas
 pub mod DrainLemmas
 pub mod AccountLemmas
-pub mod RecoveredLemmas

@@ -5,7 +5,7 @@ use Rattle.heap_model.specs.Geometry.{info_word, used_word}
 use Rattle.heap_model.specs.Image.{Image}
 use Rattle.heap_model.specs.Sizes.{IsClass}
 use Rattle.heap_model.specs.Recovered.{HasPartIn}
-pub use Rattle.heap_at_rest.specs.Draining.{IsInFreeList, IsDrainable, IsToDrain}
+use Rattle.heap_at_rest.specs.Draining.{IsInFreeList, IsDrainable, IsToDrain}
 
 -- a superblock is cut for a class, a held block has a part in it, or it is in the free list
 pub data HasUse (capacity : ℕ) (image : Image) (held : List Block) (d : ℕ) : Type 0 where

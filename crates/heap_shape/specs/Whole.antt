@@ -8,7 +8,7 @@ use Rattle.heap_model.specs.Words.{head_first}
 use Rattle.heap_model.specs.Blocks.{IsBlock}
 use Rattle.heap_model.specs.Chains.{Follows, Walks}
 use Rattle.heap_model.specs.Counting.{times}
-pub use Rattle.heap_at_rest.specs.Draining.{layout_at}
+use Rattle.heap_at_rest.specs.Draining.{layout_at}
 use Rattle.heap_shape.specs.Shape.{in_list, is_full, Shape, stands_in}
 use Rattle.heap_shape.specs.Standing.{IsFirstOf, IsAs}
 

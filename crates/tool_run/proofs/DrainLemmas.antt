@@ -9,8 +9,8 @@ use Rattle.heap_model.specs.Recovered.{IsDrained}
 use Rattle.heap_model.specs.Recovery.{in_header}
 use Rattle.heap_model.proofs.ReachLemmas.{reached_block}
 use Rattle.dict_model.specs.Links.{dict_links}
-use Rattle.heap_shape.specs.Draining.{IsDrainable, IsToDrain}
-use Rattle.heap_shape.proofs.RecoveredLemmas.{recovered_places, left_drainable, left_drains}
+use Rattle.heap_at_rest.specs.Draining.{IsDrainable, IsToDrain}
+use Rattle.heap_at_rest.proofs.DrainableLemmas.{recovered_places, left_drainable, left_drains}
 use Rattle.heap_recover.specs.declared.answer.Recovered.{Recovered}
 use Rattle.tool_ports.specs.Contents.{Contents}
 use Rattle.tool_run.specs.Making.{image_in, IsKept, IsOffsetDrained, TellsDrained}

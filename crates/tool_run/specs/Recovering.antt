@@ -7,7 +7,7 @@ use Rattle.heap_model.specs.Recovered.{AreAscending}
 use Rattle.heap_recover.specs.declared.answer.Recovered.{Recovered}
 use Rattle.heap_recover.specs.declared.fault.RecoverFault.{RecoverFault}
 use Rattle.heap_recover.specs.declared.fault.RecoverFault.TheVariants.{Header, Outside, Memory}
-use Rattle.heap_shape.specs.Draining.{IsDrainable, IsToDrain}
+use Rattle.heap_at_rest.specs.Draining.{IsDrainable, IsToDrain}
 use Rattle.region_header.specs.Migration.{current_words}
 use Rattle.tool_ports.specs.Contents.{Contents, Holds}
 pub use Rattle.image_run.specs.Reporting.{IsRecoveredHeap, IsTextOf, words_in_bytes}
