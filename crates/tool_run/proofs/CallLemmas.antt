@@ -19,7 +19,7 @@ pub rose_by_then : (before then later : ℕ) → RoseByOne before then → then 
 rose_by_then before then later once high = subst (λ n. n ≤ later) once high
 
 -- a result that was cut off, with wider words on the cause
-wider_cut : (name : List ℕ) (image : Option (List ℕ)) (text : List ℕ) (old new : Contents) (A A' : Type 0) (faults between : ℕ)
+pub wider_cut : (name : List ℕ) (image : Option (List ℕ)) (text : List ℕ) (old new : Contents) (A A' : Type 0) (faults between : ℕ)
     (taken taken' : Option (List ℕ)) → (A → A')
     → IsCutOff name image text old new A faults between taken taken' → IsCutOff name image text old new A' faults between taken taken'
 wider_cut name image text old new A A' faults between taken taken' to (while_putting bytes is failed unprinted stored others same) =

@@ -1,5 +1,5 @@
 -- From the seed of the command that was carried out to that of the one that the words ask for.
-use Rattle.std.proofs.Common.{◌≡◌, ◌⊎◌, ℕ, List, Option, inl, inr, sym, ap, subst, ◌∙◌, arith}
+use Rattle.std.proofs.Common.{◌≡◌, ◌⊎◌, ℕ, List, Option, inl, inr, refl, sym, ap, subst, ◌∙◌, arith}
 use Rattle.image_run.specs.declared.fault.ReplayFault.{ReplayFault}
 use Rattle.image_run.specs.declared.fault.ReplayFault.TheVariants.{Outside as OutsideLeft, Memory as ReplayMemory}
 use Rattle.tool_ports.specs.Contents.{Contents}
@@ -7,11 +7,13 @@ use Rattle.tool_command.specs.Command.{Command, replay_image, image_name, Asks}
 use Rattle.tool_command.proofs.OneCommandLemmas.{one_command}
 use Rattle.tool_run.specs.declared.fault.Fault.{Fault}
 use Rattle.tool_run.specs.declared.fault.Fault.TheVariants.{Usage, Memory, ReadFault, WriteFault, Absent, Malformed, Outside, BadShard, BadLine, BadStep, TooLong}
-use Rattle.tool_run.specs.Asking.{AsksOf, IsDoneWith}
-use Rattle.tool_run.specs.Inside.{RefusesEither, IsBeforeSeeding, status_of, fault_of_replay}
-use Rattle.tool_run.specs.Outcome.{AsksForReplay}
+use Rattle.tool_run.specs.Asking.{AsksOf, IsDoneWith, IsCutOffWith, IsToldCutOff}
+use Rattle.tool_run.specs.Inside.{DeliveryFails, RefusesEither, IsBeforeSeeding, status_of, line_of, fault_of_replay}
+use Rattle.tool_run.specs.Lines.{Tells}
+use Rattle.tool_run.specs.Outcome.{AsksForReplay, IsCutOff}
 use Rattle.tool_run.specs.Seeding.{seed_of, BeginBy}
 use Rattle.tool_run.specs.Status.{done, write_fault, outside, LeavesChances}
+use Rattle.tool_run.proofs.CallLemmas.{wider_cut}
 use Rattle.tool_run.proofs.PutBackLemmas.{not_done}
 use Rattle.tool_run.proofs.StatusLemmas.{for_replay}
 
@@ -26,6 +28,21 @@ not_cut_off command contents left A B other why is = absurd (omega arith)
 pub refused_is_not_cut_off : (command : Command) (contents : Contents) (left : Option (List ℕ)) (A B : Type 0) (fault cause : Fault)
     → fault ≡ cause → RefusesEither command contents left A B cause → status_of fault ≡ write_fault → ⊥
 refused_is_not_cut_off command contents left A B fault cause is why cut = not_cut_off command contents left A B cause why (ap status_of (sym is) ∙ cut)
+
+-- what holds of a result that was made holds of the one that was cut off
+pub cut_off_with : (holds : Option (List ℕ) → List ℕ → Type 0) (named name text : List ℕ) (image : Option (List ℕ)) (old mid new : Contents)
+    (A A' : Type 0) (faults between : ℕ) (taken taken' : Option (List ℕ)) (fault : Fault) → holds image text → named ≡ name → mid ≡ old → (A → A')
+    → DeliveryFails named image text mid new A faults between taken taken' fault → status_of fault ≡ write_fault
+    → IsCutOffWith name old new A' faults between taken taken' holds
+cut_off_with holds named name text image old mid new A A' faults between taken taken' WriteFault is same stood to why cut = record {
+  image = image;
+  text = text;
+  is = is;
+  cut_off = wider_cut name image text old new A A' faults between taken taken' to
+      (subst (λ (n : List ℕ). IsCutOff n image text old new A faults between taken taken') same
+      (subst (λ (m : Contents). IsCutOff named image text m new A faults between taken taken') stood why));
+}
+cut_off_with holds named name text image old mid new A A' faults between taken taken' other is same stood to why cut = absurd (omega arith)
 
 module _ {C One : Type 0} (seed_gives : C → ℕ → C → Type 0) (chance_gives : C → ℕ → One → C → Type 0) (word_gives : C → ℕ → C → Type 0)
     (words : List (List ℕ)) (command other : Command) (old new : C)
@@ -51,6 +68,24 @@ module _ {C One : Type 0} (seed_gives : C → ℕ → C → Type 0) (chance_give
       → (status ≡ done) ⊎ (status ≡ write_fault) → BeginBy seed_gives chance_gives word_gives (seed_of other) old new
   cut_off_by_its_seed status fault is begun (inl delivered) = absurd (not_done fault (sym is ∙ delivered))
   cut_off_by_its_seed status fault is begun (inr cut) = by_its_seed (begun (sym is ∙ cut))
+
+  -- and so is what was asked then
+  pub cut_off_by_its_command : (draw_gives : One → ℕ → One → Type 0) (before after : Contents) (left : Option (List ℕ)) (store_failed : Type 0)
+      (first second third : ℕ) (taken mid final : Option (List ℕ)) (status : ℕ) (fault : Fault) (name : List ℕ) → status ≡ status_of fault
+      → Tells (line_of fault name) second third mid final
+      → (status_of fault ≡ write_fault → IsCutOffWith (image_name command) before after store_failed first second taken mid
+      (AsksOf seed_gives chance_gives draw_gives word_gives command before left old new))
+      → status ≡ write_fault → IsToldCutOff (image_name other) before after store_failed first third taken final
+      (AsksOf seed_gives chance_gives draw_gives word_gives other before left old new)
+  cut_off_by_its_command draw_gives before after left store_failed first second third taken mid final status WriteFault name is told cut five = record {
+    before = mid;
+    between = second;
+    cut = subst (λ (c : Command). IsCutOffWith (image_name c) before after store_failed first second taken mid
+        (AsksOf seed_gives chance_gives draw_gives word_gives c before left old new)) (one_command words command other asked asks) (cut refl);
+    told = told;
+  }
+  cut_off_by_its_command draw_gives before after left store_failed first second third taken mid final status fault name is told cut five =
+      absurd (omega arith)
 
 -- by want of memory the chances may have begun
 pub memory_is_later : (command : Command) (fault : Fault) → fault ≡ Memory → IsBeforeSeeding command fault → ⊥

@@ -8,7 +8,9 @@ use Rattle.tool_command.specs.Command.{Command, format_image, show_image, drain_
 use Rattle.tool_ports.specs.Contents.{Contents, Holds}
 use Rattle.trace_text.specs.declared.schedule.Schedule.{Schedule}
 use Rattle.tool_run.specs.Inside.{IsDelivered}
+use Rattle.tool_run.specs.Lines.{Tells, write_line}
 use Rattle.tool_run.specs.Making.{HasHeap, HasSchedule, image_in}
+use Rattle.tool_run.specs.Outcome.{IsCutOff}
 
 -- of a drain: they began anew by the seed 0, and one chance was asked for, by the number 0
 pub record DrainAsks {C One : Type 0} (seed_gives : C → ℕ → C → Type 0) (chance_gives : C → ℕ → One → C → Type 0) (old new : C) : Type 0 where
@@ -73,3 +75,19 @@ pub record IsDoneWith (name : List ℕ) (old new : Contents) (taken taken' : Opt
   pub text : List ℕ
   pub is : holds image text
   pub delivered : IsDelivered name image text old new taken taken'
+
+-- an image, if any, and a text were made, of which this holds, and putting and printing them was cut off
+pub record IsCutOffWith (name : List ℕ) (old new : Contents) (store_failed : Type 0) (faults between : ℕ) (taken taken' : Option (List ℕ))
+    (holds : Option (List ℕ) → List ℕ → Type 0) : Type 0 where
+  pub image : Option (List ℕ)
+  pub text : List ℕ
+  pub is : holds image text
+  pub cut_off : IsCutOff name image text old new store_failed faults between taken taken'
+
+-- and the line on that was tried after it: `before` and `between` are what the sink had taken and counted by then
+pub record IsToldCutOff (name : List ℕ) (old new : Contents) (store_failed : Type 0) (faults faults' : ℕ) (taken taken' : Option (List ℕ))
+    (holds : Option (List ℕ) → List ℕ → Type 0) : Type 0 where
+  pub before : Option (List ℕ)
+  pub between : ℕ
+  pub cut : IsCutOffWith name old new store_failed faults between taken before holds
+  pub told : Tells write_line between faults' before taken'

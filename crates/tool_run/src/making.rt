@@ -1,5 +1,5 @@
 //! What each command makes, all of it before anything is put or printed.
-ghost use Rattle.std.specs.Prelude.{◌≡◌, ◌≤◌, ◌+◌, ℕ, IfOk, IfErr, OnOk, IsErrOf};
+ghost use Rattle.std.specs.Prelude.{◌≡◌, ◌⊎◌, ◌≤◌, ◌+◌, ℕ, IfOk, IfErr, OnOk, IsErrOf};
 ghost use Rattle.tool_ports.specs.Calls.{with_get};
 ghost use Rattle.tool_ports.specs.Causes.{RoseByOne};
 ghost use Rattle.tool_run.specs.Asking.{AsksOf};
@@ -64,6 +64,8 @@ pub fn make<R: Threads + Wait + Sync, I: ImageStore, T: Source, G: Gate + Sync, 
     ensures later { I.faults images.old ≤ I.faults images.new }
     ensures store_steady { ¬ (IsErrOf result Fault.ReadFault)
         → I.faults images.new ≡ I.faults images.old }
+    ensures one_failed { (I.faults images.new ≡ I.faults images.old)
+        ⊎ (T.faults trace.new ≡ T.faults trace.old) }
     ensures calls { I.calls images.new
         ≡ with_making (command_of command.entry) (I.calls images.old) }
     ensures seeded { OnOk result (BeginBy C.seed_gives C.chance_gives C.word_gives

@@ -4,7 +4,7 @@ ghost use Rattle.tool_ports.specs.Calls.{with_get, with_put};
 ghost use Rattle.tool_ports.specs.Causes.{Rose, RoseByOne};
 ghost use Rattle.tool_ports.specs.Contents.{told_of};
 ghost use Rattle.tool_ports.specs.Left.{IsAtEnd, GivesAtMost};
-ghost use Rattle.tool_run.specs.Asking.{AsksOf, IsDoneWith};
+ghost use Rattle.tool_run.specs.Asking.{AsksOf, IsDoneWith, IsCutOffWith, IsToldCutOff};
 ghost use Rattle.tool_run.specs.Calls.{get_limit, with_command, with_status};
 ghost use Rattle.tool_command.specs.Command.{Command, Asks, AsksToFormat, AsksToGen, IsUsage, texts, image_name};
 ghost use Rattle.tool_command.specs.Invocations.{command_of};
@@ -110,9 +110,12 @@ pub fn run_tool<
     ensures has_ended { (name : List ℕ) → AsksForSource (texts words.now) name
         → result ≡ done → T.has_ended trace.new }
 
-    // No failed call of the store is passed over, nor a failed write of a result.
+    // No failed call of the store is passed over, nor a failed write of a result; and of store and
+    // source at most one has failed.
     ensures no_failed_call { result ≢ read_fault → result ≢ write_fault
         → I.faults images.new ≡ I.faults images.old }
+    ensures one_failed { (I.faults images.new ≡ I.faults images.old)
+        ⊎ (T.faults trace.new ≡ T.faults trace.old) }
     ensures no_failed_write { result ≡ done → O.faults out.new ≡ O.faults out.old }
 
     // How often the store is called: not at all, or for one get, for one put, or for both.
@@ -137,7 +140,7 @@ pub fn run_tool<
         → result ≡ out_of_memory → I.calls images.new ≡ I.calls images.old }
 
     // By which seed the chances begin, where a result was made, and for what they are asked behind
-    // that, at 0: where a run or rebuild was stopped, the image that is put has the words that they
+    // that: where a run or rebuild was stopped, the image that was to be put has the words that they
     // gave for what a crash leaves at random. What else a rebuild leaves is by the numbers that its
     // chance gave. They are as they were where there is no seed; so they are where there is no
     // result, but for want of memory and a replay at 8.
@@ -148,6 +151,13 @@ pub fn run_tool<
     ensures asked { (command : Command) → Asks (texts words.now) command → result ≡ done
         → IsDoneWith (image_name command) (I.contents images.old) (I.contents images.new)
         (O.taken out.old) (O.taken out.new)
+        (AsksOf C.seed_gives C.chance_gives C.One.draw_gives C.word_gives command
+        (I.contents images.old) (T.left trace.old) chances.old chances.new) }
+    ensures asked_cut_off { (command : Command) → Asks (texts words.now) command
+        → result ≡ write_fault
+        → IsToldCutOff (image_name command) (I.contents images.old) (I.contents images.new)
+        (RoseByOne (I.faults images.old) (I.faults images.new))
+        (O.faults out.old) (O.faults out.new) (O.taken out.old) (O.taken out.new)
         (AsksOf C.seed_gives C.chance_gives C.One.draw_gives C.word_gives command
         (I.contents images.old) (T.left trace.old) chances.old chances.new) }
     ensures no_chance { LeavesChances result
@@ -256,6 +266,8 @@ fn carry_out<
     ensures later_sink { O.faults out.old ≤ O.faults out.new }
     ensures store_steady { ¬ (IsErrOf result Fault.ReadFault)
         → ¬ (IsErrOf result Fault.WriteFault) → I.faults images.new ≡ I.faults images.old }
+    ensures one_failed { (I.faults images.new ≡ I.faults images.old)
+        ⊎ (T.faults trace.new ≡ T.faults trace.old) }
     ensures sink_steady { ¬ (IsErrOf result Fault.WriteFault)
         → O.faults out.new ≡ O.faults out.old }
     ensures calls { OnOk result
@@ -269,6 +281,14 @@ fn carry_out<
         (seed_of (command_of command.entry)) chances.old chances.new) }
     ensures asked { OnOk result (IsDoneWith (image_name (command_of command.entry))
         (I.contents images.old) (I.contents images.new) (O.taken out.old) (O.taken out.new)
+        (AsksOf C.seed_gives C.chance_gives C.One.draw_gives C.word_gives
+        (command_of command.entry) (I.contents images.old) (T.left trace.old)
+        chances.old chances.new)) }
+    ensures asked_cut_off { IfErr result (λ fault. status_of fault ≡ write_fault
+        → IsCutOffWith (image_name (command_of command.entry))
+        (I.contents images.old) (I.contents images.new)
+        (RoseByOne (I.faults images.old) (I.faults images.new))
+        (O.faults out.old) (O.faults out.new) (O.taken out.old) (O.taken out.new)
         (AsksOf C.seed_gives C.chance_gives C.One.draw_gives C.word_gives
         (command_of command.entry) (I.contents images.old) (T.left trace.old)
         chances.old chances.new)) }

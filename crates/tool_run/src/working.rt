@@ -1,5 +1,5 @@
 //! Runs the trace that the source has left over a named image.
-ghost use Rattle.std.specs.Prelude.{◌≡◌, ◌≤◌, ◌+◌, ℕ, IfOk, IfErr, OnOk, IsErrOf};
+ghost use Rattle.std.specs.Prelude.{◌≡◌, ◌⊎◌, ◌≤◌, ◌+◌, ℕ, IfOk, IfErr, OnOk, IsErrOf};
 ghost use Rattle.image_run.specs.Running.{options_of};
 ghost use Rattle.tool_ports.specs.Calls.{with_get};
 ghost use Rattle.tool_ports.specs.Causes.{RoseByOne};
@@ -58,6 +58,8 @@ pub fn run_command<R: Threads + Wait + Sync, I: ImageStore, T: Source, G: Gate +
     ensures later { I.faults images.old ≤ I.faults images.new }
     ensures store_steady { ¬ (IsErrOf result Fault.ReadFault)
         → I.faults images.new ≡ I.faults images.old }
+    ensures one_failed { (I.faults images.new ≡ I.faults images.old)
+        ⊎ (T.faults trace.new ≡ T.faults trace.old) }
     ensures calls { I.calls images.new ≡ with_get get_limit (I.calls images.old) }
     ensures seeded { IfOk result (λ _. ComesFromSeed C.seed_gives C.chance_gives C.word_gives
         chances.old options.seed chances.new) }

@@ -1,4 +1,4 @@
-use Rattle.std.proofs.Common.{ℕ, List, IfErr, refl, sym, ap, subst}
+use Rattle.std.proofs.Common.{ℕ, List, IfErr, inr, refl, sym, ap, subst}
 use Rattle.std.proofs.lemmas.Result.{IfErr-weaker}
 use Rattle.tool_command.specs.declared.command.Invocation.{Invocation}
 use Rattle.tool_command.specs.Command.{image_name, count_image}
@@ -59,3 +59,30 @@ returns-in-Conservative-clause-at_most g c = none_taken _ _
 
 pub returns-in-Count-clause-at_most : goal.returns-in-Count-clause-at_most
 returns-in-Count-clause-at_most g c = none_taken _ _
+
+pub returns-in_err-empty_image-in-Format-clause-one_failed : goal.returns-in_err-empty_image-in-Format-clause-one_failed
+returns-in_err-empty_image-in-Format-clause-one_failed g c = inr refl
+
+pub returns-in_ok-empty_image-in-Format-clause-one_failed : goal.returns-in_ok-empty_image-in-Format-clause-one_failed
+returns-in_ok-empty_image-in-Format-clause-one_failed g c = inr refl
+
+pub returns-in-Show-clause-one_failed : goal.returns-in-Show-clause-one_failed
+returns-in-Show-clause-one_failed g c = inr refl
+
+pub returns-in-Drain-clause-one_failed : goal.returns-in-Drain-clause-one_failed
+returns-in-Drain-clause-one_failed g c = inr refl
+
+pub returns-in_err-generate-in-Gen-clause-one_failed : goal.returns-in_err-generate-in-Gen-clause-one_failed
+returns-in_err-generate-in-Gen-clause-one_failed g c = inr refl
+
+pub returns-in_ok-generate-in-Gen-clause-one_failed : goal.returns-in_ok-generate-in-Gen-clause-one_failed
+returns-in_ok-generate-in-Gen-clause-one_failed g c = inr refl
+
+pub returns-in-Rebuild-clause-one_failed : goal.returns-in-Rebuild-clause-one_failed
+returns-in-Rebuild-clause-one_failed g c = inr refl
+
+pub returns-in-Conservative-clause-one_failed : goal.returns-in-Conservative-clause-one_failed
+returns-in-Conservative-clause-one_failed g c = inr refl
+
+pub returns-in-Count-clause-one_failed : goal.returns-in-Count-clause-one_failed
+returns-in-Count-clause-one_failed g c = inr refl

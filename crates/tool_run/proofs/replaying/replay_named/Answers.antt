@@ -1,4 +1,4 @@
-use Rattle.std.proofs.Common.{refl, subst}
+use Rattle.std.proofs.Common.{inl, inr, refl, subst}
 use Rattle.tool_run.specs.Inside.{IsBeforeReading}
 use Rattle.tool_run.specs.declared.fault.Fault.TheVariants.{ReadFault}
 use Rattle.tool_command.specs.Command.{replay_image}
@@ -113,3 +113,15 @@ returns-in_err-product-clause-store_steady g c other = c.in_ok-recovered.ensures
 
 pub returns-clause-store_steady : goal.returns-clause-store_steady
 returns-clause-store_steady g c other = c.in_ok-recovered.ensures.store_steady (not_err _ _)
+
+pub returns-in_err-recovered-clause-one_failed : goal.returns-in_err-recovered-clause-one_failed
+returns-in_err-recovered-clause-one_failed g c = inr refl
+
+pub returns-in_err-schedule-clause-one_failed : goal.returns-in_err-schedule-clause-one_failed
+returns-in_err-schedule-clause-one_failed g c = inl (c.in_ok-recovered.ensures.store_steady (not_err _ _))
+
+pub returns-in_err-product-clause-one_failed : goal.returns-in_err-product-clause-one_failed
+returns-in_err-product-clause-one_failed g c = inl (c.in_ok-recovered.ensures.store_steady (not_err _ _))
+
+pub returns-clause-one_failed : goal.returns-clause-one_failed
+returns-clause-one_failed g c = inl (c.in_ok-recovered.ensures.store_steady (not_err _ _))

@@ -1,9 +1,9 @@
-use Rattle.tool_run.proofs.SeedLemmas.{by_its_command, by_its_seed, cut_off_by_its_seed, before_seeding}
+use Rattle.tool_run.proofs.SeedLemmas.{by_its_command, by_its_seed, cut_off_by_its_seed, cut_off_by_its_command, before_seeding}
 use Rattle.tool_run.proofs.StatusLemmas.{has_status, is_read_fault, is_write_fault, is_bad_header, is_outside, is_bad_shard, is_absent, is_bad_trace, is_own_line, for_source, before_reading}
 use Rattle.std.proofs.Common.{rules, sym, ◌∙◌}
 use Rattle.tool_run.proofs.CallLemmas.{rose_by_then}
 use Rattle.tool_run.proofs.ReadingLemmas.{none_taken, not_err, not_told}
-use Rattle.tool_run.proofs.PutBackLemmas.{not_done as never_done, carried_once, put_once, looked_once, got_alone}
+use Rattle.tool_run.proofs.PutBackLemmas.{not_done as never_done, carried_once, put_once, looked_once, got_alone, never_called, formatted_once}
 use Rattle.tool_run.proofs.AbsentLemmas.{stops_absent, not_done_absent}
 use Rattle.tool_run.proofs.BadTraceLemmas.{stops_bad_line, stops_too_long, done_bad_line, done_too_long}
 use Rattle.tool_run.proofs.BadScheduleLemmas.{stops_bad_step, stops_schedule_too_long, done_bad_step, done_schedule_too_long}
@@ -34,6 +34,12 @@ returns-in-Ok-carry_out-clause-asked g c other asks ended =
     by_its_command g.C.Chances.seed_gives g.C.Chances.chance_gives g.C.Chances.word_gives _ _ other c.args.chances.now c.carry_out.new.chances
     c.in-Ok.ensures.ok asks
     _ _ _ _ _ _ c.in-Ok-carry_out.ensures.asked
+
+pub returns-in-Err-clause-asked_cut_off : goal.returns-in-Err-clause-asked_cut_off
+returns-in-Err-clause-asked_cut_off g c other asks =
+    cut_off_by_its_command g.C.Chances.seed_gives g.C.Chances.chance_gives g.C.Chances.word_gives _ _ other c.args.chances.now
+    c.carry_out.new.chances c.in-Ok.ensures.ok asks _ _ _ _ _ _ _ _ _ _ _ _ c.in-Err.fault _ c.tell-in-Err.ensures.status
+    c.tell-in-Err.ensures.told c.in-Err.ensures.asked_cut_off
 
 pub returns-in-Err-clause-asked : goal.returns-in-Err-clause-asked
 returns-in-Err-clause-asked g c other asks ended = absurd (never_done c.in-Err.fault (sym c.tell-in-Err.ensures.status ∙ ended))
@@ -251,3 +257,11 @@ returns-in-Ok-carry_out-clause-never_asked g c none = c.carry_out.ensures.never_
 
 pub returns-in-Err-clause-never_asked : goal.returns-in-Err-clause-never_asked
 returns-in-Err-clause-never_asked g c none = c.carry_out.ensures.never_asked (none _ c.in-Ok.ensures.ok)
+
+pub returns-in-Err-clause-no_call_for_a_trace : goal.returns-in-Err-clause-no_call_for_a_trace
+returns-in-Err-clause-no_call_for_a_trace g c = never_called _ _ _ _ c.in-Err.fault c.in-Ok.ensures.ok c.in-Err.ensures.calls_err
+
+pub returns-in-Err-clause-one_put : goal.returns-in-Err-clause-one_put
+returns-in-Err-clause-one_put g c =
+    formatted_once _ _ _ _ _ c.in-Err.fault _ _ _ _ _ _ _ _ _ c.in-Ok.ensures.ok c.in-Err.ensures.calls_err c.tell-in-Err.ensures.status
+    c.in-Err.ensures.err

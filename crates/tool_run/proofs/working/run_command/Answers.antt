@@ -1,4 +1,4 @@
-use Rattle.std.proofs.Common.{◌≡◌, List, IsSomeAnd, refl, sym, subst, slice_index}
+use Rattle.std.proofs.Common.{List, IsSomeAnd, inl, inr, refl, sym, subst, slice_index}
 use Rattle.image_run.specs.Running.{RunsRequests, options_of}
 use Rattle.tool_command.specs.Command.{run_image}
 use Rattle.worker_run.specs.Said.{Line, requests_of, ValuesAreShort}
@@ -76,3 +76,15 @@ returns-in_err-product-clause-store_steady g c other = c.in_ok-mapped.ensures.st
 
 pub returns-clause-store_steady : goal.returns-clause-store_steady
 returns-clause-store_steady g c other = c.in_ok-mapped.ensures.store_steady (not_err _ _)
+
+pub returns-in_err-mapped-clause-one_failed : goal.returns-in_err-mapped-clause-one_failed
+returns-in_err-mapped-clause-one_failed g c = inr refl
+
+pub returns-in_err-requests-clause-one_failed : goal.returns-in_err-requests-clause-one_failed
+returns-in_err-requests-clause-one_failed g c = inl (c.in_ok-mapped.ensures.store_steady (not_err _ _))
+
+pub returns-in_err-product-clause-one_failed : goal.returns-in_err-product-clause-one_failed
+returns-in_err-product-clause-one_failed g c = inl (c.in_ok-mapped.ensures.store_steady (not_err _ _))
+
+pub returns-clause-one_failed : goal.returns-clause-one_failed
+returns-clause-one_failed g c = inl (c.in_ok-mapped.ensures.store_steady (not_err _ _))
