@@ -1,5 +1,5 @@
 -- The status of a call of the tool, by equal words, and where memory ran out before there were words.
-use Rattle.std.proofs.Common.{◌≡◌, ℕ, ◌+◌, List, Option, inr, lit<, refl, sym, subst, arith}
+use Rattle.std.proofs.Common.{◌≡◌, ℕ, ◌+◌, List, Option, inl, inr, lit<, refl, sym, subst, arith}
 use Rattle.tool_ports.specs.Left.{GivesAtMost}
 use Rattle.tool_run.specs.Lines.{memory_line}
 use Rattle.tool_run.specs.Making.{longest_trace}
@@ -28,6 +28,7 @@ told_memory words old new status is same unread steady stands told = subst (λ (
       (none_taken (longest_trace + 1) old.left);
   no_failed_read = λ other. steady;
   no_failed_call = λ read write. stands;
+  one_failed = inl stands;
   no_failed_write = λ e. absurd (omega (arith, e));
   always_usage = λ asks. inr refl;
   complete = λ command asks can store source sink. inr refl;

@@ -48,6 +48,7 @@ pub record IsStatusOf (words : List (List ℕ)) (old new : Seen) (status : ℕ) 
   pub read_at_most : GivesAtMost (longest_trace + 1) old.left new.left
   pub no_failed_read : status ≢ read_fault → new.source_faults ≡ old.source_faults
   pub no_failed_call : status ≢ read_fault → status ≢ write_fault → new.store_faults ≡ old.store_faults
+  pub one_failed : (new.store_faults ≡ old.store_faults) ⊎ (new.source_faults ≡ old.source_faults)
   pub no_failed_write : status ≡ done → new.sink_faults ≡ old.sink_faults
   pub always_usage : IsUsage words → (status ≡ usage) ⊎ (status ≡ out_of_memory)
   pub complete : (command : Command) → Asks words command → CanBeDone command old.contents old.left

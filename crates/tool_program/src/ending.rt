@@ -4,14 +4,15 @@ ghost use Rattle.std.specs.IoError.{error_kind};
 ghost use Rattle.std.specs.Process.{exit_status};
 ghost use Rattle.std.specs.String.{string_bytes};
 ghost use Rattle.tool_command.specs.Command.{Command, Asks, image_name};
+ghost use Rattle.tool_ports.specs.Causes.{RoseByOne};
 ghost use Rattle.tool_program.specs.Calls.{CallsStore, ReadsSourceInTurn, AsksChances};
 ghost use Rattle.tool_program.specs.Ending.{IsStatusOf};
 ghost use Rattle.tool_program.specs.Errors.{IsHelp, TellsHelp};
 ghost use Rattle.tool_program.specs.Words.{words_behind};
-ghost use Rattle.tool_run.specs.Asking.{AsksOf, IsDoneWith};
+ghost use Rattle.tool_run.specs.Asking.{AsksOf, IsDoneWith, IsToldCutOff};
 ghost use Rattle.tool_run.specs.Lines.{Tells};
 ghost use Rattle.tool_run.specs.Outcome.{AsksForSource};
-ghost use Rattle.tool_run.specs.Status.{done, out_of_memory, usage};
+ghost use Rattle.tool_run.specs.Status.{done, out_of_memory, usage, write_fault};
 
 use crate::complaint::complaint_on;
 use crate::usage::USAGE;
@@ -80,6 +81,13 @@ pub fn run_line<
         (O.taken out.old) (O.taken out.new)
         (AsksOf C.seed_gives C.chance_gives C.One.draw_gives C.word_gives command
         (I.contents images.old) (T.left trace.old) chances.old chances.new) }
+    ensures asked_cut_off { (command : Command) → Asks (words_behind args) command
+        → exit_status result ≡ write_fault
+        → IsToldCutOff (image_name command) (I.contents images.old) (I.contents images.new)
+        (RoseByOne (I.faults images.old) (I.faults images.new))
+        (O.faults out.old) (O.faults out.new) (O.taken out.old) (O.taken out.new)
+        (AsksOf C.seed_gives C.chance_gives C.One.draw_gives C.word_gives command
+        (I.contents images.old) (T.left trace.old) chances.old chances.new) }
     ensures no_memory { IsErrAnd args (λ e. error_kind e ≡ ErrorKind.OutOfMemory)
         → exit_status result ≡ out_of_memory }
     ensures help { exit_status result ≡ usage → TellsHelp
@@ -140,6 +148,13 @@ fn answer<
     ensures asked { (command : Command) → Asks (words_behind args) command → result ≡ done
         → IsDoneWith (image_name command) (I.contents images.old) (I.contents images.new)
         (O.taken out.old) (O.taken out.new)
+        (AsksOf C.seed_gives C.chance_gives C.One.draw_gives C.word_gives command
+        (I.contents images.old) (T.left trace.old) chances.old chances.new) }
+    ensures asked_cut_off { (command : Command) → Asks (words_behind args) command
+        → result ≡ write_fault
+        → IsToldCutOff (image_name command) (I.contents images.old) (I.contents images.new)
+        (RoseByOne (I.faults images.old) (I.faults images.new))
+        (O.faults out.old) (O.faults out.new) (O.taken out.old) (O.taken out.new)
         (AsksOf C.seed_gives C.chance_gives C.One.draw_gives C.word_gives command
         (I.contents images.old) (T.left trace.old) chances.old chances.new) }
     ensures no_memory { IsErrAnd args (λ e. error_kind e ≡ ErrorKind.OutOfMemory)

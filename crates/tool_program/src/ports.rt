@@ -3,14 +3,15 @@ ghost use Rattle.std.specs.Prelude.{◌≡◌, ◌≢◌, ℕ, List, IsErrAnd};
 ghost use Rattle.std.specs.IoError.{error_kind};
 ghost use Rattle.std.specs.Process.{exit_status};
 ghost use Rattle.tool_command.specs.Command.{Command, Asks, image_name};
+ghost use Rattle.tool_ports.specs.Causes.{RoseByOne};
 ghost use Rattle.tool_program.specs.Calls.{CallsStore, ReadsSourceInTurn};
 ghost use Rattle.tool_program.specs.Ending.{IsStatusOf};
 ghost use Rattle.tool_program.specs.Errors.{TellsHelp};
 ghost use Rattle.tool_program.specs.Seeds.{IsMadeBySeed};
 ghost use Rattle.tool_program.specs.Words.{words_behind};
-ghost use Rattle.tool_run.specs.Asking.{IsDoneWith};
+ghost use Rattle.tool_run.specs.Asking.{IsDoneWith, IsToldCutOff};
 ghost use Rattle.tool_run.specs.Outcome.{AsksForSource};
-ghost use Rattle.tool_run.specs.Status.{done, out_of_memory, usage};
+ghost use Rattle.tool_run.specs.Status.{done, out_of_memory, usage, write_fault};
 
 use crate::ending::run_line;
 use std::alloc::Global;
@@ -61,6 +62,12 @@ pub fn run_ports<R: Threads + Wait + Sync, I: ImageStore, T: Source, O: Sink, H:
         → exit_status result ≡ done
         → IsDoneWith (image_name command) (I.contents images.old) (I.contents images.new)
         (O.taken out.old) (O.taken out.new)
+        (IsMadeBySeed command (I.contents images.old) (T.left trace.old)) }
+    ensures by_seed_cut_off { (command : Command) → Asks (words_behind args) command
+        → exit_status result ≡ write_fault
+        → IsToldCutOff (image_name command) (I.contents images.old) (I.contents images.new)
+        (RoseByOne (I.faults images.old) (I.faults images.new))
+        (O.faults out.old) (O.faults out.new) (O.taken out.old) (O.taken out.new)
         (IsMadeBySeed command (I.contents images.old) (T.left trace.old)) }
     ensures no_memory { IsErrAnd args (λ e. error_kind e ≡ ErrorKind.OutOfMemory)
         → exit_status result ≡ out_of_memory }

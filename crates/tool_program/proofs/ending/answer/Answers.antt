@@ -24,6 +24,7 @@ returns-in-Ok-clause-status g c =
       read_at_most = did.read_at_most;
       no_failed_read = did.no_failed_read;
       no_failed_call = did.no_failed_call;
+      one_failed = did.one_failed;
       no_failed_write = did.no_failed_write;
       always_usage = did.always_usage;
       complete = did.complete;
@@ -84,3 +85,11 @@ returns-in-Ok-clause-asked g c command asks =
 
 pub returns-in-Err-clause-asked : goal.returns-in-Err-clause-asked
 returns-in-Err-clause-asked g c command asks done = absurd (omega (arith, c.tell_out_of_memory.ensures.status, done))
+
+pub returns-in-Ok-clause-asked_cut_off : goal.returns-in-Ok-clause-asked_cut_off
+returns-in-Ok-clause-asked_cut_off g c command asks =
+    c.run_tool-status.ensures.asked_cut_off command (subst (λ (ws : List (List ℕ)). Asks ws command)
+    (sym (ap texts c.deref.ensures.value ∙ c.in-Ok.ensures.ok)) asks)
+
+pub returns-in-Err-clause-asked_cut_off : goal.returns-in-Err-clause-asked_cut_off
+returns-in-Err-clause-asked_cut_off g c command asks cut = absurd (omega (arith, c.tell_out_of_memory.ensures.status, cut))

@@ -22,3 +22,7 @@ returns-clause-chances g c =
 
 pub returns-clause-asked : goal.returns-clause-asked
 returns-clause-asked g c command asks done = c.answer-status.ensures.asked command asks (sym (c.from.ensures ∙ c.code.ensures) ∙ done)
+
+pub returns-clause-asked_cut_off : goal.returns-clause-asked_cut_off
+returns-clause-asked_cut_off g c command asks cut =
+    c.answer-status.ensures.asked_cut_off command asks (sym (c.from.ensures ∙ c.code.ensures) ∙ cut)
