@@ -9,6 +9,8 @@ mod harness;
 #[cfg(test)]
 mod help;
 #[cfg(test)]
+mod refused_lines;
+#[cfg(test)]
 mod said;
 #[cfg(test)]
 mod seeds;

@@ -36,6 +36,7 @@ pub fn make<C: Chances>(
 ) -> Result<(u8, Vec<u8>), AllocError> {
     let words = words_of(rt.alloc(), line)?;
     let mut out = VecSink::new(rt.alloc(), Vec::new(rt.alloc()), ROOM, ROOM)?;
+    let mut help = VecSink::new(rt.alloc(), Vec::new(rt.alloc()), ROOM, 0)?;
     let mut trace = BytesSource::new(Vec::new(rt.alloc()), 1 << 20, trace);
     let status = run_tool(
         rt,
@@ -44,6 +45,7 @@ pub fn make<C: Chances>(
         images,
         &mut trace,
         &mut out,
+        &mut help,
         &OpenGate,
         chances,
     );

@@ -29,9 +29,10 @@ StoreFailed old new = RoseByOne old.store_faults new.store_faults
 abbrev pub SourceFailed : Seen → Seen → Type 0
 SourceFailed old new = RoseByOne old.source_faults new.source_faults
 
--- The tool was run on the words, and this is its status: what each status says, how the source was
+-- The tool was run on the words, and this is its status: what each status says, with what the standard error was told of a trace
+-- (`Explained`), how the source was
 -- read, and that nothing but want of memory or a failure keeps it from a result that can be had.
-pub record IsStatusOf (words : List (List ℕ)) (old new : Seen) (status : ℕ) : Type 0 where
+pub record IsStatusOf (words : List (List ℕ)) (old new : Seen) (Explained : Option (List ℕ) → Type 0) (status : ℕ) : Type 0 where
   pub known : Contains statuses status
   pub ok : status ≡ done → IsDone words old.contents new.contents old.left old.taken new.taken
   pub no_command : status ≡ usage → IsUsage words
@@ -42,7 +43,7 @@ pub record IsStatusOf (words : List (List ℕ)) (old new : Seen) (status : ℕ) 
   pub cause : status ≡ bad_header → IsBadHeader words old.contents (IsTold old new)
   pub points_outside : status ≡ outside → IsOutsideAt words old.contents old.left (IsTold old new)
   pub no_map : status ≡ bad_shard → IsBadShardAt words old.contents (IsTold old new)
-  pub bad_line : status ≡ bad_trace → IsBadTrace words old.contents old.left (IsTold old new)
+  pub bad_line : status ≡ bad_trace → IsBadTrace words old.contents old.left (IsTold old new) Explained
   pub line : IfSome (own_line status) (IsTold old new)
   pub unchanged : LeavesStore status → new.contents ≡ old.contents
   pub read_at_most : GivesAtMost (longest_trace + 1) old.left new.left

@@ -10,9 +10,9 @@ ghost use Rattle.tool_program.specs.Ending.{IsStatusOf};
 ghost use Rattle.tool_program.specs.Errors.{IsHelp, TellsHelp};
 ghost use Rattle.tool_program.specs.Words.{words_behind};
 ghost use Rattle.tool_run.specs.Asking.{AsksOf, IsDoneWith, IsToldCutOff};
-ghost use Rattle.tool_run.specs.Lines.{Tells};
+ghost use Rattle.tool_run.specs.Lines.{Tells, Explains};
 ghost use Rattle.tool_run.specs.Outcome.{AsksForSource};
-ghost use Rattle.tool_run.specs.Status.{done, out_of_memory, usage, write_fault};
+ghost use Rattle.tool_run.specs.Status.{done, out_of_memory, usage, write_fault, bad_trace};
 
 use crate::complaint::complaint_on;
 use crate::usage::USAGE;
@@ -28,8 +28,9 @@ use tool_ports::{Chances, Gate, ImageStore, Sink, Source, write_all};
 use tool_run::{Status, run_tool, tell_out_of_memory};
 
 /// Does what the words behind the program's name ask for, and ends with the status of that. At
-/// status 2 it writes to `help` too: a line on what is wrong in the words, and the usage. At no
-/// other status it writes anything there.
+/// status 2 it writes to `help` too: a line on what is wrong in the words, and the usage. Where a
+/// line of a trace asks for nothing it writes one line there, on the cause. Else it writes nothing
+/// there.
 pub fn run_line<
     R: Threads + Wait + Sync,
     I: ImageStore,
@@ -66,7 +67,7 @@ pub fn run_line<
           source_faults = T.faults trace.new;
           sink_faults = O.faults out.new;
         })
-        (exit_status result) }
+        (Explains H.faults H.taken help.old help.new) (exit_status result) }
     ensures has_ended { (name : List ℕ) → AsksForSource (words_behind args) name
         → exit_status result ≡ done → T.has_ended trace.new }
     ensures calls { CallsStore (words_behind args) (exit_status result)
@@ -92,7 +93,8 @@ pub fn run_line<
         → exit_status result ≡ out_of_memory }
     ensures help { exit_status result ≡ usage → TellsHelp
         (H.faults help.old) (H.faults help.new) (H.taken help.old) (H.taken help.new) }
-    ensures no_help { exit_status result ≢ usage → help.new ≡ help.old }
+    ensures no_help { exit_status result ≢ usage → exit_status result ≢ bad_trace
+        → help.new ≡ help.old }
 {
     let status = answer(rt, alloc, args, images, trace, out, help, gate, chances);
     ExitCode::from(status.code())
@@ -136,7 +138,7 @@ fn answer<
           source_faults = T.faults trace.new;
           sink_faults = O.faults out.new;
         })
-        result }
+        (Explains H.faults H.taken help.old help.new) result }
     ensures has_ended { (name : List ℕ) → AsksForSource (words_behind args) name
         → result ≡ done → T.has_ended trace.new }
     ensures calls { CallsStore (words_behind args) result
@@ -161,11 +163,11 @@ fn answer<
         → result ≡ out_of_memory }
     ensures help { result ≡ usage → TellsHelp
         (H.faults help.old) (H.faults help.new) (H.taken help.old) (H.taken help.new) }
-    ensures no_help { result ≢ usage → help.new ≡ help.old }
+    ensures no_help { result ≢ usage → result ≢ bad_trace → help.new ≡ help.old }
 {
     match words_of(alloc, args) {
         Ok(words) => {
-            let status = run_tool(rt, alloc, &words, images, trace, out, gate, chances);
+            let status = run_tool(rt, alloc, &words, images, trace, out, help, gate, chances);
             tell_help(alloc, &words, status, help);
             status
         }

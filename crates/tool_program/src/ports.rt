@@ -10,8 +10,9 @@ ghost use Rattle.tool_program.specs.Errors.{TellsHelp};
 ghost use Rattle.tool_program.specs.Seeds.{IsMadeBySeed};
 ghost use Rattle.tool_program.specs.Words.{words_behind};
 ghost use Rattle.tool_run.specs.Asking.{IsDoneWith, IsToldCutOff};
+ghost use Rattle.tool_run.specs.Lines.{Explains};
 ghost use Rattle.tool_run.specs.Outcome.{AsksForSource};
-ghost use Rattle.tool_run.specs.Status.{done, out_of_memory, usage, write_fault};
+ghost use Rattle.tool_run.specs.Status.{done, out_of_memory, usage, write_fault, bad_trace};
 
 use crate::ending::run_line;
 use std::alloc::Global;
@@ -51,7 +52,7 @@ pub fn run_ports<R: Threads + Wait + Sync, I: ImageStore, T: Source, O: Sink, H:
           source_faults = T.faults trace.new;
           sink_faults = O.faults out.new;
         })
-        (exit_status result) }
+        (Explains H.faults H.taken help.old help.new) (exit_status result) }
     ensures has_ended { (name : List ℕ) → AsksForSource (words_behind args) name
         → exit_status result ≡ done → T.has_ended trace.new }
     ensures calls { CallsStore (words_behind args) (exit_status result)
@@ -73,7 +74,8 @@ pub fn run_ports<R: Threads + Wait + Sync, I: ImageStore, T: Source, O: Sink, H:
         → exit_status result ≡ out_of_memory }
     ensures help { exit_status result ≡ usage → TellsHelp
         (H.faults help.old) (H.faults help.new) (H.taken help.old) (H.taken help.new) }
-    ensures no_help { exit_status result ≢ usage → help.new ≡ help.old }
+    ensures no_help { exit_status result ≢ usage → exit_status result ≢ bad_trace
+        → help.new ≡ help.old }
 {
     let mut chances = SeededChances::new();
     run_line(

@@ -63,7 +63,7 @@ refused command contents name shard at get_failed status (Outside place value) r
     let same : why.0.bytes ≡ has.bytes = same_bytes contents (image_name command) name why.0.bytes has.bytes named why.0.is_there has.held in
     absurd (has.inside place (subst (λ (l : List ℕ). PointsOutside (image_in l) place) same why.0.points))
 refused command contents name shard at get_failed status (BadShard other place) reads named has is why = inl is
-refused command contents name shard at get_failed status (BadLine line) reads named has is why = absurd why
+refused command contents name shard at get_failed status (BadLine line cause) reads named has is why = absurd why
 refused command contents name shard at get_failed status (BadStep line) reads named has is why = absurd why
 refused command contents name shard at get_failed status TooLong reads named has is why = absurd why
 

@@ -38,7 +38,7 @@ by_trace : (left : Option (List ℕ)) (read_failed : Type 0) (status : ℕ) (fau
     → IsTraceFault left read_failed fault → IsRefusal status
 by_trace left read_failed status Memory is why = inr (inl is)
 by_trace left read_failed status ReadFault is why = inr (inr is)
-by_trace left read_failed status (BadLine line) is why = inl is
+by_trace left read_failed status (BadLine line cause) is why = inl is
 by_trace left read_failed status TooLong is why = inl is
 by_trace left read_failed status other is why = absurd why
 

@@ -40,7 +40,7 @@ wider_failure name text old new A A' faults between taken taken' image to Absent
 wider_failure name text old new A A' faults between taken taken' image to (Malformed cause) h = h
 wider_failure name text old new A A' faults between taken taken' image to (Outside at value) h = h
 wider_failure name text old new A A' faults between taken taken' image to (BadShard shard at) h = h
-wider_failure name text old new A A' faults between taken taken' image to (BadLine line) h = h
+wider_failure name text old new A A' faults between taken taken' image to (BadLine line cause) h = h
 wider_failure name text old new A A' faults between taken taken' image to (BadStep line) h = h
 wider_failure name text old new A A' faults between taken taken' image to TooLong h = h
 
@@ -160,7 +160,7 @@ module _ (command : Command) (contents : Contents) (left image : Option (List â„
   calls_undelivered name old new A faults between taken taken' (Err (Malformed cause)) why put not_put = absurd why
   calls_undelivered name old new A faults between taken taken' (Err (Outside at value)) why put not_put = absurd why
   calls_undelivered name old new A faults between taken taken' (Err (BadShard shard at)) why put not_put = absurd why
-  calls_undelivered name old new A faults between taken taken' (Err (BadLine line)) why put not_put = absurd why
+  calls_undelivered name old new A faults between taken taken' (Err (BadLine line cause)) why put not_put = absurd why
   calls_undelivered name old new A faults between taken taken' (Err (BadStep line)) why put not_put = absurd why
   calls_undelivered name old new A faults between taken taken' (Err TooLong) why put not_put = absurd why
 

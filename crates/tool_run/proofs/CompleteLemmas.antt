@@ -111,9 +111,9 @@ trace_good : (left : Option (List ℕ)) (read_failed : Type 0) (status : ℕ) (f
     → (status ≡ done) ⊎ (status ≡ out_of_memory)
 trace_good left read_failed status Memory has reads is why = inr is
 trace_good left read_failed status ReadFault has reads is why = absurd (reads why)
-trace_good left read_failed status (BadLine line) has reads is why =
+trace_good left read_failed status (BadLine line cause) has reads is why =
     let same : has.trace ≡ why.trace = of_left (λ all. all ≡ why.trace) left has.trace has.all why.has_trace.all in
-    absurd (read_or_outside (lines_of why.trace) has.lines line (subst (λ (l : List ℕ). AreLines (lines_of l) has.lines) same has.lines_are) why.first)
+    absurd (read_or_outside (lines_of why.trace) has.lines line (subst (λ (l : List ℕ). AreLines (lines_of l) has.lines) same has.lines_are) why.first.first)
 trace_good left read_failed status TooLong has reads is why =
     let more = of_left (λ all. longest_trace < length all) left has.trace has.all why in
     let short = has.short in
@@ -152,7 +152,7 @@ replay_good contents left name read_failed status WriteFault has reads is why = 
 replay_good contents left name read_failed status Absent has reads is why = absurd why
 replay_good contents left name read_failed status (Malformed cause) has reads is why = absurd why
 replay_good contents left name read_failed status (BadShard shard at) has reads is why = absurd why
-replay_good contents left name read_failed status (BadLine line) has reads is why = absurd why
+replay_good contents left name read_failed status (BadLine line cause) has reads is why = absurd why
 
 module _ (command : Command) (contents : Contents) (left : Option (List ℕ)) (get_failed : Type 0) (status : ℕ)
     (can : CanBeDone command contents left) (works : get_failed → ⊥) where
@@ -182,7 +182,7 @@ module _ (command : Command) (contents : Contents) (left : Option (List ℕ)) (g
       let map = has.maps shard why.1.lowest.below in
       absurd (no_bad_shard (image_in has.bytes) shard at map.0 map.1
       (subst (λ (l : List ℕ). IsBadShard (image_in l) shard at) same why.1.lowest.bad))
-  refused (BadLine line) is why = absurd why
+  refused (BadLine line cause) is why = absurd why
   refused (BadStep line) is why = absurd why
   refused TooLong is why = absurd why
 
@@ -207,7 +207,7 @@ undelivered name image text old new store_failed faults between taken taken' sta
 undelivered name image text old new store_failed faults between taken taken' status (Malformed cause) store sink is why = absurd why
 undelivered name image text old new store_failed faults between taken taken' status (Outside at value) store sink is why = absurd why
 undelivered name image text old new store_failed faults between taken taken' status (BadShard shard at) store sink is why = absurd why
-undelivered name image text old new store_failed faults between taken taken' status (BadLine line) store sink is why = absurd why
+undelivered name image text old new store_failed faults between taken taken' status (BadLine line cause) store sink is why = absurd why
 undelivered name image text old new store_failed faults between taken taken' status (BadStep line) store sink is why = absurd why
 undelivered name image text old new store_failed faults between taken taken' status TooLong store sink is why = absurd why
 

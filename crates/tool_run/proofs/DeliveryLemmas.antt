@@ -21,7 +21,7 @@ not_put_at name image text old new put_failed faults taken Absent h = h
 not_put_at name image text old new put_failed faults taken (Malformed cause) h = h
 not_put_at name image text old new put_failed faults taken (Outside at value) h = h
 not_put_at name image text old new put_failed faults taken (BadShard shard at) h = h
-not_put_at name image text old new put_failed faults taken (BadLine line) h = h
+not_put_at name image text old new put_failed faults taken (BadLine line cause) h = h
 not_put_at name image text old new put_failed faults taken (BadStep line) h = h
 not_put_at name image text old new put_failed faults taken TooLong h = h
 

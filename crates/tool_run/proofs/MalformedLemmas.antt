@@ -74,7 +74,7 @@ refused command contents name get_failed status Absent named has is why =
     let none : Some has.bytes ≡ None = of_told (λ image. image ≡ None) contents (image_name command) name (Some has.bytes) named why.1 has.held in
     absurd (cc)
 refused command contents name get_failed status (Malformed cause) named has is why = inl is
-refused command contents name get_failed status (BadLine line) named has is why = absurd why
+refused command contents name get_failed status (BadLine line cause) named has is why = absurd why
 refused command contents name get_failed status (BadStep line) named has is why = absurd why
 refused command contents name get_failed status TooLong named has is why = absurd why
 refused command contents name get_failed status (BadShard shard place) named has is why =

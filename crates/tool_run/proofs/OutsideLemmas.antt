@@ -88,7 +88,7 @@ refused command contents name at get_failed status (BadShard shard place) has re
     let same : why.1.bytes ≡ has.bytes = same_bytes contents (image_name command) name why.1.bytes has.bytes named why.1.is_there has.held in
     absurd (why.1.inside at (subst (λ (l : List ℕ). PointsOutside (image_in l) at) (sym same) has.points))
 refused command contents name at get_failed status (Outside place value) has refuses named is why = inl is
-refused command contents name at get_failed status (BadLine line) has refuses named is why = absurd why
+refused command contents name at get_failed status (BadLine line cause) has refuses named is why = absurd why
 refused command contents name at get_failed status (BadStep line) has refuses named is why = absurd why
 refused command contents name at get_failed status TooLong has refuses named is why = absurd why
 

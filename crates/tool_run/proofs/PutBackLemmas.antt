@@ -92,7 +92,7 @@ format_refused image capacity contents A (Outside at value) other why = why.1
 format_refused image capacity contents A (BadShard shard at) other why = why.0
 format_refused image capacity contents A Usage other why = why
 format_refused image capacity contents A WriteFault other why = why
-format_refused image capacity contents A (BadLine line) other why = why
+format_refused image capacity contents A (BadLine line cause) other why = why
 format_refused image capacity contents A (BadStep line) other why = why
 format_refused image capacity contents A TooLong other why = why
 
@@ -108,7 +108,7 @@ undelivered name text image old new A faults between taken taken' Absent other w
 undelivered name text image old new A faults between taken taken' (Malformed cause) other why = absurd why
 undelivered name text image old new A faults between taken taken' (Outside at value) other why = absurd why
 undelivered name text image old new A faults between taken taken' (BadShard shard at) other why = absurd why
-undelivered name text image old new A faults between taken taken' (BadLine line) other why = absurd why
+undelivered name text image old new A faults between taken taken' (BadLine line cause) other why = absurd why
 undelivered name text image old new A faults between taken taken' (BadStep line) other why = absurd why
 undelivered name text image old new A faults between taken taken' TooLong other why = absurd why
 

@@ -36,7 +36,7 @@ was_read contents left name seed B Absent why before = why
 was_read contents left name seed B (Malformed cause) why before = why
 was_read contents left name seed B (Outside at value) why before = before tt
 was_read contents left name seed B (BadShard shard at) why before = why
-was_read contents left name seed B (BadLine line) why before = why
+was_read contents left name seed B (BadLine line cause) why before = why
 was_read contents left name seed B (BadStep line) why before = before
 was_read contents left name seed B TooLong why before = before
 

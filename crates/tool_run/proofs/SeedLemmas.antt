@@ -110,6 +110,6 @@ before_seeding words command status (Malformed cause) asked is leaves no_replay 
 before_seeding words command status (Outside at value) asked is leaves no_replay =
     λ replays. no_replay is (image_name command) (for_replay words command replays asked)
 before_seeding words command status (BadShard shard at) asked is leaves no_replay = tt
-before_seeding words command status (BadLine line) asked is leaves no_replay = tt
+before_seeding words command status (BadLine line cause) asked is leaves no_replay = tt
 before_seeding words command status (BadStep line) asked is leaves no_replay = tt
 before_seeding words command status TooLong asked is leaves no_replay = tt

@@ -4,8 +4,8 @@ use Rattle.tool_ports.specs.Contents.{Contents}
 use Rattle.tool_command.specs.Command.{Command, format_image, show_image, drain_image, gen_trace, run_image, rebuild_image, replay_image, conservative_image, count_image, image_name, Asks}
 use Rattle.tool_run.specs.declared.fault.Fault.{Fault}
 use Rattle.tool_run.specs.declared.fault.Fault.TheVariants.{Usage, Memory, ReadFault, WriteFault, Absent, Malformed, Outside, BadShard, BadLine, BadStep, TooLong}
-use Rattle.tool_run.specs.Inside.{IsStopped, IsBeforeReading, status_of, line_of}
-use Rattle.tool_run.specs.Lines.{Tells}
+use Rattle.tool_run.specs.Inside.{IsStopped, IsBeforeReading, status_of, line_of, explanation_of}
+use Rattle.tool_run.specs.Lines.{Tells, Explains}
 use Rattle.tool_run.specs.Making.{RunsATrace, ReplaysASchedule, ReadsSource}
 use Rattle.tool_run.specs.Outcome.{AsksForRun, AsksForReplay, AsksForSource, IsReadFault, at_image, at_trace, at_schedule, IsWriteFault, IsAbsent, IsBadHeader, IsOutsideAt, in_image, in_image_left, IsBadShardAt, IsBadTrace, at_line, too_long, at_step, schedule_too_long}
 use Rattle.tool_run.specs.Status.{statuses, own_line, IsBeforeTrace, usage, read_fault, write_fault, no_image, bad_header, outside, bad_shard, bad_trace}
@@ -21,7 +21,7 @@ has_status Absent status is = rw is (5, lit< tt, refl)
 has_status (Malformed cause) status is = rw is (6, lit< tt, refl)
 has_status (Outside at value) status is = rw is (7, lit< tt, refl)
 has_status (BadShard shard at) status is = rw is (8, lit< tt, refl)
-has_status (BadLine line) status is = rw is (9, lit< tt, refl)
+has_status (BadLine line cause) status is = rw is (9, lit< tt, refl)
 has_status (BadStep line) status is = rw is (9, lit< tt, refl)
 has_status TooLong status is = rw is (9, lit< tt, refl)
 
@@ -200,33 +200,37 @@ module _ (words : List (List ℕ)) (command : Command) (old new : Contents) (lef
       subst (λ n. IfSome (own_line n) (λ line. Tells line first third taken final)) (sym is) (own_told fault name stopped is told)
 
   -- the trace is refused
-  pub is_bad_trace : (fault : Fault) (name : List ℕ) → IsStopped command old new left store_failed source_failed first second taken mid fault
+  pub is_bad_trace : (Explained : Option (List ℕ) → Type 0) (fault : Fault) (name : List ℕ) → Explained (explanation_of fault) → IsStopped command old new left store_failed source_failed first second taken mid fault
       → status ≡ status_of fault
       → Tells (line_of fault name) second third mid final
-      → status ≡ bad_trace → IsBadTrace words old left (λ line. Tells line first third taken final)
-  is_bad_trace (BadLine line) name stopped is told ten = elim stopped.cause [
+      → status ≡ bad_trace → IsBadTrace words old left (λ line. Tells line first third taken final) Explained
+  is_bad_trace Explained (BadLine line cause) name explained stopped is told ten = elim stopped.cause [
     | inl (inl why, same) ↦ absurd why
-    | inl (inr (inl trace), same) ↦ at_line (image_name command) line (for_run words command trace.runs asked) trace.mapped trace.why
-        (tells_since (line_of (BadLine line) name) first second third taken mid final (stood (λ five. absurd (omega arith))) same.sink told)
+    | inl (inr (inl trace), same) ↦ at_line (image_name command) line cause (for_run words command trace.runs asked) trace.mapped trace.why
+        (tells_since (line_of (BadLine line cause) name) first second third taken mid final (stood (λ five. absurd (omega arith))) same.sink told)
+        explained
     | inl (inr (inr replay), same) ↦ absurd replay.why
     | inr (image, text, made, why) ↦ absurd why
   ]
-  is_bad_trace (BadStep line) name stopped is told ten = elim stopped.cause [
+  is_bad_trace Explained (BadStep line) name explained stopped is told ten = elim stopped.cause [
     | inl (inl why, same) ↦ absurd why
     | inl (inr (inl trace), same) ↦ absurd trace.why
     | inl (inr (inr replay), same) ↦ at_step (image_name command) line (for_replay words command replay.replays asked) replay.image replay.why
         (tells_since (line_of (BadStep line) name) first second third taken mid final (stood (λ five. absurd (omega arith))) same.sink told)
+        explained
     | inr (image, text, made, why) ↦ absurd why
   ]
-  is_bad_trace TooLong name stopped is told ten = elim stopped.cause [
+  is_bad_trace Explained TooLong name explained stopped is told ten = elim stopped.cause [
     | inl (inl why, same) ↦ absurd why
     | inl (inr (inl trace), same) ↦ too_long (image_name command) (for_run words command trace.runs asked) trace.mapped trace.why
         (tells_since (line_of TooLong name) first second third taken mid final (stood (λ five. absurd (omega arith))) same.sink told)
+        explained
     | inl (inr (inr replay), same) ↦ schedule_too_long (image_name command) (for_replay words command replay.replays asked) replay.image replay.why
         (tells_since (line_of TooLong name) first second third taken mid final (stood (λ five. absurd (omega arith))) same.sink told)
+        explained
     | inr (image, text, made, why) ↦ absurd why
   ]
-  is_bad_trace other name stopped is told ten = absurd (omega arith)
+  is_bad_trace Explained other name explained stopped is told ten = absurd (omega arith)
 
 -- a status of words or an image that were refused
 early : (status i : ℕ) → i < 5 → get_or (usage ∷ no_image ∷ bad_header ∷ outside ∷ bad_shard ∷ []) i status ≡ status
@@ -260,6 +264,21 @@ before_reading words command status (Malformed cause) asked is before no_replay 
 before_reading words command status (Outside at value) asked is before no_replay =
     λ replays. no_replay is (image_name command) (for_replay words command replays asked)
 before_reading words command status (BadShard shard at) asked is before no_replay = tt
-before_reading words command status (BadLine line) asked is before no_replay = too_late status 10 before is (omega arith) (inr (omega arith))
+before_reading words command status (BadLine line cause) asked is before no_replay = too_late status 10 before is (omega arith) (inr (omega arith))
 before_reading words command status (BadStep line) asked is before no_replay = too_late status 10 before is (omega arith) (inr (omega arith))
 before_reading words command status TooLong asked is before no_replay = too_late status 10 before is (omega arith) (inr (omega arith))
+
+-- where no trace is refused nothing is explained
+pub unexplained : {H : Type 0} (faults : H → ℕ) (taken : H → Option (List ℕ)) (old new : H) (status : ℕ) (fault : Fault) → status ≡ status_of fault
+    → Explains faults taken old new (explanation_of fault) → status ≢ bad_trace → new ≡ old
+unexplained faults taken old new status Usage is explained other = explained
+unexplained faults taken old new status Memory is explained other = explained
+unexplained faults taken old new status ReadFault is explained other = explained
+unexplained faults taken old new status WriteFault is explained other = explained
+unexplained faults taken old new status Absent is explained other = explained
+unexplained faults taken old new status (Malformed cause) is explained other = explained
+unexplained faults taken old new status (Outside at value) is explained other = explained
+unexplained faults taken old new status (BadShard shard at) is explained other = explained
+unexplained faults taken old new status (BadLine line cause) is explained other = absurd (other is)
+unexplained faults taken old new status (BadStep line) is explained other = explained
+unexplained faults taken old new status TooLong is explained other = explained

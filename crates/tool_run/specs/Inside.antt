@@ -1,5 +1,5 @@
 -- What the functions of this crate say of each other's answers.
-use Rattle.std.specs.Prelude.{◌≡◌, ◌⊎◌, ℕ, List, Option, Some}
+use Rattle.std.specs.Prelude.{◌≡◌, ◌⊎◌, ℕ, List, Option, Some, None}
 use Rattle.tool_ports.specs.Contents.{Contents, Lacks, HoldsOldOrNew, KeepsOthers}
 use Rattle.tool_ports.specs.declared.image_store.GetFault.{GetFault}
 use Rattle.tool_ports.specs.declared.image_store.GetFault.TheVariants.{Absent as NoSuchImage, Failed as GetFailed, Memory as GetMemory}
@@ -21,7 +21,7 @@ use Rattle.image_run.specs.declared.fault.ReplayFault.TheVariants.{Outside as Ou
 use Rattle.dictionary.specs.declared.fault.MapFault.{MapFault}
 use Rattle.dictionary.specs.declared.fault.MapFault.TheVariants.{BadShard as NoMap, Memory as MapMemory}
 use Rattle.tool_command.specs.Command.{Command, image_name}
-use Rattle.tool_run.specs.Lines.{usage_line, memory_line, read_line, write_line, no_image_line, bad_header_line, outside_line, bad_shard_line, bad_line_line, bad_step_line, too_long_line}
+use Rattle.tool_run.specs.Lines.{usage_line, memory_line, read_line, write_line, no_image_line, bad_header_line, outside_line, bad_shard_line, bad_line_line, bad_step_line, too_long_line, explained_line}
 use Rattle.tool_run.specs.Making.{Makes, GetsImage, RefusesOutside, kinds_checked, Reads, RunsATrace, ReplaysASchedule, IsMalformed, HasOutside, HasBadShard, HasMapped, HasTrace, HasBadLine, HasTooMuch, HasGood, HasBadStep, HasOutsideLeft}
 use Rattle.tool_run.specs.Outcome.{Puts, IsCutOff}
 use Rattle.tool_run.specs.Status.{usage, out_of_memory, read_fault, write_fault, no_image, bad_header, outside, bad_shard, bad_trace}
@@ -36,7 +36,7 @@ status_of Absent = no_image
 status_of (Malformed cause) = bad_header
 status_of (Outside at value) = outside
 status_of (BadShard shard at) = bad_shard
-status_of (BadLine line) = bad_trace
+status_of (BadLine line cause) = bad_trace
 status_of (BadStep line) = bad_trace
 status_of TooLong = bad_trace
 
@@ -50,15 +50,20 @@ line_of Absent name = no_image_line name
 line_of (Malformed cause) name = bad_header_line cause
 line_of (Outside at value) name = outside_line at value
 line_of (BadShard shard at) name = bad_shard_line shard at
-line_of (BadLine line) name = bad_line_line line
+line_of (BadLine line cause) name = bad_line_line line
 line_of (BadStep line) name = bad_step_line line
 line_of TooLong name = too_long_line
+
+-- what the standard error is told of the fault, if anything
+abbrev pub explanation_of : Fault → Option (List ℕ)
+explanation_of (BadLine line cause) = Some (explained_line line cause)
+explanation_of other = None
 
 -- the line of the fault has no numbers
 abbrev pub IsPlain : Fault → Type 0
 IsPlain (Outside at value) = ⊥
 IsPlain (BadShard shard at) = ⊥
-IsPlain (BadLine line) = ⊥
+IsPlain (BadLine line cause) = ⊥
 IsPlain (BadStep line) = ⊥
 IsPlain TooLong = Unit {0}
 IsPlain Usage = Unit {0}
@@ -78,7 +83,7 @@ Refuses command contents get_failed Absent = GetsImage command × Lacks contents
 Refuses command contents get_failed (Malformed cause) = GetsImage command × IsMalformed (kinds_checked command) contents (image_name command) cause
 Refuses command contents get_failed (Outside at value) = (has : HasOutside contents (image_name command) at value) × RefusesOutside command has.bytes
 Refuses command contents get_failed (BadShard shard at) = Reads command × HasBadShard contents (image_name command) shard at
-Refuses command contents get_failed (BadLine line) = ⊥
+Refuses command contents get_failed (BadLine line cause) = ⊥
 Refuses command contents get_failed (BadStep line) = ⊥
 Refuses command contents get_failed TooLong = ⊥
 
@@ -92,7 +97,7 @@ IsTraceFault left read_failed Absent = ⊥
 IsTraceFault left read_failed (Malformed cause) = ⊥
 IsTraceFault left read_failed (Outside at value) = ⊥
 IsTraceFault left read_failed (BadShard shard at) = ⊥
-IsTraceFault left read_failed (BadLine line) = HasBadLine left line
+IsTraceFault left read_failed (BadLine line cause) = HasBadLine left line cause
 IsTraceFault left read_failed (BadStep line) = ⊥
 IsTraceFault left read_failed TooLong = HasTooMuch left
 
@@ -113,7 +118,7 @@ IsReplayFault contents left name read_failed Absent = ⊥
 IsReplayFault contents left name read_failed (Malformed cause) = ⊥
 IsReplayFault contents left name read_failed (Outside at value) = HasOutsideLeft contents left name at value
 IsReplayFault contents left name read_failed (BadShard shard at) = ⊥
-IsReplayFault contents left name read_failed (BadLine line) = ⊥
+IsReplayFault contents left name read_failed (BadLine line cause) = ⊥
 IsReplayFault contents left name read_failed (BadStep line) = HasBadStep left line
 IsReplayFault contents left name read_failed TooLong = HasTooMuch left
 
@@ -145,7 +150,7 @@ IsBeforeReading command Absent = Unit {0}
 IsBeforeReading command (Malformed cause) = Unit {0}
 IsBeforeReading command (Outside at value) = ¬ (ReplaysASchedule command)
 IsBeforeReading command (BadShard shard at) = Unit {0}
-IsBeforeReading command (BadLine line) = ⊥
+IsBeforeReading command (BadLine line cause) = ⊥
 IsBeforeReading command (BadStep line) = ⊥
 IsBeforeReading command TooLong = ⊥
 
@@ -160,7 +165,7 @@ IsBeforeSeeding command Absent = Unit {0}
 IsBeforeSeeding command (Malformed cause) = Unit {0}
 IsBeforeSeeding command (Outside at value) = ¬ (ReplaysASchedule command)
 IsBeforeSeeding command (BadShard shard at) = Unit {0}
-IsBeforeSeeding command (BadLine line) = Unit {0}
+IsBeforeSeeding command (BadLine line cause) = Unit {0}
 IsBeforeSeeding command (BadStep line) = Unit {0}
 IsBeforeSeeding command TooLong = Unit {0}
 
@@ -194,7 +199,7 @@ DeliveryFails name image text old new put_failed faults between taken taken' Abs
 DeliveryFails name image text old new put_failed faults between taken taken' (Malformed cause) = ⊥
 DeliveryFails name image text old new put_failed faults between taken taken' (Outside at value) = ⊥
 DeliveryFails name image text old new put_failed faults between taken taken' (BadShard shard at) = ⊥
-DeliveryFails name image text old new put_failed faults between taken taken' (BadLine line) = ⊥
+DeliveryFails name image text old new put_failed faults between taken taken' (BadLine line cause) = ⊥
 DeliveryFails name image text old new put_failed faults between taken taken' (BadStep line) = ⊥
 DeliveryFails name image text old new put_failed faults between taken taken' TooLong = ⊥
 
@@ -243,7 +248,7 @@ PutFails name image old new put_failed Absent = ⊥
 PutFails name image old new put_failed (Malformed cause) = ⊥
 PutFails name image old new put_failed (Outside at value) = ⊥
 PutFails name image old new put_failed (BadShard shard at) = ⊥
-PutFails name image old new put_failed (BadLine line) = ⊥
+PutFails name image old new put_failed (BadLine line cause) = ⊥
 PutFails name image old new put_failed (BadStep line) = ⊥
 PutFails name image old new put_failed TooLong = ⊥
 
@@ -263,11 +268,6 @@ abbrev pub fault_of_reading : ReadAllFault → Fault
 fault_of_reading MoreGiven = TooLong
 fault_of_reading ReadFailed = ReadFault
 fault_of_reading ReadMemory = Memory
-
--- a trace that can't be read
-abbrev pub fault_of_trace : TraceError → Fault
-fault_of_trace (BadTraceLine line) = BadLine line
-fault_of_trace TraceMemory = Memory
 
 -- a schedule that can't be read
 abbrev pub fault_of_schedule : TraceError → Fault

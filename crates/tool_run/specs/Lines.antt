@@ -1,11 +1,13 @@
 -- The lines that tell why there is no result.
-use Rattle.std.specs.Prelude.{◌≡◌, ◌⊎◌, ℕ, List, ◌++◌, codes, decimal, Option}
+use Rattle.std.specs.Prelude.{◌≡◌, ◌⊎◌, ℕ, List, ◌++◌, codes, decimal, Option, Some, None}
 use Rattle.std.specs.Int.{w64, to_be_bytes}
 use Rattle.hex.specs.Hex.{encode_lower}
 use Rattle.tool_ports.specs.Causes.{RoseByOne}
 use Rattle.tool_ports.specs.Taken.{taken_with, TakesPart}
 use Rattle.heap_model.specs.declared.header.BadHeader.{BadHeader}
 use Rattle.heap_model.specs.declared.header.BadHeader.TheVariants.{Short, Magic, Version, Capacity, Length, State, Used, Kind}
+use Rattle.trace_faults.specs.Texts.{fault_text}
+use Rattle.trace_faults.specs.declared.fault.LineFault.{LineFault}
 use Rattle.trace_text.specs.Report.{line_feed}
 
 -- the lines of the statuses 2 to 5
@@ -60,7 +62,16 @@ bad_step_line line = codes "bad schedule line " ++ decimal line ++ line_feed
 abbrev pub too_long_line : List ℕ
 too_long_line = codes "bad trace too long" ++ line_feed
 
+-- the line on why that line of a trace asks for nothing, for the standard error
+abbrev pub explained_line : ℕ → LineFault → List ℕ
+explained_line line cause = codes "heap_tool: trace line " ++ decimal line ++ codes ": " ++ fault_text cause ++ line_feed
+
 -- A sink took the line, and the count of its failures stood; or the count rose by one, and it took a first part of it.
 abbrev pub Tells : List ℕ → ℕ → ℕ → Option (List ℕ) → Option (List ℕ) → Type 0
 Tells line faults faults' taken taken' =
     ((taken' ≡ taken_with taken line) × (faults' ≡ faults)) ⊎ (RoseByOne faults faults' × TakesPart line taken taken')
+
+-- a sink was told this line; or there is none, and it is as it was
+abbrev pub Explains : {H : Type 0} → (H → ℕ) → (H → Option (List ℕ)) → H → H → Option (List ℕ) → Type 0
+Explains faults taken old new None = new ≡ old
+Explains faults taken old new (Some line) = Tells line (faults old) (faults new) (taken old) (taken new)

@@ -25,7 +25,9 @@ use Rattle.trace_text.specs.declared.schedule.Schedule.{Schedule}
 use Rattle.trace_text.specs.Generated.{made_trace}
 use Rattle.trace_text.specs.Report.{line_feed}
 use Rattle.trace_text.specs.Schedule.{IsSchedule, IsFirstBad}
-use Rattle.trace_text.specs.Trace.{lines_of, AreLines, IsFirstOutside}
+use Rattle.trace_faults.specs.Faults.{IsFirstFault}
+use Rattle.trace_faults.specs.declared.fault.LineFault.{LineFault}
+use Rattle.trace_text.specs.Trace.{lines_of, AreLines}
 use Rattle.tool_command.specs.Command.{Command, format_image, show_image, drain_image, gen_trace, run_image, rebuild_image, replay_image, conservative_image, count_image}
 
 -- what `format` prints: the capacity, and the length of the image in bytes
@@ -150,11 +152,11 @@ pub record HasTrace (left : Option (List ℕ)) (trace : List ℕ) : Type 0 where
   pub all : HasLeft left trace
   pub short : length trace ≤ longest_trace
 
--- the first line of the trace that the source has left that asks for nothing
-pub record HasBadLine (left : Option (List ℕ)) (line : ℕ) : Type 0 where
+-- the first line of the trace that the source has left that asks for nothing, and why it does
+pub record HasBadLine (left : Option (List ℕ)) (line : ℕ) (cause : LineFault) : Type 0 where
   pub trace : List ℕ
   pub has_trace : HasTrace left trace
-  pub first : IsFirstOutside (lines_of trace) line
+  pub first : IsFirstFault (lines_of trace) line cause
 
 -- where the source tells, it has more left than the longest trace
 abbrev pub HasTooMuch : Option (List ℕ) → Type 0

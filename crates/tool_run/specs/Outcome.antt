@@ -6,11 +6,12 @@ use Rattle.tool_ports.specs.Causes.{RoseByOne}
 use Rattle.tool_ports.specs.Contents.{Contents, Holds, HoldsOldOrNew, KeepsOthers, Lacks, told_of}
 use Rattle.tool_ports.specs.Taken.{taken_with, TakesPart}
 use Rattle.worker_run.specs.Said.{Line}
+use Rattle.trace_faults.specs.declared.fault.LineFault.{LineFault}
 use Rattle.trace_text.specs.declared.schedule.Schedule.{Schedule}
 use Rattle.trace_text.specs.Schedule.{IsSchedule, IsFirstBad}
 use Rattle.trace_text.specs.Trace.{lines_of, AreLines, IsFirstOutside}
 use Rattle.tool_command.specs.Command.{Command, format_image, show_image, drain_image, gen_trace, run_image, rebuild_image, replay_image, conservative_image, count_image, image_name, Asks, AsksToRun, AsksToReplay}
-use Rattle.tool_run.specs.Lines.{Tells, write_line, no_image_line, bad_header_line, outside_line, bad_shard_line, bad_line_line, bad_step_line, too_long_line}
+use Rattle.tool_run.specs.Lines.{Tells, write_line, no_image_line, bad_header_line, outside_line, bad_shard_line, bad_line_line, bad_step_line, too_long_line, explained_line}
 use Rattle.tool_run.specs.Making.{Makes, GetsImage, RefusesOutside, kinds_checked, Reads, PutsBack, ReadsSource, Options, IsMalformed, HasOutside, HasBadShard, HasMapped, HasBadLine, HasTooMuch, HasGood, HasBadStep, HasOutsideLeft, PointsOutside, fault_of, fault_within, image_in, IsOrderlyIn, longest_trace}
 use Rattle.dict_model.specs.Links.{shards}
 use Rattle.dict_model.specs.Shards.{Map, MapOf, BadShard}
@@ -200,15 +201,16 @@ pub record HoldsMaps (contents : Contents) (name : List ℕ) : Type 0 where
 
 -- the words ask for a run or a replay over an image that is good, and the trace or the schedule is refused: a line of it asks for
 -- nothing, of which the first is told, or it is too long
-pub data IsBadTrace (words : List (List ℕ)) (contents : Contents) (left : Option (List ℕ)) (Told : List ℕ → Type 0) : Type 0 where
-  at_line : (name : List ℕ) (line : ℕ) → AsksForRun words name → HasMapped contents name → HasBadLine left line
-      → Told (bad_line_line line) → IsBadTrace words contents left Told
+pub data IsBadTrace (words : List (List ℕ)) (contents : Contents) (left : Option (List ℕ)) (Told : List ℕ → Type 0)
+    (Explained : Option (List ℕ) → Type 0) : Type 0 where
+  at_line : (name : List ℕ) (line : ℕ) (cause : LineFault) → AsksForRun words name → HasMapped contents name → HasBadLine left line cause
+      → Told (bad_line_line line) → Explained (Some (explained_line line cause)) → IsBadTrace words contents left Told Explained
   too_long : (name : List ℕ) → AsksForRun words name → HasMapped contents name → HasTooMuch left
-      → Told too_long_line → IsBadTrace words contents left Told
+      → Told too_long_line → Explained None → IsBadTrace words contents left Told Explained
   at_step : (name : List ℕ) (line : ℕ) → AsksForReplay words name → HasGood contents name → HasBadStep left line
-      → Told (bad_step_line line) → IsBadTrace words contents left Told
+      → Told (bad_step_line line) → Explained None → IsBadTrace words contents left Told Explained
   schedule_too_long : (name : List ℕ) → AsksForReplay words name → HasGood contents name → HasTooMuch left
-      → Told too_long_line → IsBadTrace words contents left Told
+      → Told too_long_line → Explained None → IsBadTrace words contents left Told Explained
 
 -- the source tells that a line of the trace that it has left asks for nothing
 pub record HoldsBadLine (left : Option (List ℕ)) (line : ℕ) : Type 0 where

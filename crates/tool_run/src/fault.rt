@@ -2,8 +2,8 @@
 ghost use Rattle.std.specs.Prelude.{◌≡◌, ◌++◌, ◌≤◌, List, ℕ, OnOk, OnErr, IsErr};
 ghost use Rattle.tool_ports.specs.Causes.{HasCause};
 ghost use Rattle.tool_ports.specs.Taken.{taken_with, TakesPart};
-ghost use Rattle.tool_run.specs.Inside.{status_of, line_of, IsPlain, fault_of_get, fault_of_put, fault_of_recovery, fault_of_maps, fault_of_reading, fault_of_trace, fault_of_replay};
-ghost use Rattle.tool_run.specs.Lines.{Tells, cause_name, outside_line, bad_shard_line, bad_line_line, bad_step_line};
+ghost use Rattle.tool_run.specs.Inside.{status_of, line_of, IsPlain, fault_of_get, fault_of_put, fault_of_recovery, fault_of_maps, fault_of_reading, fault_of_replay, explanation_of};
+ghost use Rattle.tool_run.specs.Lines.{Tells, Explains, cause_name, outside_line, bad_shard_line, bad_line_line, bad_step_line, explained_line};
 ghost use Rattle.tool_run.specs.declared.fault.Fault.TheVariants.{Memory, WriteFault, Malformed};
 ghost use Rattle.trace_text.specs.Report.{line_feed};
 ghost use Rattle.std.specs.Int.{w64, to_be_bytes};
@@ -17,7 +17,7 @@ use image_run::ReplayFault;
 use itoa::Buffer;
 use std::alloc::AllocError;
 use tool_ports::{Failed, GetFault, PutImageFault, ReadAllFault, Sink, write_all};
-use trace_text::TraceError;
+use trace_faults::LineFault;
 
 /// Why a call has no result.
 #[derive(Clone, Copy, PartialEq, Eq, Debug)]
@@ -30,7 +30,7 @@ pub enum Fault {
     Malformed(BadHeader),
     Outside { at: u64, value: u64 },
     BadShard { shard: usize, at: u64 },
-    BadLine { line: u64 },
+    BadLine { line: u64, cause: LineFault },
     BadStep { line: u64 },
     TooLong,
 }
@@ -48,7 +48,7 @@ impl Fault {
             Fault::Malformed(_) => 7,
             Fault::Outside { at: _, value: _ } => 8,
             Fault::BadShard { shard: _, at: _ } => 9,
-            Fault::BadLine { line: _ } => 10,
+            Fault::BadLine { line: _, cause: _ } => 10,
             Fault::BadStep { line: _ } => 10,
             Fault::TooLong => 10,
         })
@@ -68,7 +68,7 @@ impl Fault {
             Fault::Malformed(cause) => ("bad header ", name_of_cause(cause)),
             Fault::Outside { at: _, value: _ } => ("", ""),
             Fault::BadShard { shard: _, at: _ } => ("", ""),
-            Fault::BadLine { line: _ } => ("", ""),
+            Fault::BadLine { line: _, cause: _ } => ("", ""),
             Fault::BadStep { line: _ } => ("", ""),
             Fault::TooLong => ("bad trace too long", ""),
         }
@@ -85,7 +85,7 @@ impl Fault {
         match self {
             Fault::Outside { at, value } => write_outside(out, at, value),
             Fault::BadShard { shard, at } => write_bad_shard(out, shard, at),
-            Fault::BadLine { line } => write_bad_line(out, line),
+            Fault::BadLine { line, cause: _ } => write_bad_line(out, line),
             Fault::BadStep { line } => write_bad_step(out, line),
             _ => {
                 let (text, detail) = self.line(image);
@@ -103,6 +103,16 @@ impl Fault {
     {
         let _ = self.write(image, out);
         self.status()
+    }
+
+    /// Says on the standard error why the line of a trace asks for nothing, where that is the fault.
+    /// What can't be written is lost.
+    pub fn explain<H: Sink>(self, help: &mut H)
+        ensures { Explains H.faults H.taken help.old help.new (explanation_of self) }
+    {
+        if let Fault::BadLine { line, cause } = self {
+            let _ = write_explained(help, line, cause);
+        }
     }
 }
 
@@ -168,6 +178,23 @@ fn write_bad_line<O: Sink>(out: &mut O, line: u64) -> Result<(), Failed>
 {
     let mut number = Buffer::new();
     write_line(out, "bad trace line ", number.format(line))
+}
+
+fn write_explained<O: Sink>(out: &mut O, line: u64, cause: LineFault) -> Result<(), Failed>
+    ensures ok { OnOk result
+        (O.taken out.new ≡ taken_with (O.taken out.old) (explained_line line cause)) }
+    ensures err { OnErr result
+        (TakesPart (explained_line line cause) (O.taken out.old) (O.taken out.new)) }
+    ensures cause { HasCause (O.faults out.old) (O.faults out.new) (IsErr result) }
+{
+    let mut number = Buffer::new();
+    write_two(
+        out,
+        b"heap_tool: trace line ",
+        number.format(line).as_bytes(),
+    )?;
+    write_two(out, b": ", cause.text().as_bytes())?;
+    write_all(out, b"\n")
 }
 
 fn write_bad_step<O: Sink>(out: &mut O, line: u64) -> Result<(), Failed>
@@ -280,17 +307,6 @@ impl From<ReadAllFault> for Fault {
             ReadAllFault::TooLong => Fault::TooLong,
             ReadAllFault::Failed => Fault::ReadFault,
             ReadAllFault::Memory => Fault::Memory,
-        }
-    }
-}
-
-impl From<TraceError> for Fault {
-    ghost from_gives = { λ cause fault. fault ≡ fault_of_trace cause };
-
-    fn from(cause: TraceError) -> Self {
-        match cause {
-            TraceError::BadLine { line } => Fault::BadLine { line },
-            TraceError::Memory => Fault::Memory,
         }
     }
 }

@@ -10,7 +10,7 @@ ghost use Rattle.tool_command.specs.Command.{Command, Asks, AsksToFormat, AsksTo
 ghost use Rattle.tool_command.specs.Invocations.{command_of};
 ghost use Rattle.tool_run.specs.Inside.{status_of, IsCarriedOut, IsStopped, IsBeforeReading, IsBeforeSeeding};
 ghost use Rattle.tool_run.specs.Making.{RefusesOutside, ReadsSource, kinds_checked, longest_trace};
-ghost use Rattle.tool_run.specs.Lines.{Tells, memory_line};
+ghost use Rattle.tool_run.specs.Lines.{Tells, Explains, memory_line};
 ghost use Rattle.tool_run.specs.Seeding.{seed_of, BeginBy};
 ghost use Rattle.tool_run.specs.Outcome.{IsDone, IsReadFault, IsWriteFault, AsksToGet, AsksToLook, AsksToPutBack, AsksToRead, AsksForRun, AsksForReplay, AsksForSource, IsAbsent, IsBadHeader, IsOutsideAt, IsBadShardAt, IsBadTrace, HoldsMalformed, HoldsOutside, HoldsOutsideLeft, HoldsBadShard, HoldsGood, HoldsMaps, HoldsBadLine, HoldsBadStep, HoldsTooMuch, CanBeDone};
 ghost use Rattle.tool_run.specs.Status.{done, usage, out_of_memory, read_fault, write_fault, no_image, bad_header, outside, bad_shard, bad_trace, statuses, LeavesStore, LeavesChances, IsBeforeTrace, own_line};
@@ -38,13 +38,15 @@ use tool_ports::{Chances, Gate, ImageStore, Sink, Source};
 /// takes the steps of the schedule that the source has left over a recovered image, and prints what
 /// they answer and a report on what a crash then leaves; `drain IMAGE CLASS` recovers an image and
 /// prints the offsets of the blocks that the class then gives, and `gen N SEED` prints a trace.
-/// Where there is no result, a line tells why; one that the sink refuses is lost. What a heap
+/// Where there is no result, a line tells why; one that the sink refuses is lost. Of a line of a
+/// trace that asks for nothing `help` is told the cause, and it is told nothing else. What a heap
 /// writes back early comes from `chances`, with the seed 0 where none is given.
 pub fn run_tool<
     R: Threads + Wait + Sync,
     I: ImageStore,
     T: Source,
     O: Sink,
+    H: Sink,
     G: Gate + Sync,
     C: Chances,
 >(
@@ -54,6 +56,7 @@ pub fn run_tool<
     images: &mut I,
     trace: &mut T,
     out: &mut O,
+    help: &mut H,
     gate: &G,
     chances: &mut C,
 ) -> Status
@@ -87,7 +90,9 @@ pub fn run_tool<
     ensures bad_trace { result ≡ bad_trace → IsBadTrace (texts words.now) (I.contents images.old)
         (T.left trace.old)
         (λ line. Tells line (O.faults out.old) (O.faults out.new)
-        (O.taken out.old) (O.taken out.new)) }
+        (O.taken out.old) (O.taken out.new))
+        (Explains H.faults H.taken help.old help.new) }
+    ensures unexplained { result ≢ bad_trace → help.new ≡ help.old }
     ensures line { IfSome (own_line result)
         (λ line. Tells line (O.faults out.old) (O.faults out.new)
         (O.taken out.old) (O.taken out.new)) }
@@ -211,7 +216,10 @@ pub fn run_tool<
     };
     match carry_out(rt, alloc, command, images, trace, out, gate, chances) {
         Ok(()) => Status::new(0),
-        Err(fault) => fault.tell(command.image(), out),
+        Err(fault) => {
+            fault.explain(help);
+            fault.tell(command.image(), out)
+        }
     }
 }
 

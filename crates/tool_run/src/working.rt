@@ -21,7 +21,8 @@ use std::alloc::Global;
 use std::sync::Wait;
 use std::thread::Threads;
 use tool_ports::{Chances, Gate, ImageStore, Source, read_all};
-use trace_text::{Request, parse_trace};
+use trace_faults::fault_at;
+use trace_text::{Request, TraceError, parse_trace};
 
 /// The most bytes of a trace or a schedule.
 pub const LONGEST_TRACE: usize = 1 << 24;
@@ -110,6 +111,12 @@ fn read_trace<T: Source>(alloc: Global, trace: &mut T) -> Result<Vec<Request>, F
         (IsTraceFault (T.left trace.old) (RoseByOne (T.faults trace.old) (T.faults trace.new))) }
 {
     let text = read_all(alloc, trace, LONGEST_TRACE)?;
-    let requests = parse_trace(alloc, &text)?;
-    Ok(requests)
+    match parse_trace(alloc, &text) {
+        Ok(requests) => Ok(requests),
+        Err(TraceError::BadLine { line }) => {
+            let cause = fault_at(&text, line);
+            Err(Fault::BadLine { line, cause })
+        }
+        Err(TraceError::Memory) => Err(Fault::Memory),
+    }
 }

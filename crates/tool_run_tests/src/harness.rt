@@ -81,6 +81,7 @@ pub fn make<G: Gate + Sync, C: Chances>(
         mut trace,
         mut out,
     } = outside_of(rt.alloc(), turn)?;
+    let mut help = sink_of(rt.alloc(), "")?;
     let status = run_tool(
         rt,
         rt.alloc(),
@@ -88,6 +89,7 @@ pub fn make<G: Gate + Sync, C: Chances>(
         images,
         &mut trace,
         &mut out,
+        &mut help,
         gate,
         chances,
     );

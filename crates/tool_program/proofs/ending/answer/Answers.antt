@@ -2,13 +2,13 @@ use Rattle.std.proofs.Common.{ℕ, List, refl, sym, ap, subst, ◌∙◌, arith}
 use Rattle.tool_command.specs.Command.{Asks, texts}
 use Rattle.tool_run.specs.Outcome.{AsksForSource}
 use Rattle.tool_program.proofs.CallsLemmas.{store_by_words, store_uncalled, source_by_words, source_unread, chances_by_words, chances_unasked}
-use Rattle.tool_program.proofs.EndingLemmas.{told_memory, by_words}
+use Rattle.tool_program.proofs.EndingLemmas.{told_memory, by_words, explained_since, help_since}
 use Rattle.tool_program.proofs.ending.answer.Goals as goal
 
 pub returns-in-Ok-clause-status : goal.returns-in-Ok-clause-status
 returns-in-Ok-clause-status g c =
     let did = c.run_tool-status.ensures in
-    by_words _ _ _ _ _ (ap texts c.deref.ensures.value ∙ c.in-Ok.ensures.ok) (record {
+    by_words _ _ _ _ _ _ (ap texts c.deref.ensures.value ∙ c.in-Ok.ensures.ok) (record {
       known = did.known;
       ok = did.ok;
       no_command = did.usage;
@@ -18,7 +18,8 @@ returns-in-Ok-clause-status g c =
       cause = did.cause;
       points_outside = did.outside;
       no_map = did.bad_shard;
-      bad_line = did.bad_trace;
+      bad_line = λ ten. explained_since g.H.Sink.faults g.H.Sink.taken c.args.help.now c.run_tool-status.new.help c.tell_help.new.help _ _ _ _
+          (c.tell_help.ensures.other (λ two. absurd (omega (arith, ten, two)))) (did.bad_trace ten);
       line = did.line;
       unchanged = did.unchanged;
       read_at_most = did.read_at_most;
@@ -31,7 +32,7 @@ returns-in-Ok-clause-status g c =
     })
 
 pub returns-in-Err-clause-status : goal.returns-in-Err-clause-status
-returns-in-Err-clause-status g c = told_memory _ _ _ _ c.tell_out_of_memory.ensures.status refl refl refl refl c.tell_out_of_memory.ensures.line
+returns-in-Err-clause-status g c = told_memory _ _ _ _ _ c.tell_out_of_memory.ensures.status refl refl refl refl c.tell_out_of_memory.ensures.line
 
 pub returns-in-Ok-clause-has_ended : goal.returns-in-Ok-clause-has_ended
 returns-in-Ok-clause-has_ended g c name asks =
@@ -93,3 +94,11 @@ returns-in-Ok-clause-asked_cut_off g c command asks =
 
 pub returns-in-Err-clause-asked_cut_off : goal.returns-in-Err-clause-asked_cut_off
 returns-in-Err-clause-asked_cut_off g c command asks cut = absurd (omega (arith, c.tell_out_of_memory.ensures.status, cut))
+
+pub returns-in-Ok-clause-help : goal.returns-in-Ok-clause-help
+returns-in-Ok-clause-help g c two =
+    help_since g.H.Sink.faults g.H.Sink.taken c.args.help.now c.run_tool-status.new.help c.tell_help.new.help
+    (c.run_tool-status.ensures.unexplained (λ ten. absurd (omega (arith, two, ten)))) (c.tell_help.ensures.usage two)
+
+pub returns-in-Ok-clause-no_help : goal.returns-in-Ok-clause-no_help
+returns-in-Ok-clause-no_help g c not_usage not_bad = c.tell_help.ensures.other not_usage ∙ c.run_tool-status.ensures.unexplained not_bad

@@ -1,5 +1,5 @@
 use Rattle.tool_run.proofs.SeedLemmas.{by_its_command, by_its_seed, cut_off_by_its_seed, cut_off_by_its_command, before_seeding}
-use Rattle.tool_run.proofs.StatusLemmas.{has_status, is_read_fault, is_write_fault, is_bad_header, is_outside, is_bad_shard, is_absent, is_bad_trace, is_own_line, for_source, before_reading}
+use Rattle.tool_run.proofs.StatusLemmas.{has_status, is_read_fault, is_write_fault, is_bad_header, is_outside, is_bad_shard, is_absent, is_bad_trace, unexplained, is_own_line, for_source, before_reading}
 use Rattle.std.proofs.Common.{rules, sym, ◌∙◌}
 use Rattle.tool_run.proofs.CallLemmas.{rose_by_then}
 use Rattle.tool_run.proofs.ReadingLemmas.{none_taken, not_err, not_told}
@@ -12,6 +12,7 @@ use Rattle.tool_run.proofs.CompleteLemmas.{stops_complete}
 use Rattle.tool_run.proofs.BadShardLemmas.{stops_bad, not_done_bad}
 use Rattle.tool_run.proofs.OutsideLemmas.{stops_outside, not_done, where_asked}
 use Rattle.tool_run.proofs.MalformedLemmas.{stops_malformed, not_done_malformed}
+use Rattle.tool_run.specs.Lines.{Explains}
 use Rattle.tool_run.specs.declared.fault.Fault.TheVariants.{Memory, ReadFault, WriteFault}
 use Rattle.tool_command.specs.Command.{format_image, run_image, replay_image}
 use Rattle.tool_run.proofs.run.run_tool.Goals as goal
@@ -132,7 +133,8 @@ pub returns-in-Err-clause-bad_trace : goal.returns-in-Err-clause-bad_trace
 returns-in-Err-clause-bad_trace g c =
     is_bad_trace _ _ _ _ _ _ _ _ _ _ _ _ _ _ c.in-Ok.ensures.ok c.carry_out.ensures.later_sink c.tell-in-Err.ensures.later
     (λ other. c.in-Err.ensures.sink_steady (not_told _ _ c.in-Err.fault WriteFault c.tell-in-Err.ensures.status other))
-    c.in-Err.fault _ c.in-Err.ensures.err c.tell-in-Err.ensures.status c.tell-in-Err.ensures.told
+    (Explains g.H.Sink.faults g.H.Sink.taken c.args.help.now c.explain.new.help)
+    c.in-Err.fault _ c.explain.ensures c.in-Err.ensures.err c.tell-in-Err.ensures.status c.tell-in-Err.ensures.told
 
 pub returns-in-Err-clause-always_bad_line : goal.returns-in-Err-clause-always_bad_line
 returns-in-Err-clause-always_bad_line g c =
@@ -257,6 +259,10 @@ returns-in-Ok-carry_out-clause-never_asked g c none = c.carry_out.ensures.never_
 
 pub returns-in-Err-clause-never_asked : goal.returns-in-Err-clause-never_asked
 returns-in-Err-clause-never_asked g c none = c.carry_out.ensures.never_asked (none _ c.in-Ok.ensures.ok)
+
+pub returns-in-Err-clause-unexplained : goal.returns-in-Err-clause-unexplained
+returns-in-Err-clause-unexplained g c other =
+    unexplained g.H.Sink.faults g.H.Sink.taken c.args.help.now c.explain.new.help _ c.in-Err.fault c.tell-in-Err.ensures.status c.explain.ensures other
 
 pub returns-in-Err-clause-no_call_for_a_trace : goal.returns-in-Err-clause-no_call_for_a_trace
 returns-in-Err-clause-no_call_for_a_trace g c = never_called _ _ _ _ c.in-Err.fault c.in-Ok.ensures.ok c.in-Err.ensures.calls_err

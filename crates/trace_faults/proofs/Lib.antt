@@ -1,0 +1,4 @@
+mod LineFaultLemmas
+mod NumberFaultLemmas
+mod PassedLemmas
+mod WordListLemmas
