@@ -1,5 +1,5 @@
 -- From what stands behind a verb to why the line asks for nothing.
-use Rattle.std.proofs.Common.{◌≡◌, ◌≢◌, ℕ, ◌*◌, ◌<◌, ◌≤◌, ◌%◌, List, [], ◌∷◌, ◌++◌, length, codes, Contains, Ok, inl, inr, lit<, refl, sym, ap, subst, ◌∙◌, arith, append_assoc}
+use Rattle.std.proofs.Common.{◌≡◌, ◌≢◌, ℕ, ◌*◌, ◌<◌, ◌≤◌, List, [], ◌∷◌, ◌++◌, length, codes, Contains, Ok, inr, lit<, refl, ap, arith}
 use Rattle.hex.specs.Hex.{decode_of}
 use Rattle.hex.proofs.HexLemmas.{decode_of-ok}
 use Rattle.trace_text.specs.Numbers.{IsNumber}
@@ -7,7 +7,7 @@ use Rattle.trace_text.specs.declared.request.Request.TheVariants.{Put as PutRequ
 use Rattle.trace_text.specs.Trace.{IsOutside, IsValue, longest_value}
 use Rattle.trace_text.proofs.WordLemmas.{put_line, move_line}
 use Rattle.trace_faults.specs.Verbs.{word_of, words_taken}
-use Rattle.trace_faults.specs.Faults.{words_of, IsCut, IsLineFault, IsWordsFault, IsNumberFault}
+use Rattle.trace_faults.specs.Faults.{words_of, IsCut, IsLineFault, IsWordsFault}
 use Rattle.trace_faults.specs.declared.fault.LineFault.{LineFault}
 use Rattle.trace_faults.specs.declared.fault.LineFault.TheVariants.{Empty, CarriageReturn, Tab, Space, UnknownWord, TooFewWords, TooManyWords, Key, SecondKey, Value}
 use Rattle.trace_faults.specs.declared.verb.Verb.{Verb}

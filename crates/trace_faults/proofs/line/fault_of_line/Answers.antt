@@ -1,4 +1,4 @@
-use Rattle.std.proofs.Common.{◌≡◌, ◌≢◌, ◌<◌, [], length, ap, rules, arith}
+use Rattle.std.proofs.Common.{◌≡◌, ◌<◌, length, ap, rules, arith}
 use Rattle.trace_faults.proofs.LineFaultLemmas.{of_words}
 use Rattle.trace_faults.proofs.WordListLemmas.{stands_nowhere}
 use Rattle.trace_faults.proofs.line.fault_of_line.Goals as goal

@@ -1,4 +1,4 @@
-use Rattle.std.proofs.Common.{◌≡◌, ℕ, ◌<◌, get_or, length}
+use Rattle.std.proofs.Common.{◌≡◌, get_or, length}
 use Rattle.std.specs.Str.Parse.{digits_value}
 use Rattle.trace_faults.specs.Faults.{IsNumeral}
 use Rattle.trace_faults.proofs.NumberFaultLemmas.{numeral_number, one_long}
