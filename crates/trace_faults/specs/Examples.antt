@@ -1,9 +1,9 @@
 -- Worked examples: why lines of a trace ask for nothing, one for each kind of cause.
-use Rattle.std.specs.Prelude.{◌≡◌, ℕ, ◌*◌, ◌<◌, List, [], ◌∷◌, ◌++◌, length, codes, Contains, refl}
-use Rattle.std.proofs.Common.{get_or, lit<, ap, arith}
+use Rattle.std.specs.Prelude.{◌≡◌, ◌≢◌, ℕ, ◌*◌, ◌<◌, List, [], ◌∷◌, ◌++◌, length, codes, Contains, refl}
+use Rattle.std.proofs.Common.{get_or, lit<, ap, subst, arith}
 use Rattle.std.specs.Fmt.{digits}
 use Rattle.hex.specs.Hex.{decode_pairs}
-use Rattle.trace_faults.specs.declared.fault.LineFault.TheVariants.{Empty, CarriageReturn, UnknownWord, TooFewWords, TooManyWords, Key, SecondKey, Value}
+use Rattle.trace_faults.specs.declared.fault.LineFault.TheVariants.{Empty, CarriageReturn, Tab, Space, UnknownWord, TooFewWords, TooManyWords, Key, SecondKey, Value}
 use Rattle.trace_faults.specs.declared.fault.NumberFault.TheVariants.{NotDecimal, LeadingZero, TooLarge}
 use Rattle.trace_faults.specs.declared.fault.ValueFault.TheVariants.{TooLong, OddDigits, NotHexadecimal}
 use Rattle.trace_faults.specs.declared.verb.Verb.TheVariants.{Put, Get, Del, Move}
@@ -17,16 +17,37 @@ no_byte = refl
 other_ending : IsLineFault (codes "get 1" ++ 13 ∷ []) CarriageReturn
 other_ending = record { before = codes "get 1"; after = []; line_is = refl }
 
+-- a byte that no byte of a line is stands nowhere in it
+abbrev IsFree : ℕ → List ℕ → Type 0
+IsFree byte [] = Unit {0}
+IsFree byte (c ∷ rest) = (c ≢ byte) × IsFree byte rest
+
+no_place : (byte : ℕ) (before after : List ℕ) → IsFree byte (before ++ byte ∷ after) → ⊥
+no_place byte [] after free = free.0 refl
+no_place byte (c ∷ before) after free = no_place byte before after free.1
+
+nowhere : (byte : ℕ) (line : List ℕ) → IsFree byte line → ¬ (Has byte line)
+nowhere byte line free has = no_place byte has.before has.after (subst (λ (l : List ℕ). IsFree byte l) has.line_is free)
+
 -- a tab parts no words, so it stands in one
-a_tab : Has 9 (codes "get" ++ 9 ∷ codes "1")
-a_tab = record { before = codes "get"; after = codes "1"; line_is = refl }
+a_tab : IsLineFault (codes "get" ++ 9 ∷ codes "1") Tab
+a_tab = (
+  record { before = codes "get"; after = codes "1"; line_is = refl },
+  nowhere 13 (codes "get" ++ 9 ∷ codes "1")
+      (λ e. omega (arith, e), (λ e. omega (arith, e), (λ e. omega (arith, e), (λ e. omega (arith, e), (λ e. omega (arith, e), tt))))),
+)
 
 one_word : words_of (codes "get" ++ 9 ∷ codes "1") ≡ (codes "get" ++ 9 ∷ codes "1") ∷ []
 one_word = refl
 
 -- a space too many makes an empty word: at the end, in front, and as one of two
-space_at_the_end : Contains (words_of (codes "get 1 ")) []
-space_at_the_end = (2, lit< tt, refl)
+space_at_the_end : IsLineFault (codes "del ") Space
+space_at_the_end = (
+  λ e. let none : 4 ≡ 0 = ap (λ (l : List ℕ). length l) e in omega (arith, none),
+  nowhere 13 (codes "del ") (λ e. omega (arith, e), (λ e. omega (arith, e), (λ e. omega (arith, e), (λ e. omega (arith, e), tt)))),
+  nowhere 9 (codes "del ") (λ e. omega (arith, e), (λ e. omega (arith, e), (λ e. omega (arith, e), (λ e. omega (arith, e), tt)))),
+  (1, lit< tt, refl),
+)
 
 space_in_front : Contains (words_of (codes " get 1")) []
 space_in_front = (0, lit< tt, refl)
