@@ -4,7 +4,7 @@ use Rattle.std.specs.Prelude.{nat_eq}
 use Rattle.std.proofs.lemmas.Bool.{cond-true, eq-eqb}
 use Rattle.std.proofs.lemmas.List.{append-nil, length-append}
 use Rattle.heap_model.specs.Words.{anchor_of, empty_state, partial_state}
-use Rattle.core_model.specs.Cells.{superblock_at}
+use Rattle.heap_model.specs.Geometry.{superblock_of}
 use Rattle.core_model.specs.Effects.{first_of, without_claim}
 use Rattle.core_model.specs.View.{Claim, Parts, Setup, View, no_batch, of_class}
 use Rattle.superblock_lists.specs.Anchors.{anchor_seen}
@@ -41,12 +41,12 @@ second_lifted = batch_of 1 one_run (with_cached [] (later 4 0 0 first_given))
 abbrev pub all_given : View
 all_given = record (later 3 1 1 second_lifted) { batch = no_batch }
 
-in_first : All (λ block. superblock_at 2 block ≡ 0) (1080 ∷ 2872 ∷ [])
+in_first : All (λ block. superblock_of 2 block ≡ 0) (1080 ∷ 2872 ∷ [])
 in_first zero d less = refl
 in_first (suc zero) d less = refl
 in_first (suc (suc k)) d less = absurd (omega (arith, less))
 
-in_second : All (λ block. superblock_at 2 block ≡ 1) one_run
+in_second : All (λ block. superblock_of 2 block ≡ 1) one_run
 in_second zero d less = refl
 in_second (suc zero) d less = refl
 in_second (suc (suc k)) d less = absurd (omega (arith, less))
@@ -146,7 +146,7 @@ one_batch_of_two run =
     let none : [] ≡ run.lifts.lifting.rest = run_leaves (with_cached (2872 ∷ 9272 ∷ []) before) before run in
     let both : 2872 ∷ 9272 ∷ [] ≡ run.lifts.lifting.lifted =
     run.lifts.lifting.both ∙ ap (λ rest. run.lifts.lifting.lifted ++ rest) (sym none) ∙ append-nil run.lifts.lifting.lifted in
-    let together = subst (All (λ block. superblock_at 2 block ≡ run.d)) (sym both) run.lifts.lifting.together in
+    let together = subst (All (λ block. superblock_of 2 block ≡ run.d)) (sym both) run.lifts.lifting.together in
     let first : 0 ≡ run.d = together 0 0 (omega arith) in
     let second : 1 ≡ run.d = together 1 0 (omega arith) in
     omega (arith, first, second)
@@ -157,14 +157,14 @@ a_block_behind run =
     let rest : 2872 ∷ 9272 ∷ 11064 ∷ [] ≡ run.lifts.lifting.rest = run_leaves full_cache (with_cached (2872 ∷ 9272 ∷ 11064 ∷ []) before) run in
     first_alone run.lifts.lifting.lifted run.lifts.lifting.some run.lifts.lifting.together
     (run.lifts.lifting.both ∙ ap (λ blocks. run.lifts.lifting.lifted ++ blocks) (sym rest))
-    (subst (λ blocks. superblock_at 2 (first_of blocks) ≢ run.d) (sym rest)
+    (subst (λ blocks. superblock_of 2 (first_of blocks) ≢ run.d) (sym rest)
     (run.lifts.longest (subst (λ blocks. 1 ≤ length blocks) rest (omega arith)))) where
-      first_alone : (lifted : List ℕ) → 1 ≤ length lifted → All (λ block. superblock_at 2 block ≡ run.d) lifted
+      first_alone : (lifted : List ℕ) → 1 ≤ length lifted → All (λ block. superblock_of 2 block ≡ run.d) lifted
           → two_runs ≡ lifted ++ (2872 ∷ 9272 ∷ 11064 ∷ []) → 0 ≢ run.d → ⊥
       first_alone [] some together both apart = omega (arith, some)
       first_alone (x ∷ []) some together both apart =
           let first : 1080 ≡ x = ap first_of both in
-          apart (subst (λ block. superblock_at 2 block ≡ run.d) (sym first) (together 0 0 (omega arith)))
+          apart (subst (λ block. superblock_of 2 block ≡ run.d) (sym first) (together 0 0 (omega arith)))
       first_alone (x ∷ y ∷ lifted) some together both apart =
           let long : 4 ≡ suc (suc (length (lifted ++ (2872 ∷ 9272 ∷ 11064 ∷ [])))) = ap length both in
           let more : length (lifted ++ (2872 ∷ 9272 ∷ 11064 ∷ [])) ≡ length lifted + 3 = length-append lifted (2872 ∷ 9272 ∷ 11064 ∷ []) in
@@ -250,7 +250,7 @@ gives_one = record {
     partial = λ e. refl;
   };
 } where
-  alone : All (λ block. superblock_at 2 block ≡ 0) (1080 ∷ [])
+  alone : All (λ block. superblock_of 2 block ≡ 0) (1080 ∷ [])
   alone zero d less = refl
   alone (suc k) d less = absurd (omega (arith, less))
 

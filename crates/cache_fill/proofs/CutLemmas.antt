@@ -5,7 +5,7 @@ use Rattle.std.specs.Prelude.{Result, Ok, Err, OnOk, IfErr}
 use Rattle.std.proofs.lemmas.Bool.{cases_lt}
 use Rattle.std.proofs.lemmas.List.{get_or-set_other}
 use Rattle.heap_model.specs.Counting.{times, without}
-use Rattle.heap_model.specs.Geometry.{start_word, superblocks_end, info_word, anchor_word}
+use Rattle.heap_model.specs.Geometry.{start_word, superblocks_end, info_word, anchor_word, superblock_of}
 use Rattle.heap_model.specs.Sizes.{IsClass, words_of_class, blocks_of}
 use Rattle.heap_model.specs.Words.{full_anchor}
 use Rattle.heap_model.proofs.BlockLemmas.{block_step}
@@ -13,7 +13,7 @@ use Rattle.heap_model.proofs.SizeLemmas.{two_words}
 use Rattle.line_memory.specs.declared.memory.Stopped.{Stopped}
 use Rattle.core_model.specs.declared.event.Event.TheVariants.{Store, Tick}
 use Rattle.core_model.specs.declared.event.Shift.TheVariants.{Cut}
-use Rattle.core_model.specs.Cells.{Cell, anchor_cell, data_cell, info_cell, cell_at, superblock_at}
+use Rattle.core_model.specs.Cells.{Cell, anchor_cell, data_cell, info_cell, cell_at}
 use Rattle.core_model.specs.Effects.{class_blocks, drew, last_of, learn, steps, stored, used_up}
 use Rattle.core_model.specs.Guards.{IsOwn}
 use Rattle.core_model.specs.Sound.{IsCutBlock}
@@ -68,7 +68,7 @@ raw_claimed v d claimed = omega (arith, claimed)
 
 -- a word of a claimed superblock leads to another
 module _ (v : View) (has : HasSoundState v) (word : ℕ) (from : start_word v.setup.capacity 0 ≤ word)
-    (until : word < superblocks_end v.setup.capacity) (raw : 0 < times_raw (superblock_at v.setup.capacity word) v) where
+    (until : word < superblocks_end v.setup.capacity) (raw : 0 < times_raw (superblock_of v.setup.capacity word) v) where
   word_is : cell_at v.setup.capacity word ≡ data_cell word
   word_is = cell_at_index v.setup.capacity (data_cell word) (and_is (nat_le (start_word v.setup.capacity 0) word)
       (nat_lt word (superblocks_end v.setup.capacity))
@@ -167,7 +167,7 @@ module _ (capacity class d j : ℕ) (is : IsClass class) (below : j < blocks_of 
   pub block_until : d < capacity → place < superblocks_end capacity
   block_until less = (cut_range capacity class d place is less at).1
 
-  pub block_in : superblock_at capacity place ≡ d
+  pub block_in : superblock_of capacity place ≡ d
   block_in = superblock_is capacity class d place is at
 
   pub block_end : place + words_of_class class ≤ start_word capacity (d + 1)
@@ -232,9 +232,9 @@ module _ (v t : View) (has : HasSoundState v) (d class n : ℕ) (is : IsClass cl
     pub link_until : block < superblocks_end t.setup.capacity
     link_until = let f = block_until v.setup.capacity class d n is below (raw_inside v has d raw) in let c = same_capacity in omega (arith, at_block)
 
-    pub link_raw : 0 < times_raw (superblock_at t.setup.capacity block) t
+    pub link_raw : 0 < times_raw (superblock_of t.setup.capacity block) t
     link_raw = subst (λ e. 0 < times_raw e t) (sym (block_in v.setup.capacity class d n is below)
-        ∙ ap (superblock_at v.setup.capacity) (sym at_block) ∙ ap (λ c. superblock_at c block) (sym same_capacity)) raw_still
+        ∙ ap (superblock_of v.setup.capacity) (sym at_block) ∙ ap (λ c. superblock_of c block) (sym same_capacity)) raw_still
 
     pub link_end : block + words_of_class class ≤ start_word v.setup.capacity (d + 1)
     link_end = let e = block_end v.setup.capacity class d n is below in omega (arith, at_block)

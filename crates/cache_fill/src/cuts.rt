@@ -2,9 +2,8 @@
 
 ghost use Rattle.std.specs.Prelude.{◌≡◌, ◌<◌, ◌≤◌, ◌+◌, ◌-◌, [], None, OnOk, IfErr};
 ghost use Rattle.heap_model.specs.Counting.{times};
-ghost use Rattle.heap_model.specs.Geometry.{start_word, superblocks_end};
+ghost use Rattle.heap_model.specs.Geometry.{start_word, superblocks_end, superblock_of};
 ghost use Rattle.heap_model.specs.Sizes.{blocks_of};
-ghost use Rattle.core_model.specs.Cells.{superblock_at};
 ghost use Rattle.core_model.specs.View.{of_class, times_raw};
 ghost use Rattle.heap_rule.specs.Seated.{IsSeatOf};
 ghost use Rattle.seat_costs.specs.Asked.{HasAsked};
@@ -32,7 +31,7 @@ fn link_block<C: Chance>(
     requires seat { IsSeatOf shared.now seat.old }
     requires from { start_word seat.old.view.setup.capacity 0 ≤ word }
     requires until { word < superblocks_end seat.old.view.setup.capacity }
-    requires claimed { 0 < times_raw (superblock_at seat.old.view.setup.capacity word)
+    requires claimed { 0 < times_raw (superblock_of seat.old.view.setup.capacity word)
         seat.old.view }
     ensures linked { OnOk result (HasLink word value seat.old.view seat.new.view) }
     ensures stopped { IfErr result (λ e. Stops e.step seat.old.view seat.new.view) }

@@ -4,13 +4,13 @@ use Rattle.std.specs.Bool.{⊤}
 use Rattle.std.specs.Prelude.{Result, Ok, Err, OnOk, IfErr}
 use Rattle.std.proofs.lemmas.List.{get_or-set_same, set-set}
 use Rattle.std.proofs.lemmas.List.Elements.{All-cons, All-nil, All-push}
-use Rattle.heap_model.specs.Geometry.{start_word}
+use Rattle.heap_model.specs.Geometry.{start_word, superblock_of}
 use Rattle.heap_model.specs.Sizes.{IsClass}
 use Rattle.heap_model.proofs.SizeLemmas.{two_words}
 use Rattle.line_memory.specs.declared.memory.Stopped.{Stopped}
 use Rattle.core_model.specs.declared.event.Event.TheVariants.{Load, Tick}
 use Rattle.core_model.specs.declared.event.Shift.TheVariants.{Lift}
-use Rattle.core_model.specs.Cells.{Cell, cell_at, data_cell, superblock_at}
+use Rattle.core_model.specs.Cells.{Cell, cell_at, data_cell}
 use Rattle.core_model.specs.Effects.{after_lift, drew, first_of, last_of, learn, rest_of, used_up}
 use Rattle.core_model.specs.Guards.{IsOwn}
 use Rattle.core_model.specs.Memory.{memory_of, next}
@@ -70,7 +70,7 @@ module _ (v : View) (has : HasSoundState v) (class : ℕ) (can : CanLift v class
   lift_still w same words = record {
     is_class = can.is_class;
     cached = subst (λ (p : Parts). 1 ≤ length (of_class p.caches class)) (sym same) can.cached;
-    same = subst (λ (p : Parts). 1 ≤ length p.batch.blocks → p.batch.descriptor ≡ superblock_at p.setup.capacity
+    same = subst (λ (p : Parts). 1 ≤ length p.batch.blocks → p.batch.descriptor ≡ superblock_of p.setup.capacity
         (first_of (of_class p.caches class))) (sym same) can.same;
     unchanged = subst (λ (p : Parts). 1 ≤ length p.batch.blocks → p.batch.linked ≡ true) (sym same) can.unchanged;
     linked = subst (λ (p : Parts). 1 ≤ length p.batch.blocks → Shows w (data_cell (last_of p.batch.blocks))
@@ -178,7 +178,7 @@ lifts_begin v class is some none = let empty = ap (λ (x : Batch). length x.bloc
 
 pub lifting_one : (v w : View) (class first : ℕ) → 1 ≤ length (of_class v.caches class) → v.batch ≡ no_batch
     → first ≡ first_of (of_class v.caches class) → HasLifted class first v w → ViewRow (record no_costs { draws = 2 }) v w
-    → IsLifting class (superblock_at v.setup.capacity first) first v w
+    → IsLifting class (superblock_of v.setup.capacity first) first v w
 lifting_one v w class first some none is lifted row = record {
   ran = lifted.ran;
   going = lifted.going;
@@ -190,11 +190,11 @@ lifting_one v w class first some none is lifted row = record {
   parts_are = lifted.parts_are
       ∙ ap (λ (x : Batch). record (parts v) {
         caches = set v.caches class (rest_of (of_class v.caches class));
-        batch = record { descriptor = superblock_at v.setup.capacity first; class = class; blocks = x.blocks ++ first ∷ []; linked = true };
+        batch = record { descriptor = superblock_of v.setup.capacity first; class = class; blocks = x.blocks ++ first ∷ []; linked = true };
       }) none;
   some = omega arith;
-  together = All-cons (λ b. superblock_at v.setup.capacity b ≡ superblock_at v.setup.capacity first) first [] refl
-      (All-nil (λ b. superblock_at v.setup.capacity b ≡ superblock_at v.setup.capacity first));
+  together = All-cons (λ b. superblock_of v.setup.capacity b ≡ superblock_of v.setup.capacity first) first [] refl
+      (All-nil (λ b. superblock_of v.setup.capacity b ≡ superblock_of v.setup.capacity first));
   last_is = refl;
   link = lifted.link;
   row = row;
@@ -217,12 +217,12 @@ module _ (v : View) (has : HasSoundState v) (class : ℕ) (is : IsClass class) w
     pub lifting_setup : t.setup ≡ v.setup
     lifting_setup = ap (λ (p : Parts). p.setup) lifting.parts_are
 
-    pub lifting_can : 1 ≤ length (of_class t.caches class) → superblock_at v.setup.capacity (first_of (of_class t.caches class)) ≡ d → CanLift t class
+    pub lifting_can : 1 ≤ length (of_class t.caches class) → superblock_of v.setup.capacity (first_of (of_class t.caches class)) ≡ d → CanLift t class
     lifting_can some at = record {
       is_class = is;
       cached = some;
       same = λ more. ap (λ (x : Batch). x.descriptor) lifting_batch ∙ sym at
-          ∙ ap (λ (k : Setup). superblock_at k.capacity (first_of (of_class t.caches class))) (sym lifting_setup);
+          ∙ ap (λ (k : Setup). superblock_of k.capacity (first_of (of_class t.caches class))) (sym lifting_setup);
       unchanged = λ more. ap (λ (x : Batch). x.linked) lifting_batch;
       linked = λ more. subst (λ n. Shows t (data_cell n) (first_of (of_class t.caches class)))
           (sym (ap (λ (x : Batch). last_of x.blocks) lifting_batch ∙ lifting.last_is))
@@ -230,7 +230,7 @@ module _ (v : View) (has : HasSoundState v) (class : ℕ) (is : IsClass class) w
     }
 
     module _ (w : View) (next : ℕ) (some : 1 ≤ length (of_class t.caches class)) (next_is : next ≡ first_of (of_class t.caches class))
-        (at : superblock_at v.setup.capacity (first_of (of_class t.caches class)) ≡ d)
+        (at : superblock_of v.setup.capacity (first_of (of_class t.caches class)) ≡ d)
         (lifted : HasLifted class next t w) (row : ViewRow (record no_costs { draws = 2 }) t w) where
       rest_is : lifting.rest ≡ next ∷ rest_of lifting.rest
       rest_is = first_rest lifting.rest (subst (λ bs. 1 ≤ length bs) lifting_cache some)
@@ -239,8 +239,8 @@ module _ (v : View) (has : HasSoundState v) (class : ℕ) (is : IsClass class) w
       many : length (lifting.lifted ++ next ∷ []) ≡ length lifting.lifted + 1
       many = length-append lifting.lifted (next ∷ [])
 
-      d_is : superblock_at t.setup.capacity next ≡ d
-      d_is = ap (λ (k : Setup). superblock_at k.capacity next) lifting_setup ∙ ap (superblock_at v.setup.capacity) next_is ∙ at
+      d_is : superblock_of t.setup.capacity next ≡ d
+      d_is = ap (λ (k : Setup). superblock_of k.capacity next) lifting_setup ∙ ap (superblock_of v.setup.capacity) next_is ∙ at
 
       pub lifting_on : IsLifting class d next v w
       lifting_on = record {
@@ -255,7 +255,7 @@ module _ (v : View) (has : HasSoundState v) (class : ℕ) (is : IsClass class) w
             ∙ ap (λ bs. record (parts v) {
               caches = set (set v.caches class lifting.rest) class (rest_of bs);
               batch = record {
-                descriptor = superblock_at v.setup.capacity next;
+                descriptor = superblock_of v.setup.capacity next;
                 class = class;
                 blocks = lifting.lifted ++ next ∷ [];
                 linked = true;
@@ -264,7 +264,7 @@ module _ (v : View) (has : HasSoundState v) (class : ℕ) (is : IsClass class) w
             ∙ ap (λ bs. record (parts v) {
               caches = bs;
               batch = record {
-                descriptor = superblock_at v.setup.capacity next;
+                descriptor = superblock_of v.setup.capacity next;
                 class = class;
                 blocks = lifting.lifted ++ next ∷ [];
                 linked = true;
@@ -274,10 +274,10 @@ module _ (v : View) (has : HasSoundState v) (class : ℕ) (is : IsClass class) w
               caches = set v.caches class (rest_of lifting.rest);
               batch = record { descriptor = n; class = class; blocks = lifting.lifted ++ next ∷ []; linked = true };
             })
-            (ap (superblock_at v.setup.capacity) next_is ∙ at);
+            (ap (superblock_of v.setup.capacity) next_is ∙ at);
         some = omega (arith, many);
-        together = All-push (λ b. superblock_at v.setup.capacity b ≡ d) lifting.lifted next lifting.together
-            (ap (superblock_at v.setup.capacity) next_is ∙ at);
+        together = All-push (λ b. superblock_of v.setup.capacity b ≡ d) lifting.lifted next lifting.together
+            (ap (superblock_of v.setup.capacity) next_is ∙ at);
         last_is = last_append lifting.lifted next;
         link = subst (λ bs. 1 ≤ length (rest_of bs) → Shows w (data_cell next) (first_of (rest_of bs))) lifting_cache lifted.link;
         row = let m = many in view_row_within (lift_costs (length (lifting.lifted ++ next ∷ []))) v w
@@ -320,11 +320,11 @@ module _ (v : View) (has : HasSoundState v) (class : ℕ) (is : IsClass class) w
     pub lifted_all : length (of_class t.caches class) ≡ 0 → HasLiftedPrefix class d last v t
     lifted_all none = record { lifting = lifting; longest = λ more. absurd (let r = ap length lifting_cache in omega arith) }
 
-    pub lifted_some : superblock_at v.setup.capacity (first_of (of_class t.caches class)) ≢ d → HasLiftedPrefix class d last v t
+    pub lifted_some : superblock_of v.setup.capacity (first_of (of_class t.caches class)) ≢ d → HasLiftedPrefix class d last v t
     lifted_some other = record {
       lifting = lifting;
       longest = λ more same. other
-          (ap (λ bs. superblock_at v.setup.capacity (first_of bs)) lifting_cache ∙ same);
+          (ap (λ bs. superblock_of v.setup.capacity (first_of bs)) lifting_cache ∙ same);
     }
 
 -- a cached block lies among the words of superblocks
@@ -333,5 +333,5 @@ pub above : (v : View) → HasSoundState v → (class : ℕ) → 1 ≤ length (o
 above v has class some = (block_range v has (first_of (of_class v.caches class))
     (let t = in_lists_total (first_of (of_class v.caches class)) class v.caches (first_there (of_class v.caches class) some) in omega arith)).0
 
-pub at_superblock : (c word start : ℕ) → start ≡ start_word c 0 → (word - start) / 8192 ≡ superblock_at c word
+pub at_superblock : (c word start : ℕ) → start ≡ start_word c 0 → (word - start) / 8192 ≡ superblock_of c word
 at_superblock c word start is = ap (λ s. (word - s) / 8192) is

@@ -1,6 +1,7 @@
 -- What a block that goes into the batch leaves of a seat.
 use Rattle.std.specs.Prelude.{◌≡◌, ◌<◌, ◌≤◌, ℕ, true, None, [], ◌∷◌, ◌++◌, ◌*◌, ◌≢◌, List, length, set, All}
-use Rattle.core_model.specs.Cells.{data_cell, superblock_at}
+use Rattle.heap_model.specs.Geometry.{superblock_of}
+use Rattle.core_model.specs.Cells.{data_cell}
 use Rattle.core_model.specs.Effects.{first_of, last_of, rest_of}
 use Rattle.core_model.specs.View.{View, of_class}
 use Rattle.heap_rule.specs.Shown.{Shows}
@@ -11,7 +12,7 @@ use Rattle.seat_costs.specs.Rows.{Parts, ViewRow, parts}
 abbrev pub with_lifted : ℕ → ℕ → Parts → Parts
 with_lifted class first p = record p {
   caches = set p.caches class (rest_of (of_class p.caches class));
-  batch = record { descriptor = superblock_at p.setup.capacity first; class = class; blocks = p.batch.blocks ++ first ∷ []; linked = true };
+  batch = record { descriptor = superblock_of p.setup.capacity first; class = class; blocks = p.batch.blocks ++ first ∷ []; linked = true };
 }
 
 pub record HasLifted (class first : ℕ) (v w : View) : Type 0 where
@@ -44,7 +45,7 @@ pub record IsLifting (class d last : ℕ) (v w : View) : Type 0 where
   pub both : of_class v.caches class ≡ lifted ++ rest
   pub parts_are : parts w ≡ with_batch class d lifted rest (parts v)
   pub some : 1 ≤ length lifted
-  pub together : All (λ block. superblock_at v.setup.capacity block ≡ d) lifted
+  pub together : All (λ block. superblock_of v.setup.capacity block ≡ d) lifted
   pub last_is : last_of lifted ≡ last
   pub link : 1 ≤ length rest → Shows w (data_cell last) (first_of rest)
   pub row : ViewRow (lift_costs (length lifted)) v w
@@ -52,4 +53,4 @@ pub record IsLifting (class d last : ℕ) (v w : View) : Type 0 where
 -- and the next block, if there is one, lies in another
 pub record HasLiftedPrefix (class d last : ℕ) (v w : View) : Type 0 where
   pub lifting : IsLifting class d last v w
-  pub longest : 1 ≤ length lifting.rest → superblock_at v.setup.capacity (first_of lifting.rest) ≢ d
+  pub longest : 1 ≤ length lifting.rest → superblock_of v.setup.capacity (first_of lifting.rest) ≢ d

@@ -1,7 +1,7 @@
 -- Blocks of cut superblocks: where they lie, and chains of them.
 use Rattle.std.proofs.Common.{◌≡◌, ◌≢◌, ℕ, ◌+◌, ◌%◌, ◌<◌, ◌≤◌, cond, nat_eq, List, [], ◌∷◌, ◌++◌, length, get_or, set, refl, ap, ◌∙◌, eq-eqb, ne_eqb, arith}
 use Rattle.std.proofs.lemmas.List.{get_or-set_same, get_or-set_other, get_or_default}
-use Rattle.heap_model.specs.Geometry.{start_word}
+use Rattle.heap_model.specs.Geometry.{start_word, superblock_of}
 use Rattle.heap_model.specs.Sizes.{IsClass, words_of_class, blocks_of}
 use Rattle.heap_model.specs.Words.{full_anchor}
 use Rattle.heap_model.specs.Counting.{times, total}
@@ -9,7 +9,6 @@ use Rattle.heap_model.specs.Chains.{Walks, after}
 use Rattle.heap_model.proofs.BlockLemmas.{block_step}
 use Rattle.heap_model.proofs.SizeLemmas.{blocks_fit, two_words, four_blocks}
 use Rattle.core_model.proofs.TotalLemmas.{eq-eqb-one}
-use Rattle.core_model.specs.Cells.{superblock_at}
 use Rattle.core_model.specs.Effects.{chain, first_of, last_of}
 use Rattle.core_model.specs.Sound.{IsCutBlock, IsAnchoredBy}
 use Rattle.core_model.proofs.TotalLemmas.{total_set}
@@ -20,7 +19,7 @@ inside_of c class d b is at =
     let step = block_step at.index (blocks_of class) (words_of_class class) at.below in
     let fits = blocks_fit class is in let e = at.at in (omega arith, omega arith)
 
-pub superblock_is : (c class d b : ℕ) → IsClass class → IsCutBlock c class d b → superblock_at c b ≡ d
+pub superblock_is : (c class d b : ℕ) → IsClass class → IsCutBlock c class d b → superblock_of c b ≡ d
 superblock_is c class d b is at =
     let where_it_lies = inside_of c class d b is at in
     let low = where_it_lies.0 in let high = where_it_lies.1 in let two = two_words class is in omega arith

@@ -8,7 +8,8 @@ use Rattle.heap_model.specs.Words.{large_info}
 use Rattle.heap_model.specs.Counting.{times, total, one_if}
 use Rattle.heap_model.proofs.ListLemmas.{times_append}
 use Rattle.heap_model.proofs.MemberLemmas.{in_head, in_rest, in_none, head_or_rest}
-use Rattle.core_model.specs.Cells.{Cell, used_cell, head_cell, info_cell, anchor_cell, link_cell, root_cell, data_cell, no_cell, index_of, superblock_at}
+use Rattle.heap_model.specs.Geometry.{superblock_of}
+use Rattle.core_model.specs.Cells.{Cell, used_cell, head_cell, info_cell, anchor_cell, link_cell, root_cell, data_cell, no_cell, index_of}
 use Rattle.core_model.specs.Memory.{Memory, memory_of, anchor, info}
 use Rattle.core_model.specs.View.{Setup, View, Batch, Span, one_if_some, of_class, times_own, times_raw, times_classed, times_large, times_block, times_within, times_in_classes}
 use Rattle.core_model.specs.Effects.{span_count}
@@ -165,7 +166,7 @@ module _ (k : Setup) (m : Memory) (old new : List View) (v u : View) (good : Goo
   blocks : BlocksOf m w
   blocks = let s = seat.blocks in record {
     held = λ class b there. elim (cases_lt 0 (times b (of_class u.small class))) [
-      | inl of_u ↦ subst (λ (x : Setup). info m (superblock_at x.capacity b) ≡ class) same_setup (carrier.blocks.held class b of_u)
+      | inl of_u ↦ subst (λ (x : Setup). info m (superblock_of x.capacity b) ≡ class) same_setup (carrier.blocks.held class b of_u)
       | inr none ↦ s.held class b (let t = both_class b class u.small v.small in omega arith)
     ];
     cached = s.cached;
@@ -196,9 +197,9 @@ module _ (k : Setup) (m : Memory) (old new : List View) (v u : View) (good : Goo
       let s = both_within word 0 u.small v.small in
       let c = ap (times_in_classes word 0) carries.free.0 in let b =
       ap (λ (x : Batch). times_within (words_of_class x.class) word x.blocks) carries.free.1 in
-      let l = large_share (superblock_at v.setup.capacity word) in let z = no_raw (superblock_at v.setup.capacity word) in
-      let p = ap (λ (x : Setup). times_large (superblock_at x.capacity word) u.large) same_setup in
-      let q = ap (λ (x : Setup). times_raw (superblock_at x.capacity word) u) same_setup in (omega arith, omega arith)
+      let l = large_share (superblock_of v.setup.capacity word) in let z = no_raw (superblock_of v.setup.capacity word) in
+      let p = ap (λ (x : Setup). times_large (superblock_of x.capacity word) u.large) same_setup in
+      let q = ap (λ (x : Setup). times_raw (superblock_of x.capacity word) u) same_setup in (omega arith, omega arith)
   own_more no_cell = (omega arith, omega arith)
 
   words : KnowsWords k.capacity m w

@@ -1,12 +1,11 @@
 -- A superblock is cut: all its blocks are in the cache of its class.
 use Rattle.std.proofs.Common.{◌≡◌, ◌≢◌, ℕ, ◌+◌, ◌<◌, ◌≤◌, inl, inr, cond, nat_eq, nat_lt, List, [], get_or, set, length, refl, ap, sym, subst, ◌∙◌, length-set, arith}
 use Rattle.std.proofs.lemmas.Bool.{cases_eq, cases_lt}
-use Rattle.heap_model.specs.Geometry.{start_word}
+use Rattle.heap_model.specs.Geometry.{start_word, superblock_of}
 use Rattle.heap_model.specs.Sizes.{IsClass}
 use Rattle.heap_model.specs.Words.{full_anchor}
 use Rattle.heap_model.specs.Chains.{Walks}
 use Rattle.heap_model.specs.Counting.{times, total, one_if, without}
-use Rattle.core_model.specs.Cells.{superblock_at}
 use Rattle.core_model.specs.Memory.{Memory, used, durable_used, durable_info, anchor, info, next}
 use Rattle.core_model.specs.View.{Setup, View, of_class, times_raw, times_classed, times_large, times_block}
 use Rattle.core_model.specs.Effects.{class_blocks, first_of, cleared, after_cut}
@@ -51,7 +50,7 @@ module _ (k : Setup) (m : Memory) (views : List View) (i : ℕ) (v : View) (belo
   fits : class < length v.caches
   fits = let c = seat.set_up.caches in let last = may.class.last in omega arith
 
-  in_block : (b : ℕ) → 0 < times b bs → IsCutBlock k.capacity class d b × (superblock_at k.capacity b ≡ d)
+  in_block : (b : ℕ) → 0 < times b bs → IsCutBlock k.capacity class d b × (superblock_of k.capacity b ≡ d)
   in_block b some = let c = spans.block_of k.capacity class d b (let e = ap (times b) same_blocks in omega arith) in
       (c, superblock_is k.capacity class d b may.class c)
 
@@ -100,7 +99,7 @@ module _ (k : Setup) (m : Memory) (views : List View) (i : ℕ) (v : View) (belo
   old_cut e other some = let n = ne-eqb-none d e (λ z. other (sym z)) in omega arith
 
   -- no block of it was anywhere
-  none_yet : (b : ℕ) → superblock_at k.capacity b ≡ d → total (times_block b) views ≡ 0
+  none_yet : (b : ℕ) → superblock_of k.capacity b ≡ d → total (times_block b) views ≡ 0
   none_yet b here = elim (cases_lt 0 (total (times_block b) views)) [
     | inl some ↦ absurd (let c = (good.shaped.chained.inside b some).0 in let n = not_cut in
         let e = ap (times_cut good.shape (tally_of views)) here in omega arith)
@@ -150,9 +149,9 @@ module _ (k : Setup) (m : Memory) (views : List View) (i : ℕ) (v : View) (belo
   blocks_now : HasBlocks v.setup.capacity (info m) (next m) v.small (set v.caches class bs) v.batch
   blocks_now = let s = seat.blocks in record {
     held = s.held;
-    cached = λ n b some. elim (cases_eq n class) as (λ _. info m (superblock_at v.setup.capacity b) ≡ n) [
+    cached = λ n b some. elim (cases_eq n class) as (λ _. info m (superblock_of v.setup.capacity b) ≡ n) [
       | inl same ↦ let here = in_block b (let e = ap (times b) (of_class_same v.caches class bs n same fits) in omega arith) in
-          ap (λ c. info m (superblock_at c b)) cap ∙ ap (info m) here.1 ∙ sym same
+          ap (λ c. info m (superblock_of c b)) cap ∙ ap (info m) here.1 ∙ sym same
       | inr other ↦ s.cached n b (let z = ap (times b) (of_class_other v.caches class bs n other) in omega arith)
     ];
     batched = s.batched;

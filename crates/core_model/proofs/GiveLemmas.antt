@@ -1,13 +1,13 @@
 -- The batch goes back to its superblock.
 use Rattle.std.proofs.Common.{◌≡◌, ◌≢◌, ℕ, zero, suc, ◌+◌, ◌-◌, ◌*◌, ◌/◌, ◌<◌, ◌≤◌, max, inl, inr, Bool, true, false, cond, ◌&&◌, nat_eq, nat_lt, List, [], ◌∷◌, ◌++◌, get_or, set, length, None, refl, ap, ap₂, sym, subst, ◌∙◌, eq-eqb, ne_eqb, mul-div_cancel, length-append, arith}
 use Rattle.std.proofs.lemmas.Bool.{cases_eq, cases_lt}
-use Rattle.heap_model.specs.Geometry.{start_word}
+use Rattle.heap_model.specs.Geometry.{start_word, superblock_of}
 use Rattle.heap_model.specs.Sizes.{IsClass, words_of_class, blocks_of}
 use Rattle.heap_model.specs.Words.{anchor_state, anchor_first, anchor_count, empty_state, partial_state, full_state, full_anchor}
 use Rattle.heap_model.specs.Chains.{Walks, after}
 use Rattle.heap_model.specs.Counting.{times, total, one_if}
 use Rattle.heap_model.proofs.SizeLemmas.{two_words, few_blocks}
-use Rattle.core_model.specs.Cells.{anchor_cell, superblock_at}
+use Rattle.core_model.specs.Cells.{anchor_cell}
 use Rattle.core_model.specs.Memory.{Memory, volatile_at, anchor, info, next, write}
 use Rattle.core_model.specs.View.{Setup, View, Batch, no_batch, times_raw, times_classed, times_large, times_block}
 use Rattle.core_model.specs.Effects.{seen_word, steps, first_of, last_of, trimmed, claim_class, claimed, won, given, batch_anchor}
@@ -56,9 +56,9 @@ module _ (k : Setup) (m : Memory) (views : List View) (i : ℕ) (v : View) (belo
   out : (b : ℕ) → 0 < times b bs → 0 < (tally_of views).blocks b
   out b some = let t = total_at (times_block b) views i v below_i at in omega arith
 
-  of_batch : (b : ℕ) → 0 < times b bs → (superblock_at k.capacity b ≡ d) × (info m d ≡ class)
+  of_batch : (b : ℕ) → 0 < times b bs → (superblock_of k.capacity b ≡ d) × (info m d ≡ class)
   of_batch b some = let s = seat.blocks.batched b some in
-      (ap (λ c. superblock_at c b) (sym cap) ∙ s.0 ∙ may.batch, ap (info m) (sym may.batch) ∙ s.1)
+      (ap (λ c. superblock_of c b) (sym cap) ∙ s.0 ∙ may.batch, ap (info m) (sym may.batch) ∙ s.1)
 
   pub info_is : info m d ≡ class
   info_is = (of_batch (first_of bs) (first_there bs may.some)).1
@@ -240,7 +240,7 @@ module _ (k : Setup) (m : Memory) (views : List View) (i : ℕ) (v : View) (belo
       | inr other ↦ c.chained e b (let z = cut_same e in omega arith) (let z = ap (times b) (chain_other e other) in omega arith)
     ];
     inside = λ b some. let o = c.inside b (let z = blocks_are b in omega arith) in
-        (let z = cut_same (superblock_at k.capacity b) in let y = o.0 in omega arith, o.1);
+        (let z = cut_same (superblock_of k.capacity b) in let y = o.0 in omega arith, o.1);
   }
 
   abbrev w0 : View

@@ -1,14 +1,13 @@
 -- Every mixed image of a sound state names each held block.
 use Rattle.std.proofs.Common.{◌≡◌, ◌≢◌, ℕ, ◌+◌, ◌-◌, ◌*◌, ◌<◌, ◌≤◌, inl, inr, ◌⊎◌, nat_lt, List, get_or, length, refl, ap, sym, subst, ◌∙◌, lt-ltb, arith}
 use Rattle.heap_model.specs.declared.block.Block.{Block}
-use Rattle.heap_model.specs.Geometry.{start_word, superblock_words, image_words, info_word}
+use Rattle.heap_model.specs.Geometry.{start_word, superblock_words, image_words, info_word, superblock_of}
 use Rattle.heap_model.specs.Sizes.{IsClass, words_of_class, blocks_of}
 use Rattle.heap_model.specs.Words.{large_info}
 use Rattle.heap_model.specs.Image.{Image}
 use Rattle.heap_model.specs.Header.{capacity_of, used_of}
 use Rattle.heap_model.specs.Blocks.{layout_of, of_class, as_large, IsBlock, Names}
 use Rattle.heap_model.specs.Durability.{IsTransient, is_head, is_anchor, is_link, IsCrashImage, IsClosedImage}
-use Rattle.core_model.specs.Cells.{superblock_at}
 use Rattle.core_model.specs.Memory.{Memory, info, durable_used, durable_info, memory_of}
 use Rattle.core_model.specs.View.{Setup, View, times_large, times_block}
 use Rattle.core_model.specs.Sound.{IsCutBlock, Good, Sound}
@@ -50,8 +49,8 @@ module _ (k : Setup) (words : List ℕ) (views : List View) (sound : Sound k wor
       let mine = total_at (times_block first) views j v below at in
       let inside = good.shaped.chained.inside first (omega arith) in
       let cap : v.setup.capacity ≡ k.capacity = ap (λ (s : Setup). s.capacity) (good.set_up j v below at).setup in
-      let d = superblock_at k.capacity first in
-      let is_info : info m d ≡ class = ap (λ c. info m (superblock_at c first)) (sym cap) ∙ (good.blocks j v below at).held class first some in
+      let d = superblock_of k.capacity first in
+      let is_info : info m d ≡ class = ap (λ c. info m (superblock_of c first)) (sym cap) ∙ (good.blocks j v below at).held class first some in
       let less = good.shaped.durable.below d (let c = inside.0 in omega arith) in
       let now : image (info_word d) ≡ class = info_is d (durable_inside d less) (good.shaped.durable.infos d (let c = inside.0 in omega arith))
       ∙ is_info in

@@ -4,9 +4,9 @@ use Rattle.std.proofs.lemmas.Bool.{cases_lt}
 use Rattle.heap_model.specs.declared.block.Block.{Block}
 use Rattle.heap_model.specs.Counting.{times, total}
 use Rattle.heap_model.specs.Blocks.{AreOneOrApart, Names, layout_of}
-use Rattle.heap_model.specs.Geometry.{start_word, superblocks_end, image_words}
+use Rattle.heap_model.specs.Geometry.{start_word, superblocks_end, image_words, superblock_of}
 use Rattle.heap_model.proofs.BlockLemmas.{never_overlap, block_inside}
-use Rattle.core_model.specs.Cells.{Cell, used_cell, head_cell, info_cell, anchor_cell, link_cell, root_cell, data_cell, no_cell, superblock_at}
+use Rattle.core_model.specs.Cells.{Cell, used_cell, head_cell, info_cell, anchor_cell, link_cell, root_cell, data_cell, no_cell}
 use Rattle.core_model.specs.Guards.{IsOwn}
 use Rattle.core_model.specs.Memory.{Memory, durable_used, memory_of, used}
 use Rattle.core_model.specs.View.{Setup, View, times_block, times_claimed, times_classed, times_free, times_held, times_large, times_own, times_raw}
@@ -29,7 +29,7 @@ module _ (k : Setup) (words : List ℕ) (views : List View) (sound : Sound k wor
   small_once : (b : ℕ) → total (times_block b) views ≤ 1
   small_once b = elim (cases_lt 0 (total (times_block b) views)) [
     | inl some ↦ let inside = good.shaped.chained.inside b some in
-        let one = good.shaped.chained.owned (superblock_at k.capacity b) b inside.0 inside.1 in omega arith
+        let one = good.shaped.chained.owned (superblock_of k.capacity b) b inside.0 inside.1 in omega arith
     | inr none ↦ omega arith
   ]
 
@@ -43,7 +43,7 @@ module _ (k : Setup) (words : List ℕ) (views : List View) (sound : Sound k wor
       let own = own_first k m views good i v below at first (omega arith) in omega arith
   first_own i v below at b (a_large d n some count) =
       let covers = span_covers d d v.large (omega arith) (omega arith) (omega arith) in
-      let here : superblock_at v.setup.capacity (start_word v.setup.capacity d) ≡ d = omega arith in
+      let here : superblock_of v.setup.capacity (start_word v.setup.capacity d) ≡ d = omega arith in
       let same = ap (λ e. times_large e v.large) here in omega arith
 
   -- the durable words name it
@@ -87,8 +87,8 @@ module _ (k : Setup) (m : Memory) (views : List View) (good : Good k m views) (i
   once_word : (word : ℕ) → times_own v (data_cell word) ≤ 1
   once_word word =
       let cap : v.setup.capacity ≡ k.capacity = ap (λ (s : Setup). s.capacity) (good.set_up i v below at).setup in
-      let whole = ap (λ c. times_large (superblock_at c word) v.large + times_raw (superblock_at c word) v) cap in
-      let d = superblock_at k.capacity word in
+      let whole = ap (λ c. times_large (superblock_of c word) v.large + times_raw (superblock_of c word) v) cap in
+      let d = superblock_of k.capacity word in
       let raw = total_at (times_raw d) views i v below at in
       let large = total_at (λ (u : View). times_large d u.large) views i v below at in
       let p = good.shaped.placed.one_place d in

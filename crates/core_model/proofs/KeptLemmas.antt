@@ -7,7 +7,8 @@ use Rattle.core_model.specs.Memory.{Memory, StepPlace, tickets, used, head, anch
 use Rattle.core_model.specs.View.{Setup, View, one_if_some, times_raw, times_classed, times_block}
 use Rattle.core_model.specs.Effects.{seen, seen_word, seen_of, before, place_of, taken_fresh, lost, drew, stopped, shifted, after_cut, after_alloc, after_free, after_lift, after_large, after_split, popped, popped_head, pushed, pushed_head, taken_all, given, batch_anchor, first_of}
 use Rattle.heap_model.specs.Words.{head_first, full_anchor}
-use Rattle.core_model.specs.Cells.{cell_at, superblock_at}
+use Rattle.heap_model.specs.Geometry.{superblock_of}
+use Rattle.core_model.specs.Cells.{cell_at}
 use Rattle.core_model.specs.declared.event.Shift.{Shift}
 use Rattle.core_model.specs.declared.event.Shift.TheVariants.{Cut, Alloc, Free, Lift, Large, Split}
 use Rattle.core_model.specs.Guards.{MayShift, MayStep}
@@ -108,7 +109,7 @@ module _ (k : Setup) (m : Memory) (views : List View) (i : ℕ) (v : View) (belo
         not_raw = let b = first_of v.batch.blocks in let there = first_there v.batch.blocks may.ready.some in
             let t = total_at (times_block b) views i v below at in
             let cut = (good.shaped.chained.inside b (omega arith)).0 in let s = good.set_up i v below at in
-            let here : superblock_at k.capacity b ≡ d = ap (λ (q : Setup). superblock_at q.capacity b) (sym s.setup)
+            let here : superblock_of k.capacity b ≡ d = ap (λ (q : Setup). superblock_of q.capacity b) (sym s.setup)
             ∙ ((good.blocks i v below at).batched b there).0 ∙ may.ready.batch in
             let c = ap (times_cut good.shape (tally_of views)) here in let r = total_at (times_raw d) views i v below at in
             let p = good.shaped.placed.one_place d in let most = one_at_most (nat_lt d (used m)) in omega arith
@@ -159,7 +160,7 @@ module _ (k : Setup) (m : Memory) (views : List View) (i : ℕ) (v : View) (belo
         (let c = (good.tickets i v below at).cuts in omega arith))
     shift_kept (Some (Alloc class)) may = twice (after_alloc v1 class)
         (shifts.alloc k m1 views1 i v1 below1 at1 good1 class (record { is_class = may.is_class; cached = may.cached }))
-    shift_kept (Some (Free block)) may = twice (after_free v1 (info m (superblock_at v.setup.capacity block)) block)
+    shift_kept (Some (Free block)) may = twice (after_free v1 (info m (superblock_of v.setup.capacity block)) block)
         (shifts.free k m1 views1 i v1 below1 at1 good1 block (record { is_class = may.is_class; held = may.held; linked = may.linked }))
     shift_kept (Some (Lift class)) may = twice (after_lift v1 class) (shifts.lift k m1 views1 i v1 below1 at1 good1 class (record {
       is_class = may.is_class;
@@ -176,7 +177,7 @@ module _ (k : Setup) (m : Memory) (views : List View) (i : ℕ) (v : View) (belo
           others = may.others;
           durable_infos = may.durable_infos;
         }))
-    shift_kept (Some (Split block)) may = twice (after_split v1 (superblock_at v.setup.capacity block))
+    shift_kept (Some (Split block)) may = twice (after_split v1 (superblock_of v.setup.capacity block))
         (spans.split_large k m1 views1 i v1 below1 at1 good1 block (record { held = may.held; first = may.first }))
 
   pub kept_tick : (shift : Option Shift) → MayStep m v (Tick shift) → Keeps k m views i v (Tick shift)

@@ -3,10 +3,9 @@ use Rattle.std.proofs.Common.{◌≡◌, ℕ, zero, suc, ◌+◌, ◌/◌, ◌<�
 use Rattle.std.proofs.lemmas.Bool.{cases_eq}
 use Rattle.heap_model.specs.declared.block.Block.{Block}
 use Rattle.heap_model.specs.Counting.{times, total, one_if, below}
-use Rattle.heap_model.specs.Geometry.{lists, superblock_words}
+use Rattle.heap_model.specs.Geometry.{lists, superblock_words, superblock_of}
 use Rattle.heap_model.specs.Rest.{large_part}
 use Rattle.heap_model.proofs.MemberLemmas.{in_head, in_rest, head_or_rest, in_none}
-use Rattle.core_model.specs.Cells.{superblock_at}
 use Rattle.core_model.specs.Sound.{Each}
 use Rattle.core_model.specs.View.{View, Span, takes, times_large}
 use Rattle.core_model.specs.Effects.{steps, span_count}
@@ -80,12 +79,12 @@ abbrev pub small_at : ℕ → Block → ℕ
 small_at b p = one_if (is_small p && nat_eq p.first_word b)
 
 pub small_sum : (capacity : ℕ) (infos : ℕ → ℕ) (b : ℕ) (ps : List Block)
-    → ((p : Block) → Contains ps p → is_small p ≡ true → infos (superblock_at capacity p.first_word) < lists)
+    → ((p : Block) → Contains ps p → is_small p ≡ true → infos (superblock_of capacity p.first_word) < lists)
     → total (λ class. times b (small_blocks capacity infos class ps)) (steps 0 1 lists) ≡ total (small_at b) ps
 small_sum capacity infos b [] classes = total_zero (λ class. 0) (steps 0 1 lists) (λ x. refl)
 small_sum capacity infos b (p ∷ ps) classes = by_test (is_small p) refl (small_sum capacity infos b ps (λ q m. classes q (in_rest p q ps m))) where
   own : ℕ
-  own = infos (superblock_at capacity p.first_word)
+  own = infos (superblock_of capacity p.first_word)
 
   by_test : (test : Bool) → is_small p ≡ test → total (λ class. times b (small_blocks capacity infos class ps)) (steps 0 1 lists) ≡ total
       (small_at b) ps
@@ -116,15 +115,15 @@ small_sum capacity infos b (p ∷ ps) classes = by_test (is_small p) refl (small
 
 -- a block of a list of a class is small, and of the class
 pub small_member : (capacity : ℕ) (infos : ℕ → ℕ) (class b : ℕ) (ps : List Block) → 0 < times b (small_blocks capacity infos class ps)
-    → infos (superblock_at capacity b) ≡ class
+    → infos (superblock_of capacity b) ≡ class
 small_member capacity infos class b [] some = absurd (omega arith)
-small_member capacity infos class b (p ∷ ps) some = by_test (is_small p) (nat_eq (infos (superblock_at capacity p.first_word)) class) refl some
+small_member capacity infos class b (p ∷ ps) some = by_test (is_small p) (nat_eq (infos (superblock_of capacity p.first_word)) class) refl some
     (small_member capacity infos class b ps) where
-      by_test : (s t : Bool) → nat_eq (infos (superblock_at capacity p.first_word)) class ≡ t
+      by_test : (s t : Bool) → nat_eq (infos (superblock_of capacity p.first_word)) class ≡ t
           → 0 < times b (cond (s && t) (p.first_word ∷ small_blocks capacity infos class ps) (small_blocks capacity infos class ps))
-          → (0 < times b (small_blocks capacity infos class ps) → infos (superblock_at capacity b) ≡ class) → infos (superblock_at capacity b) ≡ class
+          → (0 < times b (small_blocks capacity infos class ps) → infos (superblock_of capacity b) ≡ class) → infos (superblock_of capacity b) ≡ class
       by_test true true e more rest = elim (cases_eq p.first_word b) [
-        | inl same ↦ ap (λ x. infos (superblock_at capacity x)) (sym same) ∙ eqb-true (infos (superblock_at capacity p.first_word)) class e
+        | inl same ↦ ap (λ x. infos (superblock_of capacity x)) (sym same) ∙ eqb-true (infos (superblock_of capacity p.first_word)) class e
         | inr other ↦ rest (let n = ne-eqb-none p.first_word b other in omega arith)
       ]
       by_test true false e more rest = rest more
@@ -132,7 +131,7 @@ small_member capacity infos class b (p ∷ ps) some = by_test (is_small p) (nat_
 
 -- the large blocks take as many superblocks as their words do
 pub large_sum : (capacity d : ℕ) (ps : List Block) → ((p : Block) → Contains ps p → is_small p ≡ false
-    → one_if (takes d (record { first = superblock_at capacity p.first_word; count = p.words / superblock_words })) ≡ large_part capacity d p)
+    → one_if (takes d (record { first = superblock_of capacity p.first_word; count = p.words / superblock_words })) ≡ large_part capacity d p)
     → ((p : Block) → Contains ps p → is_small p ≡ true → large_part capacity d p ≡ 0)
     → times_large d (large_blocks capacity ps) ≡ total (large_part capacity d) ps
 large_sum capacity d [] large small = refl
@@ -140,7 +139,7 @@ large_sum capacity d (p ∷ ps) large small = by_test (is_small p) refl
     (large_sum capacity d ps (λ q m. large q (in_rest p q ps m)) (λ q m. small q (in_rest p q ps m))) where
       by_test : (test : Bool) → is_small p ≡ test → times_large d (large_blocks capacity ps) ≡ total (large_part capacity d) ps
           → times_large d (cond test (large_blocks capacity ps) (record {
-            first = superblock_at capacity p.first_word;
+            first = superblock_of capacity p.first_word;
             count = p.words / superblock_words;
           } ∷ large_blocks capacity ps)) ≡ large_part capacity d p + total (large_part capacity d) ps
       by_test true is rest = let none = small p (in_head p ps) is in omega arith
@@ -148,34 +147,34 @@ large_sum capacity d (p ∷ ps) large small = by_test (is_small p) refl
 
 -- a span is that of a large block
 pub span_of_block : (capacity d : ℕ) (ps : List Block) → 0 < span_count d (large_blocks capacity ps) → (p : Block) × Contains ps p
-    × (is_small p ≡ false) × (superblock_at capacity p.first_word ≡ d) × (p.words / superblock_words ≡ span_count d (large_blocks capacity ps))
+    × (is_small p ≡ false) × (superblock_of capacity p.first_word ≡ d) × (p.words / superblock_words ≡ span_count d (large_blocks capacity ps))
 span_of_block capacity d [] some = absurd (omega arith)
-span_of_block capacity d (p ∷ ps) some = by_test (is_small p) (nat_eq (superblock_at capacity p.first_word) d) refl refl some
+span_of_block capacity d (p ∷ ps) some = by_test (is_small p) (nat_eq (superblock_of capacity p.first_word) d) refl refl some
     (span_of_block capacity d ps) where
       at_span : (t : Bool) → ℕ
       at_span t = cond t (p.words / superblock_words) (span_count d (large_blocks capacity ps))
 
-      by_test : (s t : Bool) → is_small p ≡ s → nat_eq (superblock_at capacity p.first_word) d ≡ t
+      by_test : (s t : Bool) → is_small p ≡ s → nat_eq (superblock_of capacity p.first_word) d ≡ t
           → 0 < span_count d (cond s (large_blocks capacity ps) (record {
-            first = superblock_at capacity p.first_word;
+            first = superblock_of capacity p.first_word;
             count = p.words / superblock_words;
           } ∷ large_blocks capacity ps))
           → (0 < span_count d (large_blocks capacity ps) → (q : Block) × Contains ps q × (is_small q ≡ false)
-          × (superblock_at capacity q.first_word ≡ d) × (q.words / superblock_words ≡ span_count d (large_blocks capacity ps)))
-          → (q : Block) × Contains (p ∷ ps) q × (is_small q ≡ false) × (superblock_at capacity q.first_word ≡ d)
+          × (superblock_of capacity q.first_word ≡ d) × (q.words / superblock_words ≡ span_count d (large_blocks capacity ps)))
+          → (q : Block) × Contains (p ∷ ps) q × (is_small q ≡ false) × (superblock_of capacity q.first_word ≡ d)
           × (q.words / superblock_words ≡ span_count d (cond s (large_blocks capacity ps)
-          (record { first = superblock_at capacity p.first_word; count = p.words / superblock_words } ∷ large_blocks capacity ps)))
+          (record { first = superblock_of capacity p.first_word; count = p.words / superblock_words } ∷ large_blocks capacity ps)))
       by_test true t e f more rest = let r = rest more in (r.0, in_rest p r.0 ps r.1, r.2, r.3, r.4)
       by_test false true e f more rest = (
         p,
         in_head p ps,
         e,
-        eqb-true (superblock_at capacity p.first_word) d f,
+        eqb-true (superblock_of capacity p.first_word) d f,
         sym (ap (λ u. cond u (p.words / superblock_words) (span_count d (large_blocks capacity ps))) f),
       )
       by_test false false e f more rest =
           let same : span_count d (record {
-            first = superblock_at capacity p.first_word;
+            first = superblock_of capacity p.first_word;
             count = p.words / superblock_words;
           } ∷ large_blocks capacity ps) ≡ span_count d (large_blocks capacity ps)
           = ap (λ u. cond u (p.words / superblock_words) (span_count d (large_blocks capacity ps))) f in
@@ -185,7 +184,7 @@ span_of_block capacity d (p ∷ ps) some = by_test (is_small p) (nat_eq (superbl
 pub small_from : (capacity : ℕ) (infos : ℕ → ℕ) (class b : ℕ) (ps : List Block) → 0 < times b (small_blocks capacity infos class ps)
     → (p : Block) × Contains ps p × (is_small p ≡ true) × (p.first_word ≡ b)
 small_from capacity infos class b [] some = absurd (omega arith)
-small_from capacity infos class b (p ∷ ps) some = by_test (is_small p) (nat_eq (infos (superblock_at capacity p.first_word)) class) refl some
+small_from capacity infos class b (p ∷ ps) some = by_test (is_small p) (nat_eq (infos (superblock_of capacity p.first_word)) class) refl some
     (small_from capacity infos class b ps) where
       by_test : (s t : Bool) → is_small p ≡ s → 0 < times b (cond (s && t) (p.first_word ∷ small_blocks capacity infos class ps)
           (small_blocks capacity infos class ps))
@@ -204,12 +203,12 @@ pub span_from : (capacity : ℕ) (ps : List Block) (span : Span) → Contains (l
 span_from capacity [] span m = absurd (in_none span m)
 span_from capacity (p ∷ ps) span m = by_test (is_small p) refl m (span_from capacity ps span) where
   by_test : (s : Bool) → is_small p ≡ s → Contains (cond s (large_blocks capacity ps)
-      (record { first = superblock_at capacity p.first_word; count = p.words / superblock_words } ∷ large_blocks capacity ps)) span
+      (record { first = superblock_of capacity p.first_word; count = p.words / superblock_words } ∷ large_blocks capacity ps)) span
       → (Contains (large_blocks capacity ps) span → (q : Block) × Contains ps q × (is_small q ≡ false)
       × (span.count ≡ q.words / superblock_words)) → (q : Block) × Contains (p ∷ ps) q × (is_small q ≡ false)
       × (span.count ≡ q.words / superblock_words)
   by_test true e n rest = let r = rest n in (r.0, in_rest p r.0 ps r.1, r.2, r.3)
-  by_test false e n rest = elim (head_or_rest (record { first = superblock_at capacity p.first_word; count = p.words / superblock_words }) span
+  by_test false e n rest = elim (head_or_rest (record { first = superblock_of capacity p.first_word; count = p.words / superblock_words }) span
       (large_blocks capacity ps) n) [
         | inl same ↦ (p, in_head p ps, e, sym (ap (λ (x : Span). x.count) same))
         | inr later ↦ let r = rest later in (r.0, in_rest p r.0 ps r.1, r.2, r.3)

@@ -2,7 +2,7 @@
 use Rattle.std.proofs.Common.{◌≡◌, ℕ, zero, suc, ◌+◌, ◌*◌, ◌/◌, ◌<◌, ◌≤◌, inl, inr, ◌⊎◌, ◌↔◌, Bool, true, false, cond, nat_eq, ◌&&◌, List, [], ◌∷◌, Contains, get_or, length, slice_index, refl, ap, sym, subst, ◌∙◌, eq-eqb, eqb-true, true≢false, arith}
 use Rattle.std.proofs.lemmas.Bool.{cases_lt}
 use Rattle.heap_model.specs.declared.block.Block.{Block}
-use Rattle.heap_model.specs.Geometry.{lists, info_word, start_word, superblock_words}
+use Rattle.heap_model.specs.Geometry.{lists, info_word, start_word, superblock_words, superblock_of}
 use Rattle.heap_model.specs.Sizes.{words_of_class}
 use Rattle.heap_model.specs.Counting.{times}
 use Rattle.heap_model.specs.Blocks.{layout_of}
@@ -10,7 +10,6 @@ use Rattle.heap_model.specs.Rest.{IsReady}
 use Rattle.heap_model.proofs.BlockLemmas.{same_first}
 use Rattle.heap_model.proofs.PartLemmas.{same_fields}
 use Rattle.heap_model.proofs.MemberLemmas.{in_head, in_rest, head_or_rest, in_none}
-use Rattle.core_model.specs.Cells.{superblock_at}
 use Rattle.core_model.specs.Effects.{span_count}
 use Rattle.core_model.specs.Held.{IsHeld, a_small, a_large}
 use Rattle.core_model.specs.Opening.{picked, is_small, small_blocks, large_blocks, AreOwners, IsOwnerOf}
@@ -52,33 +51,33 @@ picked_for seat held owners b o = by_index held owners o.at o.inside o.is o.owne
 
 -- a small block is in the list of its class
 small_there : (capacity : ℕ) (infos : ℕ → ℕ) (class : ℕ) (ps : List Block) (p : Block) → Contains ps p → is_small p ≡ true
-    → infos (superblock_at capacity p.first_word) ≡ class → 0 < times p.first_word (small_blocks capacity infos class ps)
+    → infos (superblock_of capacity p.first_word) ≡ class → 0 < times p.first_word (small_blocks capacity infos class ps)
 small_there capacity infos class [] p there small is = absurd (in_none p there)
 small_there capacity infos class (q ∷ ps) p there small is = by_test
-    (is_small q && nat_eq (infos (superblock_at capacity q.first_word)) class) refl (head_or_rest q p ps there)
+    (is_small q && nat_eq (infos (superblock_of capacity q.first_word)) class) refl (head_or_rest q p ps there)
     (λ m. small_there capacity infos class ps p m small is) where
-      by_test : (t : Bool) → (is_small q && nat_eq (infos (superblock_at capacity q.first_word)) class) ≡ t → (q ≡ p) ⊎ Contains ps p
+      by_test : (t : Bool) → (is_small q && nat_eq (infos (superblock_of capacity q.first_word)) class) ≡ t → (q ≡ p) ⊎ Contains ps p
           → (Contains ps p → 0 < times p.first_word (small_blocks capacity infos class ps))
           → 0 < times p.first_word (cond t (q.first_word ∷ small_blocks capacity infos class ps) (small_blocks capacity infos class ps))
       by_test true e (inl same) rest = let one = eq-eqb-one q.first_word p.first_word (ap (λ (x : Block). x.first_word) same) in omega arith
       by_test true e (inr m) rest = let r = rest m in omega arith
-      by_test false e (inl same) rest = absurd (true≢false (sym (and_is (is_small q) (nat_eq (infos (superblock_at capacity q.first_word)) class)
-          (ap is_small same ∙ small) (eq-eqb (infos (superblock_at capacity q.first_word)) class
-          (ap (λ (x : Block). infos (superblock_at capacity x.first_word)) same ∙ is))) ∙ e))
+      by_test false e (inl same) rest = absurd (true≢false (sym (and_is (is_small q) (nat_eq (infos (superblock_of capacity q.first_word)) class)
+          (ap is_small same ∙ small) (eq-eqb (infos (superblock_of capacity q.first_word)) class
+          (ap (λ (x : Block). infos (superblock_of capacity x.first_word)) same ∙ is))) ∙ e))
       by_test false e (inr m) rest = rest m
 
 -- a large block is a span, where each has a superblock at least
 span_there : (capacity d : ℕ) (ps : List Block) (p : Block) → ((q : Block) → Contains ps q → is_small q ≡ false
-    → 1 ≤ q.words / superblock_words) → Contains ps p → is_small p ≡ false → superblock_at capacity p.first_word ≡ d
+    → 1 ≤ q.words / superblock_words) → Contains ps p → is_small p ≡ false → superblock_of capacity p.first_word ≡ d
     → 0 < span_count d (large_blocks capacity ps)
 span_there capacity d [] p some there large is = absurd (in_none p there)
-span_there capacity d (q ∷ ps) p some there large is = by_test (is_small q) (nat_eq (superblock_at capacity q.first_word) d) refl refl
+span_there capacity d (q ∷ ps) p some there large is = by_test (is_small q) (nat_eq (superblock_of capacity q.first_word) d) refl refl
     (head_or_rest q p ps there)
     (λ m. span_there capacity d ps p (λ x n. some x (in_rest q x ps n)) m large is) where
-      by_test : (s t : Bool) → is_small q ≡ s → nat_eq (superblock_at capacity q.first_word) d ≡ t → (q ≡ p) ⊎ Contains ps p
+      by_test : (s t : Bool) → is_small q ≡ s → nat_eq (superblock_of capacity q.first_word) d ≡ t → (q ≡ p) ⊎ Contains ps p
           → (Contains ps p → 0 < span_count d (large_blocks capacity ps))
           → 0 < span_count d (cond s (large_blocks capacity ps) (record {
-            first = superblock_at capacity q.first_word;
+            first = superblock_of capacity q.first_word;
             count = q.words / superblock_words;
           } ∷ large_blocks capacity ps))
       by_test true t e f (inl same) rest = absurd (true≢false (sym e ∙ ap is_small same ∙ large))
@@ -86,7 +85,7 @@ span_there capacity d (q ∷ ps) p some there large is = by_test (is_small q) (n
       by_test false true e f m rest = let one = some q (in_head q ps) e in
           subst (λ u. 0 < cond u (q.words / superblock_words) (span_count d (large_blocks capacity ps))) (sym f) (omega arith)
       by_test false false e f (inl same) rest = absurd (true≢false (sym
-          (eq-eqb (superblock_at capacity q.first_word) d (ap (λ (x : Block). superblock_at capacity x.first_word) same ∙ is)) ∙ f))
+          (eq-eqb (superblock_of capacity q.first_word) d (ap (λ (x : Block). superblock_of capacity x.first_word) same ∙ is)) ∙ f))
       by_test false false e f (inr m) rest = subst (λ u. 0 < cond u (q.words / superblock_words) (span_count d (large_blocks capacity ps)))
           (sym f) (rest m)
 
@@ -112,7 +111,7 @@ module _ (words : List ℕ) (held : List Block) (budget seats : ℕ) (block_owne
         let p = small_from c (λ d. image (info_word d)) class first ps (omega arith) in
         let infos = small_member c (λ d. image (info_word d)) class first ps (omega arith) in
         let s = opened.small_of words held budget seats block_owners root_owners ready owners p.0 (all_held p.0 p.1) p.2 in
-        let same : s.class ≡ class = sym s.info_at ∙ ap (λ d. image (info_word d)) (sym s.here ∙ ap (superblock_at c) p.3) ∙ infos in
+        let same : s.class ≡ class = sym s.info_at ∙ ap (λ d. image (info_word d)) (sym s.here ∙ ap (superblock_of c) p.3) ∙ infos in
         subst (Contains ps) (same_fields p.0 (record { first_word = first; words = words_of_class class }) p.3 (s.size ∙ ap words_of_class same)) p.1
     | inr past ↦ absurd (let n = beyond (opened.V words held budget seats block_owners root_owners ready owners i).small class first
         (let e = length_tabulate (λ n. small_blocks c (λ d. image (info_word d)) n ps) 0 lists in omega arith) in omega arith)
@@ -131,7 +130,7 @@ module _ (words : List ℕ) (held : List Block) (budget seats : ℕ) (block_owne
     by_kind : opened.IsSmall words held budget seats block_owners root_owners ready owners b ⊎ opened.IsLarge words held budget seats
         block_owners root_owners ready owners b → IsHeld (opened.V words held budget seats block_owners root_owners ready owners i) b
     by_kind (inl s) =
-        let at : image (info_word (superblock_at c b.first_word)) ≡ s.class = ap (λ d. image (info_word d)) s.here ∙ s.info_at in
+        let at : image (info_word (superblock_of c b.first_word)) ≡ s.class = ap (λ d. image (info_word d)) s.here ∙ s.info_at in
         let e = ap (times b.first_word) (opened.small_at_class words held budget seats block_owners root_owners ready owners i s.class
         (let l = s.is_class.last in omega arith)) in
         let there_once = small_there c (λ d. image (info_word d)) s.class ps b there s.small at in

@@ -3,7 +3,7 @@ use Rattle.std.proofs.Common.{◌≡◌, ◌≢◌, ℕ, ◌+◌, ◌*◌, ◌/�
 use Rattle.std.proofs.lemmas.Bool.{cases_eq, cases_lt}
 use Rattle.std.proofs.lemmas.List.{get_or_append_left, get_or-map, length-map}
 use Rattle.heap_model.specs.declared.block.Block.{Block}
-use Rattle.heap_model.specs.Geometry.{lists, roots, head_word, info_word, anchor_word, link_word, start_word, superblock_words, superblocks_end, image_words, largest_capacity_fits}
+use Rattle.heap_model.specs.Geometry.{lists, roots, head_word, info_word, anchor_word, link_word, start_word, superblock_words, superblocks_end, image_words, largest_capacity_fits, superblock_of}
 use Rattle.heap_model.specs.Sizes.{IsClass, words_of_class, blocks_of}
 use Rattle.heap_model.specs.Words.{head_first, head_pops, anchor_state, anchor_first, empty_state, partial_state, full_state, full_anchor, large_info}
 use Rattle.heap_model.specs.Counting.{times, total, one_if, below}
@@ -12,7 +12,7 @@ use Rattle.heap_model.specs.Chains.{Follows}
 use Rattle.heap_model.specs.Rest.{list_numbers, large_part, IsAnchored, IsReady}
 use Rattle.heap_model.proofs.SizeLemmas.{few_words, two_words}
 use Rattle.heap_model.proofs.CountingLemmas.{times_some, one_if_true, one_if_false, number_below, total_some}
-use Rattle.core_model.specs.Cells.{Cell, used_cell, head_cell, info_cell, anchor_cell, link_cell, data_cell, is_cell, index_of, superblock_at}
+use Rattle.core_model.specs.Cells.{Cell, used_cell, head_cell, info_cell, anchor_cell, link_cell, data_cell, is_cell, index_of}
 use Rattle.core_model.specs.Memory.{Memory, memory_of, table_length, used, head, info, anchor, link, next}
 use Rattle.core_model.specs.View as seen_as
 use Rattle.core_model.specs.View.{Setup, View, LastLook, one_if_some, times_raw, times_classed, times_large, times_block}
@@ -95,7 +95,7 @@ module _ (words : List ℕ) (held : List Block) (budget seats : ℕ) (block_owne
     pub is : IsCutBlock c class d p.first_word
     pub size : p.words ≡ words_of_class class
     pub small : is_small p ≡ true
-    pub here : superblock_at c p.first_word ≡ d
+    pub here : superblock_of c p.first_word ≡ d
 
   pub record IsLarge (p : Block) : Type 0 where
     pub count : ℕ
@@ -107,7 +107,7 @@ module _ (words : List ℕ) (held : List Block) (budget seats : ℕ) (block_owne
     pub first : p.first_word ≡ start_word c d
     pub size : p.words ≡ superblock_words * count
     pub large : is_small p ≡ false
-    pub here : superblock_at c p.first_word ≡ d
+    pub here : superblock_of c p.first_word ≡ d
 
   pub held_cases : (p : Block) → Contains held p → IsSmall p ⊎ IsLarge p
   held_cases p there = let b = ready.blocks p there in let o = b.is_of in elim (begins_cases (layout_of image) b.superblock b.words b.count o.begins) [
@@ -140,7 +140,7 @@ module _ (words : List ℕ) (held : List Block) (budget seats : ℕ) (block_owne
           first = first;
           size = o.size ∙ l.5;
           large = not-lt p.words superblock_words (let e = o.size in let g = l.5 in let s = l.1 in omega arith);
-          here = ap (superblock_at c) first ∙ (let z : superblock_at c (start_word c b.superblock) ≡ b.superblock = omega arith in z);
+          here = ap (superblock_of c) first ∙ (let z : superblock_of c (start_word c b.superblock) ≡ b.superblock = omega arith in z);
         })
   ]
 
@@ -149,23 +149,23 @@ module _ (words : List ℕ) (held : List Block) (budget seats : ℕ) (block_owne
 
   -- which superblocks a large block takes
   pub part_takes : (d : ℕ) (p : Block) (l : IsLarge p) → one_if (seen_as.takes d
-      (record { first = superblock_at c p.first_word; count = p.words / superblock_words })) ≡ large_part c d p
+      (record { first = superblock_of c p.first_word; count = p.words / superblock_words })) ≡ large_part c d p
   part_takes d p l = elim (cases_lt d l.d) [
     | inl less ↦ none (λ low high. omega (arith, low, l.here, less)) (λ low high. omega (arith, l.first, low, less))
     | inr low ↦ elim (cases_lt d (l.d + l.count)) [
-      | inl high ↦ one_if_true _ (and_is _ _ (le-leb (superblock_at c p.first_word) d (omega (arith, l.here, low)))
-          (lt-ltb d (superblock_at c p.first_word + p.words / superblock_words) (omega (arith, l.here, l.size, high))))
+      | inl high ↦ one_if_true _ (and_is _ _ (le-leb (superblock_of c p.first_word) d (omega (arith, l.here, low)))
+          (lt-ltb d (superblock_of c p.first_word + p.words / superblock_words) (omega (arith, l.here, l.size, high))))
           ∙ sym (one_if_true _ (and_is _ _ (le-leb superblock_words p.words (omega (arith, l.size, l.some)))
           (and_is _ _ (lt-ltb p.first_word (start_word c (d + 1)) (omega (arith, l.first, low)))
           (lt-ltb (start_word c d) (p.first_word + p.words) (omega (arith, l.first, l.size, high))))))
       | inr past ↦ none (λ a b. omega (arith, b, l.here, l.size, past)) (λ a b. omega (arith, b, l.first, l.size, past))
     ]
   ] where
-    none : (superblock_at c p.first_word ≤ d → d < superblock_at c p.first_word + p.words / superblock_words → ⊥)
+    none : (superblock_of c p.first_word ≤ d → d < superblock_of c p.first_word + p.words / superblock_words → ⊥)
         → (p.first_word < start_word c (d + 1) → start_word c d < p.first_word + p.words → ⊥)
-        → one_if (seen_as.takes d (record { first = superblock_at c p.first_word; count = p.words / superblock_words })) ≡ large_part c d p
+        → one_if (seen_as.takes d (record { first = superblock_of c p.first_word; count = p.words / superblock_words })) ≡ large_part c d p
     none out apart = one_if_false _ (λ t. let b = and_both _ _ t in
-        out (leb-true (superblock_at c p.first_word) d b.0) (ltb-true d (superblock_at c p.first_word + p.words / superblock_words) b.1))
+        out (leb-true (superblock_of c p.first_word) d b.0) (ltb-true d (superblock_of c p.first_word + p.words / superblock_words) b.1))
         ∙ sym (one_if_false _ (λ t. let b = and_both _ _ t in let e = and_both _ _ b.1 in
         apart (ltb-true p.first_word (start_word c (d + 1)) e.0) (ltb-true (start_word c d) (p.first_word + p.words) e.1)))
 
@@ -200,7 +200,7 @@ module _ (words : List ℕ) (held : List Block) (budget seats : ℕ) (block_owne
       (λ j _. let s = tabulate_sum (times b) (λ class. small_blocks c (λ d. image (info_word d)) class (picked j held block_owners)) 0 lists in
       let t = small_sum c (λ d. image (info_word d)) b (picked j held block_owners)
       (λ p m small. let q = small_of p (picked_in j held block_owners p m) small in
-      let e : image (info_word (superblock_at c p.first_word)) ≡ q.class = ap (λ d. image (info_word d)) q.here ∙ q.info_at in
+      let e : image (info_word (superblock_of c p.first_word)) ≡ q.class = ap (λ d. image (info_word d)) q.here ∙ q.info_at in
       let l = q.is_class.last in omega arith) in omega arith)
       ∙ picked_sum (small_at b) held block_owners seats owners.blocks owners.block_seats
 
@@ -308,14 +308,14 @@ module _ (words : List ℕ) (held : List Block) (budget seats : ℕ) (block_owne
     out_end l apart = apart inside_part.1
 
   -- a held block of a cut superblock is no large one
-  held_count : (d b : ℕ) → 0 < times_cut g t d → superblock_at c b ≡ d → total (small_at b) held ≡ times b (map (λ (p : Block). p.first_word) held)
+  held_count : (d b : ℕ) → 0 < times_cut g t d → superblock_of c b ≡ d → total (small_at b) held ≡ times b (map (λ (p : Block). p.first_word) held)
   held_count d b cut here = total_in (small_at b) (λ (p : Block). one_if (nat_eq p.first_word b)) held
       (λ p there. by_case p there (cases_eq p.first_word b) (held_cases p there)) ∙ sym (times_map b held) where
         by_case : (p : Block) → Contains held p → (p.first_word ≡ b) ⊎ (p.first_word ≢ b) → IsSmall p ⊎ IsLarge p
             → one_if (is_small p && nat_eq p.first_word b) ≡ one_if (nat_eq p.first_word b)
         by_case p there x (inl s) = ap (λ y. one_if (y && nat_eq p.first_word b)) s.small
         by_case p there (inr other) (inr l) = ap (λ y. one_if (y && nat_eq p.first_word b)) l.large ∙ sym (ne-eqb-none p.first_word b other)
-        by_case p there (inl same) (inr l) = absurd (let of_d : l.d ≡ d = sym l.here ∙ ap (superblock_at c) same ∙ here in
+        by_case p there (inl same) (inr l) = absurd (let of_d : l.d ≡ d = sym l.here ∙ ap (superblock_of c) same ∙ here in
             let part : large_part c d p ≡ 1 = one_if_true _ (and_is _ _ (le-leb superblock_words p.words (omega (arith, l.size, l.some)))
             (and_is _ _ (lt-ltb p.first_word (start_word c (d + 1)) (omega (arith, l.first, of_d)))
             (lt-ltb (start_word c d) (p.first_word + p.words) (omega (arith, l.first, of_d, l.size, l.some))))) in
@@ -334,12 +334,12 @@ module _ (words : List ℕ) (held : List Block) (budget seats : ℕ) (block_owne
     inside = λ b some. let s = total_some (small_at b) held (let all = blocks_is b in omega arith) in held_inside s.0 s.1 b s.2;
   } where
     held_inside : (p : Block) → Contains held p → (b : ℕ) → 0 < one_if (is_small p && nat_eq p.first_word b)
-        → (0 < times_cut g t (superblock_at c b)) × IsCutBlock c (info m (superblock_at c b)) (superblock_at c b) b
+        → (0 < times_cut g t (superblock_of c b)) × IsCutBlock c (info m (superblock_of c b)) (superblock_of c b) b
     held_inside p there b some =
         let both = and_both (is_small p) (nat_eq p.first_word b) (is_one (is_small p && nat_eq p.first_word b) some) in
         let s = small_of p there both.0 in
         let same : p.first_word ≡ b = eqb-true p.first_word b both.1 in
-        let here : superblock_at c b ≡ s.d = ap (superblock_at c) (sym same) ∙ s.here in
+        let here : superblock_of c b ≡ s.d = ap (superblock_of c) (sym same) ∙ s.here in
         let place = inside_of c s.class s.d p.first_word s.is_class s.is in let two = two_words s.class s.is_class in let lo = place.0 in
         let hi = place.1 in
         let info_here : info m s.d ≡ s.class = info_is s.d (in_used s.d s.taken) ∙ s.info_at in
@@ -431,7 +431,7 @@ module _ (words : List ℕ) (held : List Block) (budget seats : ℕ) (block_owne
     some = λ span there. let s = span_from c (picked j held block_owners) span there in let l = large_of s.0 (held_of j s.0 s.1) s.2 in
         let e = s.3 in let f = l.size in let o = l.some in omega arith;
   } where
-    is_span : (d n : ℕ) (p : Block) (l : IsLarge p) → superblock_at c p.first_word ≡ d → p.words / superblock_words ≡ n
+    is_span : (d n : ℕ) (p : Block) (l : IsLarge p) → superblock_of c p.first_word ≡ d → p.words / superblock_words ≡ n
         → (info m d ≡ large_info n) × ((e : ℕ) → d < e → e < d + n → info m e ≡ 0)
     is_span d n p l here words_are =
         let same : l.d ≡ d = sym l.here ∙ here in
@@ -448,13 +448,13 @@ module _ (words : List ℕ) (held : List Block) (budget seats : ℕ) (block_owne
 
   blocks : (j : ℕ) → BlocksOf m (V j)
   blocks j = record {
-    held = λ class b some. elim (cases_lt class lists) as (λ _. info m (superblock_at c b) ≡ class) [
+    held = λ class b some. elim (cases_lt class lists) as (λ _. info m (superblock_of c b) ≡ class) [
       | inl less ↦ let here = ap (times b) (small_at_class j class less) in
           let infos = small_member c (λ d. image (info_word d)) class b (picked j held block_owners) (omega arith) in
           let p = small_from c (λ d. image (info_word d)) class b (picked j held block_owners) (omega arith) in
           let s = small_of p.0 (held_of j p.0 p.1) p.2 in
-          let at : superblock_at c b ≡ s.d = ap (superblock_at c) (sym p.3) ∙ s.here in
-          info_is (superblock_at c b) (subst (λ d. d < c) (sym at) (in_used s.d s.taken)) ∙ infos
+          let at : superblock_of c b ≡ s.d = ap (superblock_of c) (sym p.3) ∙ s.here in
+          info_is (superblock_of c b) (subst (λ d. d < c) (sym at) (in_used s.d s.taken)) ∙ infos
       | inr past ↦ absurd (let n = beyond (V j).small class b (let e =
           length_tabulate (λ n. small_blocks c (λ d. image (info_word d)) n (picked j held block_owners)) 0 lists in omega arith) in omega arith)
     ];

@@ -2,7 +2,8 @@
 use Rattle.std.proofs.Common.{◌≡◌, ℕ, zero, suc, ◌+◌, ◌<◌, ◌≤◌, Bool, true, false, cond, not, ◌&&◌, nat_eq, nat_lt, nat_le, List, [], ◌∷◌, get_or, length, Option, None, Some, refl, ap, ap₂, sym, subst, ◌∙◌, ltb-true, eqb-true, eq-eqb, le-leb, lt-ltb, true≢false, arith}
 use Rattle.heap_model.specs.Sizes.{words_of_class}
 use Rattle.heap_model.specs.Counting.{times, one_if}
-use Rattle.core_model.specs.Cells.{Cell, used_cell, head_cell, info_cell, anchor_cell, link_cell, root_cell, data_cell, no_cell, is_cell, index_of, cell_at, superblock_at}
+use Rattle.heap_model.specs.Geometry.{superblock_of}
+use Rattle.core_model.specs.Cells.{Cell, used_cell, head_cell, info_cell, anchor_cell, link_cell, root_cell, data_cell, no_cell, is_cell, index_of, cell_at}
 use Rattle.core_model.specs.Memory.{Memory, anchor}
 use Rattle.core_model.specs.View.{Setup, View, Snapshot, LastLook, one_if_some, known, times_own, times_raw, times_classed, times_claimed, times_large, times_in_classes, times_within}
 use Rattle.core_model.specs.Effects.{seen, seen_of, cleared, only_own, trimmed}
@@ -34,11 +35,11 @@ own_grows v w same raw claimed large (anchor_cell d) = raw d
 own_grows v w same raw claimed large (link_cell d) = claimed d
 own_grows v w same raw claimed large (root_cell n) = let e = ap (λ (h : Holdings). times n h.roots) same in omega arith
 own_grows v w same raw claimed large (data_cell word) =
-    let more = large (superblock_at v.setup.capacity word) in
+    let more = large (superblock_of v.setup.capacity word) in
     let blocks = ap (λ (h : Holdings). times_in_classes word 0 h.small + times_in_classes word 0 h.caches + times_within
     (words_of_class h.batch_class) word h.batch_blocks) same in
-    let parts_w = ap (λ (h : Holdings). times_large (superblock_at h.setup.capacity word) w.large + times_raw
-    (superblock_at h.setup.capacity word) w) same in
+    let parts_w = ap (λ (h : Holdings). times_large (superblock_of h.setup.capacity word) w.large + times_raw
+    (superblock_of h.setup.capacity word) w) same in
     omega arith
 own_grows v w same raw claimed large no_cell = omega arith
 

@@ -1,13 +1,13 @@
 -- A word is own to at most one seat.
 use Rattle.std.proofs.Common.{◌≡◌, ◌≢◌, ℕ, zero, suc, ◌+◌, ◌*◌, ◌<◌, ◌≤◌, inl, inr, Bool, true, false, ◌&&◌, nat_eq, nat_lt, nat_le, List, [], ◌∷◌, get_or, length, refl, ap, sym, subst, ◌∙◌, leb-true, ltb-true, le-leb, lt-ltb, arith}
 use Rattle.std.proofs.lemmas.Bool.{cases_eq, cases_lt, cases_order}
-use Rattle.heap_model.specs.Geometry.{start_word}
+use Rattle.heap_model.specs.Geometry.{start_word, superblock_of}
 use Rattle.heap_model.specs.Sizes.{IsClass, words_of_class}
 use Rattle.heap_model.specs.Counting.{times, total, one_if}
 use Rattle.heap_model.proofs.CountingLemmas.{one_if_true}
 use Rattle.heap_model.proofs.BlockLemmas.{block_step}
 use Rattle.heap_model.proofs.SizeLemmas.{two_words}
-use Rattle.core_model.specs.Cells.{Cell, used_cell, head_cell, info_cell, anchor_cell, link_cell, root_cell, data_cell, no_cell, superblock_at}
+use Rattle.core_model.specs.Cells.{Cell, used_cell, head_cell, info_cell, anchor_cell, link_cell, root_cell, data_cell, no_cell}
 use Rattle.core_model.specs.Memory.{Memory, info, used}
 use Rattle.core_model.specs.View.{Setup, View, times_own, times_raw, times_classed, times_large, times_block, times_within, times_in_classes}
 use Rattle.core_model.specs.Guards.{IsOwn}
@@ -153,20 +153,20 @@ module _ (k : Setup) (m : Memory) (views : List View) (good : Good k m views) wh
       let t = total_at (times_block b) views j v below_j at_j in
       let inside = good.shaped.chained.inside b (omega arith) in
       let cap : v.setup.capacity ≡ k.capacity = ap (λ (s : Setup). s.capacity) (good.set_up j v below_j at_j).setup in
-      let is_class = good.shaped.chained.is_class (superblock_at k.capacity b) inside.0 in
+      let is_class = good.shaped.chained.is_class (superblock_of k.capacity b) inside.0 in
       let s = good.blocks j v below_j at_j in
       elim (cases_lt 0 (total (times b) v.small)) [
         | inl small ↦ let h = which_class b v.small small in
-            let is : IsClass (0 + h.n) = subst IsClass (ap (λ c. info m (superblock_at c b)) (sym cap) ∙ s.held h.n b h.there
+            let is : IsClass (0 + h.n) = subst IsClass (ap (λ c. info m (superblock_of c b)) (sym cap) ∙ s.held h.n b h.there
             ∙ (let e : h.n ≡ 0 + h.n = omega arith in e)) is_class in
             let own = in_classes_own b 0 h.n v.small (let two = two_words (0 + h.n) is in omega arith) h.there in omega arith
         | inr not_small ↦ elim (cases_lt 0 (total (times b) v.caches)) [
           | inl cached ↦ let h = which_class b v.caches cached in
-              let is : IsClass (0 + h.n) = subst IsClass (ap (λ c. info m (superblock_at c b)) (sym cap) ∙ s.cached h.n b h.there
+              let is : IsClass (0 + h.n) = subst IsClass (ap (λ c. info m (superblock_of c b)) (sym cap) ∙ s.cached h.n b h.there
               ∙ (let e : h.n ≡ 0 + h.n = omega arith in e)) is_class in
               let own = in_classes_own b 0 h.n v.caches (let two = two_words (0 + h.n) is in omega arith) h.there in omega arith
           | inr not_cached ↦ let q = s.batched b (omega arith) in
-              let is : IsClass v.batch.class = subst IsClass (ap (λ c. info m (superblock_at c b)) (sym cap) ∙ ap (info m) q.0 ∙ q.1) is_class in
+              let is : IsClass v.batch.class = subst IsClass (ap (λ c. info m (superblock_of c b)) (sym cap) ∙ ap (info m) q.0 ∙ q.1) is_class in
               let own = within_own (words_of_class v.batch.class) b v.batch.blocks (let two = two_words v.batch.class is in
               omega arith) (omega arith) in omega arith
         ]
@@ -176,25 +176,25 @@ module _ (k : Setup) (m : Memory) (views : List View) (good : Good k m views) wh
   pub record Covers (v : View) (word b : ℕ) : Type 0 where
     pub class : ℕ
     pub owned : 0 < times_block b v
-    pub info_is : info m (superblock_at k.capacity word) ≡ class
-    pub cut : 0 < times_cut good.shape (tally_of views) (superblock_at k.capacity word)
-    pub is : IsCutBlock k.capacity class (superblock_at k.capacity word) b
+    pub info_is : info m (superblock_of k.capacity word) ≡ class
+    pub cut : 0 < times_cut good.shape (tally_of views) (superblock_of k.capacity word)
+    pub is : IsCutBlock k.capacity class (superblock_of k.capacity word) b
     pub from : b ≤ word
     pub until : word < b + words_of_class class
 
   covers : (j : ℕ) (v : View) → j < length views → get_or views j v ≡ v → (class word b : ℕ) → 0 < times_block b v
-      → info m (superblock_at v.setup.capacity b) ≡ class → IsWithin (words_of_class class) word b → Covers v word b
+      → info m (superblock_of v.setup.capacity b) ≡ class → IsWithin (words_of_class class) word b → Covers v word b
   covers j v below_j at_j class word b some info_b within =
       let t = total_at (times_block b) views j v below_j at_j in
       let inside = good.shaped.chained.inside b (omega arith) in
       let cap : v.setup.capacity ≡ k.capacity = ap (λ (s : Setup). s.capacity) (good.set_up j v below_j at_j).setup in
-      let info_k : info m (superblock_at k.capacity b) ≡ class = ap (λ c. info m (superblock_at c b)) (sym cap) ∙ info_b in
-      let is_class : IsClass class = subst IsClass info_k (good.shaped.chained.is_class (superblock_at k.capacity b) inside.0) in
-      let block : IsCutBlock k.capacity class (superblock_at k.capacity b) b =
-      subst (λ c. IsCutBlock k.capacity c (superblock_at k.capacity b) b) info_k inside.1 in
-      let place = inside_of k.capacity class (superblock_at k.capacity b) b is_class block in
+      let info_k : info m (superblock_of k.capacity b) ≡ class = ap (λ c. info m (superblock_of c b)) (sym cap) ∙ info_b in
+      let is_class : IsClass class = subst IsClass info_k (good.shaped.chained.is_class (superblock_of k.capacity b) inside.0) in
+      let block : IsCutBlock k.capacity class (superblock_of k.capacity b) b =
+      subst (λ c. IsCutBlock k.capacity c (superblock_of k.capacity b) b) info_k inside.1 in
+      let place = inside_of k.capacity class (superblock_of k.capacity b) b is_class block in
       let low = place.0 in let high = place.1 in let f = within.from in let u = within.until in
-      let same : superblock_at k.capacity b ≡ superblock_at k.capacity word = by_bounds (superblock_at k.capacity b) low high f u in
+      let same : superblock_of k.capacity b ≡ superblock_of k.capacity word = by_bounds (superblock_of k.capacity b) low high f u in
       record {
         class = class;
         owned = some;
@@ -205,15 +205,15 @@ module _ (k : Setup) (m : Memory) (views : List View) (good : Good k m views) wh
         until = within.until;
       } where
         by_bounds : (d : ℕ) → start_word k.capacity d ≤ b → b + words_of_class class ≤ start_word k.capacity (d + 1) → b ≤ word
-            → word < b + words_of_class class → d ≡ superblock_at k.capacity word
+            → word < b + words_of_class class → d ≡ superblock_of k.capacity word
         by_bounds d low high f u = omega arith
 
   -- two such blocks are one
   pub covers_one : (u v : View) (word b c : ℕ) → Covers u word b → Covers v word c → b ≡ c
   covers_one u v word b c p q =
       let same : q.class ≡ p.class = sym q.info_is ∙ p.info_is in
-      same_block k.capacity p.class (superblock_at k.capacity word) word b c p.is
-      (subst (λ n. IsCutBlock k.capacity n (superblock_at k.capacity word) c) same q.is) p.from p.until q.from
+      same_block k.capacity p.class (superblock_of k.capacity word) word b c p.is
+      (subst (λ n. IsCutBlock k.capacity n (superblock_of k.capacity word) c) same q.is) p.from p.until q.from
       (subst (λ n. word < c + words_of_class n) same q.until)
 
   -- a seat that has the word in a block has such a block
@@ -267,9 +267,9 @@ module _ (k : Setup) (m : Memory) (views : List View) (good : Good k m views) wh
   by_word i j v u other below_i at_i below_j at_j word own =
       let cap_v : v.setup.capacity ≡ k.capacity = ap (λ (s : Setup). s.capacity) (good.set_up i v below_i at_i).setup in
       let cap_u : u.setup.capacity ≡ k.capacity = ap (λ (s : Setup). s.capacity) (good.set_up j u below_j at_j).setup in
-      let whole_v = ap (λ c. whole v (superblock_at c word)) cap_v in
-      let whole_u = ap (λ c. whole u (superblock_at c word)) cap_u in
-      let d = superblock_at k.capacity word in
+      let whole_v = ap (λ c. whole v (superblock_of c word)) cap_v in
+      let whole_u = ap (λ c. whole u (superblock_of c word)) cap_u in
+      let d = superblock_of k.capacity word in
       let raw = total_two (times_raw d) views i j v u other below_i at_i below_j at_j in
       let large = total_two (λ (x : View). times_large d x.large) views i j v u other below_i at_i below_j at_j in
       let p = good.shaped.placed.one_place d in let most = one_at_most (nat_lt d (used m)) in

@@ -1,13 +1,13 @@
 -- A push: a claimed descriptor goes to the front of a list.
 use Rattle.std.proofs.Common.{◌≡◌, ◌≢◌, ℕ, ◌+◌, ◌<◌, ◌≤◌, inl, inr, ◌⊎◌, Bool, true, false, cond, ◌&&◌, nat_eq, nat_lt, List, ◌∷◌, get_or, set, length, Option, None, refl, ap, sym, subst, ◌∙◌, eq-eqb, ne_eqb, lt-ltb, arith}
 use Rattle.std.proofs.lemmas.Bool.{cases_eq, cases_lt}
-use Rattle.heap_model.specs.Geometry.{lists, largest_capacity_fits}
+use Rattle.heap_model.specs.Geometry.{lists, largest_capacity_fits, superblock_of}
 use Rattle.heap_model.specs.Sizes.{IsClass}
 use Rattle.heap_model.specs.Words.{head_first, head_pops, anchor_state, empty_state, full_state}
 use Rattle.heap_model.specs.Chains.{Follows}
 use Rattle.heap_model.specs.Rest.{list_numbers}
 use Rattle.heap_model.specs.Counting.{times, total, one_if, below, without}
-use Rattle.core_model.specs.Cells.{head_cell, superblock_at}
+use Rattle.core_model.specs.Cells.{head_cell}
 use Rattle.core_model.specs.Memory.{Memory, volatile_at, used, durable_used, head, anchor, info, link, next, write}
 use Rattle.core_model.specs.View.{Setup, View, Batch, Snapshot, LastLook, one_if_some, times_raw, times_classed, times_claimed, times_large, times_block}
 use Rattle.core_model.specs.Effects.{before, seen, seen_word, seen_of, cleared, without_claim, steps, won, pushed, pushed_raw, pushed_classed, pushed_head}
@@ -387,9 +387,9 @@ module _ (k : Setup) (m : Memory) (views : List View) (i : ℕ) (v : View) (belo
             owned = λ e b some. c.owned e b (let f = cut_are e in omega arith);
             chained = λ e b some. c.chained e b (let f = cut_are e in omega arith);
             inside = λ b some. let old = c.inside b some in (
-              elim (cases_eq d (superblock_at k.capacity b)) as (λ _. 0 < times_cut g' t' (superblock_at k.capacity b)) [
+              elim (cases_eq d (superblock_of k.capacity b)) as (λ _. 0 < times_cut g' t' (superblock_of k.capacity b)) [
                 | inl same ↦ absurd (let none = empty_home empty b (subst (λ x. IsCutBlock k.capacity (info m x) x b) (sym same) old.1) in omega arith)
-                | inr other ↦ let f = cut_are (superblock_at k.capacity b) in let z = ne-eqb-none d (superblock_at k.capacity b) other in
+                | inr other ↦ let f = cut_are (superblock_of k.capacity b) in let z = ne-eqb-none d (superblock_of k.capacity b) other in
                     let o = old.0 in omega arith
               ],
               old.1,

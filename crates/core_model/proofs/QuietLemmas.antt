@@ -2,13 +2,13 @@
 use Rattle.std.proofs.Common.{◌≡◌, ◌≢◌, ℕ, suc, ◌+◌, ◌<◌, ◌≤◌, inl, inr, Bool, true, false, not, nat_eq, ◌&&◌, List, [], ◌∷◌, get_or, set, length, Option, None, Some, refl, ap, ap₂, sym, subst, ◌∙◌, eqb-true, eq-eqb, length-set, arith}
 use Rattle.std.proofs.lemmas.Bool.{cases_eq}
 use Rattle.std.proofs.lemmas.List.{get_or-set_other, get_or_default}
-use Rattle.heap_model.specs.Geometry.{lists}
+use Rattle.heap_model.specs.Geometry.{lists, superblock_of}
 use Rattle.heap_model.specs.Sizes.{words_of_class}
 use Rattle.heap_model.specs.Words.{head_first}
 use Rattle.heap_model.specs.Counting.{times, one_if}
 use Rattle.std.proofs.lemmas.Grind.{get_or-set_at}
 use Rattle.heap_model.specs.Chains.{Follows}
-use Rattle.core_model.specs.Cells.{Cell, used_cell, head_cell, info_cell, anchor_cell, link_cell, root_cell, data_cell, no_cell, superblock_at}
+use Rattle.core_model.specs.Cells.{Cell, used_cell, head_cell, info_cell, anchor_cell, link_cell, root_cell, data_cell, no_cell}
 use Rattle.core_model.specs.Memory.{Memory, used, head, anchor, link}
 use Rattle.core_model.specs.View.{Setup, View, Snapshot, LastLook, one_if_some, known, times_own, times_raw, times_classed, times_large, times_in_classes, times_within}
 use Rattle.core_model.specs.Effects.{seen, seen_word, seen_of, before, used_up, lost, look}
@@ -72,9 +72,9 @@ own_same v w same (link_cell d) = ap (λ (p : Parts). times d p.raw + times d p.
 own_same v w same (root_cell i) = ap (λ (p : Parts). times i p.roots) same
 own_same v w same (data_cell word) = ap (λ (p : Parts). times_in_classes word 0 p.small + times_in_classes word 0 p.caches + times_within
     (words_of_class p.batch.class) word p.batch.blocks
-    + times_large (superblock_at p.setup.capacity word) p.large
-    + (times (superblock_at p.setup.capacity word) p.raw + times (superblock_at p.setup.capacity word) p.split + times
-    (superblock_at p.setup.capacity word) p.cutting)) same
+    + times_large (superblock_of p.setup.capacity word) p.large
+    + (times (superblock_of p.setup.capacity word) p.raw + times (superblock_of p.setup.capacity word) p.split + times
+    (superblock_of p.setup.capacity word) p.cutting)) same
 own_same v w same no_cell = refl
 
 pub words_same : (capacity : ℕ) (m : Memory) (v w : View) → parts w ≡ parts v → w.volatile ≡ v.volatile → w.durable ≡ v.durable

@@ -1,11 +1,11 @@
 -- Changes of a seat's parts that go with a draw: blocks between the held ones, the cache and the batch.
 use Rattle.std.proofs.Common.{◌≡◌, ℕ, zero, suc, ◌+◌, ◌<◌, ◌≤◌, inl, inr, cond, nat_eq, nat_lt, nat_le, ◌&&◌, List, [], ◌∷◌, ◌++◌, get_or, set, length, refl, ap, sym, subst, ◌∙◌, length-set, eq-eqb, ne_eqb, arith}
 use Rattle.std.proofs.lemmas.Bool.{cases_eq, cases_lt}
-use Rattle.heap_model.specs.Geometry.{lists}
+use Rattle.heap_model.specs.Geometry.{lists, superblock_of}
 use Rattle.heap_model.specs.Sizes.{IsClass, words_of_class}
 use Rattle.heap_model.specs.Chains.{Walks}
 use Rattle.heap_model.specs.Counting.{times, one_if, without}
-use Rattle.core_model.specs.Cells.{Cell, used_cell, head_cell, info_cell, anchor_cell, link_cell, root_cell, data_cell, no_cell, superblock_at}
+use Rattle.core_model.specs.Cells.{Cell, used_cell, head_cell, info_cell, anchor_cell, link_cell, root_cell, data_cell, no_cell}
 use Rattle.core_model.specs.Memory.{Memory, head, anchor, info, link, next}
 use Rattle.core_model.specs.View.{Setup, View, one_if_some, of_class, times_own, times_raw, times_classed, times_large, times_block, times_within, times_in_classes}
 use Rattle.core_model.specs.Effects.{seen_word, seen_of, first_of, last_of, rest_of, after_alloc, after_free, after_lift}
@@ -68,8 +68,8 @@ own_moved v w setup roots raw split cutting classed large blocks (link_cell d) =
     let c = ap (times d) cutting in let e = ap (times_classed d) classed in omega arith
 own_moved v w setup roots raw split cutting classed large blocks (root_cell n) = ap (times n) roots
 own_moved v w setup roots raw split cutting classed large blocks (data_cell word) =
-    let d = superblock_at v.setup.capacity word in
-    let here = ap (λ (s : Setup). times_large (superblock_at s.capacity word) w.large + times_raw (superblock_at s.capacity word) w) setup in
+    let d = superblock_of v.setup.capacity word in
+    let here = ap (λ (s : Setup). times_large (superblock_of s.capacity word) w.large + times_raw (superblock_of s.capacity word) w) setup in
     let a = ap (times d) raw in let b = ap (times d) split in let c = ap (times d) cutting in let l = ap (times_large d) large in
     let e = blocks word in omega arith
 own_moved v w setup roots raw split cutting classed large blocks no_cell = refl
@@ -192,7 +192,7 @@ module _ (k : Setup) (m : Memory) (views : List View) (i : ℕ) (v : View) (belo
         blocks_now : HasBlocks v.setup.capacity (info m) (next m) (set v.small class (b ∷ of_class v.small class))
             (set v.caches class (rest_of cs)) v.batch
         blocks_now = let s = seat.blocks in record {
-          held = λ n x some. elim (cases_eq n class) as (λ _. info m (superblock_at v.setup.capacity x) ≡ n) [
+          held = λ n x some. elim (cases_eq n class) as (λ _. info m (superblock_of v.setup.capacity x) ≡ n) [
             | inl same ↦ let e = ap (times x) (of_class_same v.small class (b ∷ of_class v.small class) n same fits.0) in
                 elim (cases_lt 0 (times x (of_class v.small class))) [
                   | inl old ↦ s.held class x old ∙ sym same
@@ -200,7 +200,7 @@ module _ (k : Setup) (m : Memory) (views : List View) (i : ℕ) (v : View) (belo
                 ]
             | inr other ↦ s.held n x (let e = ap (times x) (of_class_other v.small class (b ∷ of_class v.small class) n other) in omega arith)
           ];
-          cached = λ n x some. elim (cases_eq n class) as (λ _. info m (superblock_at v.setup.capacity x) ≡ n) [
+          cached = λ n x some. elim (cases_eq n class) as (λ _. info m (superblock_of v.setup.capacity x) ≡ n) [
             | inl same ↦ s.cached class x (let e = ap (times x) (of_class_same v.caches class (rest_of cs) n same fits.1) in
                 let z = ap (times x) is_cs in omega arith) ∙ sym same
             | inr other ↦ s.cached n x (let e = ap (times x) (of_class_other v.caches class (rest_of cs) n other) in omega arith)
@@ -219,7 +219,7 @@ module _ (k : Setup) (m : Memory) (views : List View) (i : ℕ) (v : View) (belo
           rest_walks (x ∷ bs) walk = walks_first (next m) (next m x) bs walk.1
 
   -- a held block goes to the cache
-  pub free : (block : ℕ) → MayFree m v block → Good k m (set views i (after_free v (info m (superblock_at v.setup.capacity block)) block))
+  pub free : (block : ℕ) → MayFree m v block → Good k m (set views i (after_free v (info m (superblock_of v.setup.capacity block)) block))
   free block may = shift_step w good.shape refl (subst (IsInShape k.capacity m good.shape) (sym tally) good.shaped)
       (let s = seat.set_up in record {
         set_up = record {
@@ -257,7 +257,7 @@ module _ (k : Setup) (m : Memory) (views : List View) (i : ℕ) (v : View) (belo
       })
       refl refl refl refl (omega arith) (let e = ap (λ t. empties k.capacity (anchor m) (times_parked good.shape t)) tally in omega arith) where
         class : ℕ
-        class = info m (superblock_at v.setup.capacity block)
+        class = info m (superblock_of v.setup.capacity block)
 
         w : View
         w = after_free v class block
@@ -286,15 +286,15 @@ module _ (k : Setup) (m : Memory) (views : List View) (i : ℕ) (v : View) (belo
         blocks_now : HasBlocks v.setup.capacity (info m) (next m) (set v.small class (without block (of_class v.small class)))
             (set v.caches class (block ∷ cs)) v.batch
         blocks_now = let s = seat.blocks in record {
-          held = λ n x some. elim (cases_eq n class) as (λ _. info m (superblock_at v.setup.capacity x) ≡ n) [
+          held = λ n x some. elim (cases_eq n class) as (λ _. info m (superblock_of v.setup.capacity x) ≡ n) [
             | inl same ↦ s.held class x (let e = ap (times x) (of_class_same v.small class
                 (without block (of_class v.small class)) n same fits.0) in let o = out x in omega arith) ∙ sym same
             | inr other ↦ s.held n x (let e = ap (times x) (of_class_other v.small class (without block (of_class v.small class)) n other) in
                 omega arith)
           ];
-          cached = λ n x some. elim (cases_eq n class) as (λ _. info m (superblock_at v.setup.capacity x) ≡ n) [
+          cached = λ n x some. elim (cases_eq n class) as (λ _. info m (superblock_of v.setup.capacity x) ≡ n) [
             | inl same ↦ let e = ap (times x) (of_class_same v.caches class (block ∷ cs) n same fits.1) in elim (cases_eq block x) [
-              | inl here ↦ ap (λ y. info m (superblock_at v.setup.capacity y)) (sym here) ∙ sym same
+              | inl here ↦ ap (λ y. info m (superblock_of v.setup.capacity y)) (sym here) ∙ sym same
               | inr apart ↦ s.cached class x (let z = ne-eqb-none block x apart in omega arith) ∙ sym same
             ]
             | inr other ↦ s.cached n x (let e = ap (times x) (of_class_other v.caches class (block ∷ cs) n other) in omega arith)
@@ -376,7 +376,7 @@ module _ (k : Setup) (m : Memory) (views : List View) (i : ℕ) (v : View) (belo
         counts_one [] x = omega arith
         counts_one (y ∷ bs) x = omega arith
 
-        info_b : info m (superblock_at v.setup.capacity b) ≡ class
+        info_b : info m (superblock_of v.setup.capacity b) ≡ class
         info_b = seat.blocks.cached class b (let e = ap (times b) is_cs in let one = eq-eqb-one b b refl in omega arith)
 
         blocks_same : (x : ℕ) → times_block x w ≡ times_block x v
@@ -411,15 +411,15 @@ module _ (k : Setup) (m : Memory) (views : List View) (i : ℕ) (v : View) (belo
         blocks_now : HasBlocks v.setup.capacity (info m) (next m) v.small (set v.caches class (rest_of cs)) w.batch
         blocks_now = let s = seat.blocks in record {
           held = s.held;
-          cached = λ n x some. elim (cases_eq n class) as (λ _. info m (superblock_at v.setup.capacity x) ≡ n) [
+          cached = λ n x some. elim (cases_eq n class) as (λ _. info m (superblock_of v.setup.capacity x) ≡ n) [
             | inl same ↦ s.cached class x (let e = ap (times x) (of_class_same v.caches class (rest_of cs) n same fits.1) in
                 let z = ap (times x) is_cs in omega arith) ∙ sym same
             | inr other ↦ s.cached n x (let e = ap (times x) (of_class_other v.caches class (rest_of cs) n other) in omega arith)
           ];
           batched = λ x some. (
-            elim (cases_lt 0 (times x v.batch.blocks)) as (λ _. superblock_at v.setup.capacity x ≡ superblock_at v.setup.capacity b) [
+            elim (cases_lt 0 (times x v.batch.blocks)) as (λ _. superblock_of v.setup.capacity x ≡ superblock_of v.setup.capacity b) [
               | inl old ↦ (s.batched x old).0 ∙ (may.behind (some_count x v.batch.blocks old)).same
-              | inr none ↦ ap (superblock_at v.setup.capacity) (sym (is_new b x (let a = times_append x v.batch.blocks (b ∷ []) in omega arith)))
+              | inr none ↦ ap (superblock_of v.setup.capacity) (sym (is_new b x (let a = times_append x v.batch.blocks (b ∷ []) in omega arith)))
             ],
             info_b,
           );

@@ -2,12 +2,12 @@
 use Rattle.std.proofs.Common.{◌≡◌, ◌≢◌, ℕ, zero, suc, ◌+◌, ◌*◌, ◌<◌, ◌≤◌, inl, inr, true, List, [], ◌∷◌, get_or, set, length, refl, ap, sym, subst, ◌∙◌, length-set, lt-ltb, arith}
 use Rattle.std.proofs.lemmas.Bool.{cases_lt}
 use Rattle.std.proofs.lemmas.List.{get_or-set_other}
-use Rattle.heap_model.specs.Geometry.{lists, image_words, IsFixed}
+use Rattle.heap_model.specs.Geometry.{lists, image_words, IsFixed, superblock_of}
 use Rattle.heap_model.specs.Words.{head_first}
 use Rattle.core_model.specs.declared.answer.StepAnswer.{StepAnswer}
 use Rattle.core_model.specs.declared.event.Event.{Event}
 use Rattle.core_model.specs.declared.event.Event.TheVariants.{Tick, Load, Store, Settle, LookUsed, TakeFresh, KeepUsed, LookHead, LookLink, Pop, Push, LookAnchor, TakeAll, Give}
-use Rattle.core_model.specs.Cells.{used_cell, is_cell, index_of, cell_at, superblock_at}
+use Rattle.core_model.specs.Cells.{used_cell, is_cell, index_of, cell_at}
 use Rattle.core_model.specs.Memory.{Memory, StepPlace, volatile_at, durable_at, tickets, used, table_index, memory_of}
 use Rattle.core_model.specs.View.{Setup, View, times_own, times_raw, times_classed, times_block}
 use Rattle.core_model.specs.Effects.{before, seen_of, seen_word, first_of, place_of, left_there}
@@ -45,7 +45,7 @@ module _ (k : Setup) (m : Memory) (views : List View) (i : ℕ) (v : View) (belo
   batched d of some = let b = first_of v.batch.blocks in let there = first_there v.batch.blocks some in
       let t = total_at (times_block b) views i v below_i at in
       let cut = (good.shaped.chained.inside b (omega arith)).0 in
-      let here : superblock_at k.capacity b ≡ d = ap (λ c. superblock_at c b) (sym cap) ∙ ((good.blocks i v below_i at).batched b there).0 ∙ of in
+      let here : superblock_of k.capacity b ≡ d = ap (λ c. superblock_of c b) (sym cap) ∙ ((good.blocks i v below_i at).batched b there).0 ∙ of in
       let c = ap (times_cut good.shape (tally_of views)) here in
       let less = good.shaped.durable.below d (omega arith) in let q = good.shaped.durable.behind in let r = good.shaped.durable.room in omega arith
 

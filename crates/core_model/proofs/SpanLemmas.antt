@@ -1,13 +1,12 @@
 -- Changes of a seat's parts that go with a draw: a superblock is cut, and large blocks are held and split.
 use Rattle.std.proofs.Common.{◌≡◌, ◌≢◌, ℕ, zero, suc, ◌+◌, ◌-◌, ◌*◌, ◌<◌, ◌≤◌, inl, inr, ◌⊎◌, Bool, true, false, cond, nat_eq, nat_lt, nat_le, ◌&&◌, List, [], ◌∷◌, Contains, get_or, set, length, Option, refl, ap, sym, subst, ◌∙◌, eq-eqb, ne_eqb, le-leb, lt-ltb, leb-true, ltb-true, true≢false, arith}
 use Rattle.std.proofs.lemmas.Bool.{cases_eq, cases_lt}
-use Rattle.heap_model.specs.Geometry.{start_word}
+use Rattle.heap_model.specs.Geometry.{start_word, superblock_of}
 use Rattle.heap_model.specs.Sizes.{words_of_class, blocks_of}
 use Rattle.heap_model.specs.Words.{anchor_state, empty_state, partial_state, large_info}
 use Rattle.heap_model.specs.Counting.{times, total, one_if}
 use Rattle.heap_model.proofs.CountingLemmas.{one_if_true, one_if_false}
 use Rattle.heap_model.proofs.MemberLemmas.{head_or_rest, in_head, in_rest}
-use Rattle.core_model.specs.Cells.{superblock_at}
 use Rattle.core_model.specs.Memory.{Memory, used, durable_used, head, anchor, info, link}
 use Rattle.core_model.specs.View.{Setup, View, Batch, Span, Snapshot, LastLook, takes, times_raw, times_classed, times_claimed, times_large, times_block}
 use Rattle.core_model.specs.Effects.{seen, seen_word, seen_of, steps, class_blocks, cleared, without_range, span_count, without_span, trimmed, after_large, after_split}
@@ -304,7 +303,7 @@ module _ (k : Setup) (m : Memory) (views : List View) (i : ℕ) (v : View) (belo
         ]
 
   -- a large block is split
-  pub split_large : (block : ℕ) → MaySplit v block → Good k m (set views i (after_split v (superblock_at v.setup.capacity block)))
+  pub split_large : (block : ℕ) → MaySplit v block → Good k m (set views i (after_split v (superblock_of v.setup.capacity block)))
   split_large block may = shift_step k m views i v below_i at good w good.shape refl
       (subst (IsInShape k.capacity m good.shape) (sym tally) (let s = good.shaped in record {
         lists = s.lists;
@@ -360,13 +359,13 @@ module _ (k : Setup) (m : Memory) (views : List View) (i : ℕ) (v : View) (belo
       refl refl refl refl (stale_after d n w refl refl refl (λ e out. let z = raw_is e in omega arith))
       (let e = ap (λ t. empties k.capacity (anchor m) (times_parked good.shape t)) tally in omega arith) where
         d : ℕ
-        d = superblock_at v.setup.capacity block
+        d = superblock_of v.setup.capacity block
 
         n : ℕ
         n = span_count d v.large
 
         w : View
-        w = after_split v (superblock_at v.setup.capacity block)
+        w = after_split v (superblock_of v.setup.capacity block)
 
         large_is : (e : ℕ) → times_large e (without_span d v.large) + in_range d n e ≡ times_large e v.large
         large_is e = without_span_is e d v.large may.held

@@ -2,11 +2,10 @@
 use Rattle.std.proofs.Common.{◌≡◌, ◌≢◌, ℕ, zero, suc, ◌+◌, ◌<◌, ◌≤◌, inl, inr, Bool, true, false, cond, not, nat_eq, List, [], ◌∷◌, ◌++◌, Contains, replicate, get_or, set, length, refl, ap, sym, subst, ◌∙◌, eqb-true, ne_eqb, length-append, true≢false, arith}
 use Rattle.std.proofs.lemmas.Bool.{cases_lt}
 use Rattle.std.proofs.lemmas.List.{get_or_append_left, get_or_default}
-use Rattle.heap_model.specs.Geometry.{lists}
+use Rattle.heap_model.specs.Geometry.{lists, superblock_of}
 use Rattle.heap_model.specs.Words.{large_info}
 use Rattle.heap_model.specs.Counting.{times, total, one_if}
 use Rattle.heap_model.proofs.MemberLemmas.{in_head, in_rest, head_or_rest}
-use Rattle.core_model.specs.Cells.{superblock_at}
 use Rattle.core_model.specs.Memory.{Memory, memory_of, anchor, info, next}
 use Rattle.core_model.specs.View.{Setup, View, Span, LastLook, no_batch, one_if_some, of_class, takes, times_raw, times_classed, times_large, times_block}
 use Rattle.core_model.specs.Effects.{span_count}
@@ -197,7 +196,7 @@ module _ (k : Setup) (m : Memory) (views : List View) (i : ℕ) (v : View) (belo
   }
 
   held_of : (test : ℕ → Bool) (class n : ℕ) → 0 < times n (of_class (chosen_lists test v.small) class)
-      → info m (superblock_at v.setup.capacity n) ≡ class
+      → info m (superblock_of v.setup.capacity n) ≡ class
   held_of test class n some = seat.blocks.held class n (let l = lists_less test n class v.small in omega arith)
 
   blocks_rest : HasBlocks v.setup.capacity (info m) (next m) (chosen_lists (λ x. not (c.blocks x)) v.small) v.caches v.batch

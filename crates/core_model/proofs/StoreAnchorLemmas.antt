@@ -4,7 +4,8 @@ use Rattle.std.proofs.lemmas.Bool.{cases_eq, cases_lt}
 use Rattle.heap_model.specs.Words.{anchor_state, empty_state, partial_state, full_state, full_anchor}
 use Rattle.heap_model.specs.Counting.{times, total, one_if, without}
 use Rattle.core_model.proofs.PlaceLemmas.{not-lt}
-use Rattle.core_model.specs.Cells.{Cell, used_cell, head_cell, info_cell, anchor_cell, link_cell, root_cell, data_cell, no_cell, cell_at, superblock_at}
+use Rattle.heap_model.specs.Geometry.{superblock_of}
+use Rattle.core_model.specs.Cells.{Cell, used_cell, head_cell, info_cell, anchor_cell, link_cell, root_cell, data_cell, no_cell, cell_at}
 use Rattle.core_model.specs.Memory.{Memory, volatile_at, used, head, anchor, info, link, next, write}
 use Rattle.core_model.specs.View.{Setup, View, Batch, Snapshot, LastLook, one_if_some, times_raw, times_classed, times_claimed, times_large, times_block}
 use Rattle.core_model.specs.Effects.{seen, seen_word, seen_of, first_of, steps, stored, stored_anchor}
@@ -59,9 +60,9 @@ module _ (k : Setup) (m : Memory) (views : List View) (i : ℕ) (v : View) (belo
               let b0 = first_of u.batch.blocks in let there_b = first_there u.batch.blocks some in
               let t = total_at (times_block b0) views j u b a in
               let cut = (good.shaped.chained.inside b0 (omega arith)).0 in
-              let place : superblock_at k.capacity b0 ≡ d = ap (λ c. superblock_at c b0) (sym (ap (λ (s : Setup). s.capacity) h.set_up.setup))
+              let place : superblock_of k.capacity b0 ≡ d = ap (λ c. superblock_of c b0) (sym (ap (λ (s : Setup). s.capacity) h.set_up.setup))
               ∙ (h.blocks.batched b0 there_b).0 ∙ of ∙ same in
-              not_cut (superblock_at k.capacity b0) cut place
+              not_cut (superblock_of k.capacity b0) cut place
 
     stale_off : (u : View) (s : Option Snapshot) → (IsThere s → seen_of s ≢ d) → stale_anchor ma u s ≡ stale_anchor m u s
     stale_off u None other = refl

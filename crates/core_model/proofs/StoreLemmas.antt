@@ -1,12 +1,12 @@
 -- A store to an own word that is no anchor.
 use Rattle.std.proofs.Common.{◌≡◌, ◌≢◌, ℕ, ◌+◌, ◌*◌, ◌<◌, ◌≤◌, inl, inr, cond, nat_eq, nat_lt, List, get_or, set, length, Option, Some, refl, ap, sym, subst, ◌∙◌, length-set, arith}
 use Rattle.std.proofs.lemmas.Bool.{cases_eq, cases_lt}
-use Rattle.heap_model.specs.Geometry.{lists, start_word}
+use Rattle.heap_model.specs.Geometry.{lists, start_word, superblock_of}
 use Rattle.heap_model.specs.Sizes.{IsClass, words_of_class}
 use Rattle.heap_model.specs.Words.{head_first, anchor_first}
 use Rattle.heap_model.specs.Counting.{times, total}
 use Rattle.heap_model.proofs.SizeLemmas.{two_words}
-use Rattle.core_model.specs.Cells.{Cell, info_cell, link_cell, root_cell, data_cell, cell_at, superblock_at}
+use Rattle.core_model.specs.Cells.{Cell, info_cell, link_cell, root_cell, data_cell, cell_at}
 use Rattle.core_model.specs.Memory.{Memory, volatile_at, used, head, anchor, info, link, next, write}
 use Rattle.core_model.specs.View.{Setup, View, of_class, known, times_own, times_raw, times_classed, times_claimed, times_large, times_block}
 use Rattle.core_model.specs.Effects.{before, seen_word, seen_of, span_count, first_of, learn, used_up, stored}
@@ -265,8 +265,8 @@ module _ (k : Setup) (m : Memory) (views : List View) (i : ℕ) (v : View) (belo
           chained = λ e b some there. subst (λ x. IsCutBlock k.capacity x e b) (sym (cut_info e some)) (c.chained e b some there);
           inside = λ b some. let old = c.inside b some in (
             old.0,
-            subst (λ x. IsCutBlock k.capacity x (superblock_at k.capacity b) b)
-                (sym (cut_info (superblock_at k.capacity b) old.0)) old.1,
+            subst (λ x. IsCutBlock k.capacity x (superblock_of k.capacity b) b)
+                (sym (cut_info (superblock_of k.capacity b) old.0)) old.1,
           );
         });
         durable = (let y = s.durable in record {
@@ -363,11 +363,11 @@ module _ (k : Setup) (m : Memory) (views : List View) (i : ℕ) (v : View) (belo
           cache_linked = c.cache_linked;
           batch_linked = c.batch_linked;
         } where
-          block_info : (x : ℕ) → 0 < times_block x u → cond (nat_eq (superblock_at u.setup.capacity x) d) value
-              (info m (superblock_at u.setup.capacity x)) ≡ info m (superblock_at u.setup.capacity x)
-          block_info x some = subst (λ n. cond (nat_eq (superblock_at n x) d) value (info m (superblock_at n x)) ≡ info m (superblock_at n x))
+          block_info : (x : ℕ) → 0 < times_block x u → cond (nat_eq (superblock_of u.setup.capacity x) d) value
+              (info m (superblock_of u.setup.capacity x)) ≡ info m (superblock_of u.setup.capacity x)
+          block_info x some = subst (λ n. cond (nat_eq (superblock_of n x) d) value (info m (superblock_of n x)) ≡ info m (superblock_of n x))
               (sym cap_u)
-              (cut_info (superblock_at k.capacity x) (good.shaped.chained.inside x (let t = total_at (times_block x) views j u b a in omega arith)).0)
+              (cut_info (superblock_of k.capacity x) (good.shaped.chained.inside x (let t = total_at (times_block x) views j u b a in omega arith)).0)
 
   -- to a word of a block, or of a superblock without a class
   pub store_data : (at_word : ℕ) → cell_at v.setup.capacity word ≡ data_cell at_word → IsOwn v (data_cell at_word) → MayChangeWord v at_word
@@ -479,7 +479,7 @@ module _ (k : Setup) (m : Memory) (views : List View) (i : ℕ) (v : View) (belo
         once : times n v.batch.blocks ≤ 1
         once = elim (cases_lt 0 (times n v.batch.blocks)) [
           | inl some ↦ let t = total_at (times_block n) views i v below_i at in let inside = good.shaped.chained.inside n (omega arith) in
-              let one = good.shaped.chained.owned (superblock_at k.capacity n) n inside.0 inside.1 in omega arith
+              let one = good.shaped.chained.owned (superblock_of k.capacity n) n inside.0 inside.1 in omega arith
           | inr none ↦ omega arith
         ]
 
@@ -502,7 +502,7 @@ module _ (k : Setup) (m : Memory) (views : List View) (i : ℕ) (v : View) (belo
               let c = good.shaped.chained in
               let block = c.chained e n cut there in
               let is_class = c.is_class e cut in
-              let here : superblock_at k.capacity n ≡ e = superblock_is k.capacity (info m e) e n is_class block in
+              let here : superblock_of k.capacity n ≡ e = superblock_is k.capacity (info m e) e n is_class block in
               let two = two_words (info m e) is_class in
               elim (cases_lt 0 (in_blocks v n)) as (λ _. ⊥) [
                 | inl some ↦
@@ -516,7 +516,7 @@ module _ (k : Setup) (m : Memory) (views : List View) (i : ℕ) (v : View) (belo
                     let t = total_at (times_block n) views i v below_i at in
                     let one = c.owned e n cut block in omega (arith, there, mine, t, one)
                 | inr none ↦
-                    let whole = ap (λ c. times_large (superblock_at c n) v.large + times_raw (superblock_at c n) v) cap in
+                    let whole = ap (λ c. times_large (superblock_of c n) v.large + times_raw (superblock_of c n) v) cap in
                     let whole_e = ap (λ x. times_large x v.large + times_raw x v) here in
                     let raw = total_at (times_raw e) views i v below_i at in
                     let large = total_at (λ (x : View). times_large e x.large) views i v below_i at in

@@ -1,12 +1,12 @@
 -- All free blocks of a superblock are taken into the cache of its class.
 use Rattle.std.proofs.Common.{◌≡◌, ◌≢◌, ℕ, ◌+◌, ◌*◌, ◌<◌, inl, inr, Bool, true, false, cond, ◌&&◌, nat_eq, nat_lt, List, [], get_or, set, length, None, refl, ap, ap₂, sym, subst, ◌∙◌, ne_eqb, length-set, arith}
 use Rattle.std.proofs.lemmas.Bool.{cases_eq, cases_lt}
-use Rattle.heap_model.specs.Geometry.{start_word}
+use Rattle.heap_model.specs.Geometry.{start_word, superblock_of}
 use Rattle.heap_model.specs.Sizes.{IsClass, words_of_class}
 use Rattle.heap_model.specs.Words.{anchor_state, anchor_first, anchor_count, empty_state, full_anchor}
 use Rattle.heap_model.specs.Chains.{Walks}
 use Rattle.heap_model.specs.Counting.{times, total, one_if}
-use Rattle.core_model.specs.Cells.{anchor_cell, superblock_at}
+use Rattle.core_model.specs.Cells.{anchor_cell}
 use Rattle.core_model.specs.Memory.{Memory, volatile_at, anchor, info, next, write}
 use Rattle.core_model.specs.View.{Setup, View, of_class, times_raw, times_classed, times_large, times_block}
 use Rattle.core_model.specs.Effects.{seen_word, steps, chain, first_of, claim_class, without_claim, won, taken_all, anchored_blocks}
@@ -91,7 +91,7 @@ module _ (k : Setup) (m : Memory) (views : List View) (i : ℕ) (v : View) (belo
   cut_same e = let c = all_without_claim e d views i v w below_i at may.claimed refl in omega arith
 
   -- a block of the chain lies in the superblock
-  in_chain : (b : ℕ) → 0 < times b (good.shape.chains d) → IsCutBlock k.capacity class d b × (superblock_at k.capacity b ≡ d)
+  in_chain : (b : ℕ) → 0 < times b (good.shape.chains d) → IsCutBlock k.capacity class d b × (superblock_of k.capacity b ≡ d)
   in_chain b some = let c = subst (λ x. IsCutBlock k.capacity x d b) claim.1 (good.shaped.chained.chained d b claim.2 some) in
       (c, superblock_is k.capacity class d b claim.0 c)
 
@@ -122,7 +122,7 @@ module _ (k : Setup) (m : Memory) (views : List View) (i : ℕ) (v : View) (belo
       | inr other ↦ c.chained e b (let z = cut_same e in omega arith) (let z = ap (times b) (at_other good.shape.chains d [] e other) in omega arith)
     ];
     inside = λ b some. elim (cases_lt 0 (total (times_block b) views)) [
-      | inl old ↦ let o = c.inside b old in (let z = cut_same (superblock_at k.capacity b) in let y = o.0 in omega arith, o.1)
+      | inl old ↦ let o = c.inside b old in (let z = cut_same (superblock_of k.capacity b) in let y = o.0 in omega arith, o.1)
       | inr none ↦ let here = in_chain b (let all = all_blocks b in omega arith) in (
         subst (λ x. 0 < times_cut g' t' x) (sym here.1) (let z = cut_same d in let y = claim.2 in omega arith),
         subst (λ x. IsCutBlock k.capacity (info m x) x b) (sym here.1) (subst (λ x. IsCutBlock k.capacity x d b) (sym claim.1) here.0),
@@ -135,9 +135,9 @@ module _ (k : Setup) (m : Memory) (views : List View) (i : ℕ) (v : View) (belo
   blocks_of_seat = let s = seat.blocks in let anchored = on_anchor.anchored k m views i v below_i at good d full_anchor claim.2 class claim.1 in
       record {
         held = s.held;
-        cached = λ n b some. elim (cases_eq n class) as (λ _. info m (superblock_at v.setup.capacity b) ≡ n) [
+        cached = λ n b some. elim (cases_eq n class) as (λ _. info m (superblock_of v.setup.capacity b) ≡ n) [
           | inl same ↦ let in_blocks = ap (times b) (of_class_same v.caches class blocks n same small_class ∙ blocks_are) in
-              let here = in_chain b (omega arith) in ap (λ c. info m (superblock_at c b)) cap ∙ ap (info m) here.1 ∙ claim.1 ∙ sym same
+              let here = in_chain b (omega arith) in ap (λ c. info m (superblock_of c b)) cap ∙ ap (info m) here.1 ∙ claim.1 ∙ sym same
           | inr other ↦ s.cached n b (let z = ap (times b) (of_class_other v.caches class blocks n other) in omega arith)
         ];
         batched = s.batched;

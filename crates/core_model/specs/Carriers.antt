@@ -2,8 +2,7 @@
 -- up a ticket, and changes no word.
 use Rattle.std.specs.Prelude.{◌≡◌, ◌⊎◌, ℕ, ◌+◌, ◌-◌, false, nat_eq, List, [], ◌∷◌, ◌++◌, Contains, replicate, Option, None, Some}
 use Rattle.heap_model.specs.Counting.{total, one_if}
-use Rattle.heap_model.specs.Geometry.{lists}
-use Rattle.core_model.specs.Cells.{superblock_at}
+use Rattle.heap_model.specs.Geometry.{lists, superblock_of}
 use Rattle.core_model.specs.View.{Setup, View, no_batch, one_if_some}
 use Rattle.core_model.specs.Effects.{trimmed}
 use Rattle.core_model.specs.Guards.{IsThere}
@@ -33,7 +32,7 @@ one_if_carrier v = one_if (nat_eq v.carries 1)
 abbrev pub one_block : ℕ → ℕ → Choice
 one_block capacity block = record {
   blocks = λ b. nat_eq b block;
-  spans = λ d. nat_eq d (superblock_at capacity block);
+  spans = λ d. nat_eq d (superblock_of capacity block);
   roots = λ i. false;
   carries = 1;
 }

@@ -1,6 +1,6 @@
 -- The words that steps work on, by what they are, and where each stands in an image. Here alone cells and word indices meet.
 use Rattle.std.specs.Prelude.{ℕ, ◌-◌, ◌/◌, ◌%◌, Bool, true, false, ◌&&◌, cond, nat_eq, nat_lt, nat_le}
-use Rattle.heap_model.specs.Geometry.{lists, roots, fixed_words, used_word, head_word, root_word, info_word, anchor_word, link_word, superblock_words, start_word, superblocks_end}
+use Rattle.heap_model.specs.Geometry.{lists, roots, fixed_words, used_word, head_word, root_word, info_word, anchor_word, link_word, start_word, superblocks_end}
 
 -- a word: the mark of taken superblocks, the head of a list, the info, the anchor or the link of a descriptor, a root,
 -- or a word of a superblock by its word index; or none that steps work on
@@ -25,10 +25,6 @@ same_cell (root_cell a) (root_cell b) = nat_eq a b
 same_cell (data_cell a) (data_cell b) = nat_eq a b
 same_cell no_cell no_cell = true
 same_cell a b = false
-
--- the superblock that a word index lies in
-abbrev pub superblock_at : ℕ → ℕ → ℕ
-superblock_at capacity word = (word - start_word capacity 0) / superblock_words
 
 -- whether an image of the capacity has the word
 abbrev pub is_cell : ℕ → Cell → Bool

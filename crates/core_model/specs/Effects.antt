@@ -1,7 +1,7 @@
 -- What each step does: the word that it works on, what it leaves there, and the seat's view after it. A step that
 -- compares says both what it does where the word is as it was seen, and what where it is not.
 use Rattle.std.specs.Prelude.{ℕ, zero, suc, ◌+◌, ◌-◌, ◌*◌, ◌/◌, true, false, cond, ◌&&◌, nat_eq, nat_le, nat_lt, max, List, [], ◌∷◌, ◌++◌, set, Option, None, Some, length}
-use Rattle.heap_model.specs.Geometry.{start_word}
+use Rattle.heap_model.specs.Geometry.{start_word, superblock_of}
 use Rattle.heap_model.specs.Sizes.{words_of_class, blocks_of}
 use Rattle.heap_model.specs.Words.{head_of, head_first, head_pops, anchor_of, anchor_first, anchor_count, empty_state, partial_state, full_anchor}
 use Rattle.heap_model.specs.Counting.{times, without}
@@ -9,7 +9,7 @@ use Rattle.core_model.specs.declared.event.Event.{Event}
 use Rattle.core_model.specs.declared.event.Event.TheVariants.{Tick, Load, Store, Settle, LookUsed, TakeFresh, KeepUsed, LookHead, LookLink, Pop, Push, LookAnchor, TakeAll, Give}
 use Rattle.core_model.specs.declared.event.Shift.{Shift}
 use Rattle.core_model.specs.declared.event.Shift.TheVariants.{Cut, Alloc, Free, Lift, Large, Split}
-use Rattle.core_model.specs.Cells.{Cell, used_cell, head_cell, info_cell, anchor_cell, link_cell, data_cell, cell_at, index_of, superblock_at}
+use Rattle.core_model.specs.Cells.{Cell, used_cell, head_cell, info_cell, anchor_cell, link_cell, data_cell, cell_at, index_of}
 use Rattle.core_model.specs.Memory.{Memory, info, next, StepPlace, volatile_at, durable_at, tickets}
 use Rattle.core_model.specs.View.{View, Claim, Span, Snapshot, LastLook, no_batch, of_class, times_own}
 
@@ -241,7 +241,7 @@ abbrev pub after_lift : View → ℕ → View
 after_lift v class = record v {
   caches = set v.caches class (rest_of (of_class v.caches class));
   batch = record {
-    descriptor = superblock_at v.setup.capacity (first_of (of_class v.caches class));
+    descriptor = superblock_of v.setup.capacity (first_of (of_class v.caches class));
     class = class;
     blocks = v.batch.blocks ++ first_of (of_class v.caches class) ∷ [];
     linked = true;
@@ -268,10 +268,10 @@ abbrev pub shifted : Memory → View → Option Shift → View
 shifted m v None = v
 shifted m v (Some (Cut d)) = after_cut m v d
 shifted m v (Some (Alloc class)) = after_alloc v class
-shifted m v (Some (Free block)) = after_free v (info m (superblock_at v.setup.capacity block)) block
+shifted m v (Some (Free block)) = after_free v (info m (superblock_of v.setup.capacity block)) block
 shifted m v (Some (Lift class)) = after_lift v class
 shifted m v (Some (Large d n)) = after_large v d n
-shifted m v (Some (Split block)) = after_split v (superblock_at v.setup.capacity block)
+shifted m v (Some (Split block)) = after_split v (superblock_of v.setup.capacity block)
 
 -- a ticket below the budget is in hand; at any other the seat stops
 abbrev pub drew : View → ℕ → View

@@ -1,7 +1,7 @@
 -- When a seat may do a step: what its parts and snapshots must be, what the memory must have, and, of a step that
 -- compares, that the word is as it was seen.
 use Rattle.std.specs.Prelude.{◌≡◌, ◌≢◌, ℕ, ◌+◌, ◌*◌, ◌<◌, ◌≤◌, ◌⊎◌, true, [], Option, None, Some, ⊤, length}
-use Rattle.heap_model.specs.Geometry.{lists, start_word}
+use Rattle.heap_model.specs.Geometry.{lists, start_word, superblock_of}
 use Rattle.heap_model.specs.Sizes.{IsClass, words_of_class}
 use Rattle.heap_model.specs.Words.{head_first, anchor_state, anchor_first, anchor_count, empty_state, partial_state, full_anchor, large_info}
 use Rattle.heap_model.specs.Counting.{times, total}
@@ -10,7 +10,7 @@ use Rattle.core_model.specs.declared.event.Event.{Event}
 use Rattle.core_model.specs.declared.event.Event.TheVariants.{Tick, Load, Store, Settle, LookUsed, TakeFresh, KeepUsed, LookHead, LookLink, Pop, Push, LookAnchor, TakeAll, Give}
 use Rattle.core_model.specs.declared.event.Shift.{Shift}
 use Rattle.core_model.specs.declared.event.Shift.TheVariants.{Cut, Alloc, Free, Lift, Large, Split}
-use Rattle.core_model.specs.Cells.{Cell, anchor_cell, link_cell, data_cell, cell_at, superblock_at}
+use Rattle.core_model.specs.Cells.{Cell, anchor_cell, link_cell, data_cell, cell_at}
 use Rattle.core_model.specs.Memory.{Memory, used, head, info, anchor, link, next, durable_used, durable_info}
 use Rattle.core_model.specs.View.{View, of_class, one_if_some, times_classed, times_claimed, times_own}
 use Rattle.core_model.specs.Effects.{seen, seen_word, seen_of, claim_class, span_count, class_blocks, first_of, last_of}
@@ -103,14 +103,14 @@ pub record MayAlloc (v : View) (class : ℕ) : Type 0 where
   pub cached : 1 ≤ length (of_class v.caches class)
 
 pub record MayFree (m : Memory) (v : View) (block : ℕ) : Type 0 where
-  pub is_class : IsClass (info m (superblock_at v.setup.capacity block))
-  pub held : 0 < times block (of_class v.small (info m (superblock_at v.setup.capacity block)))
-  pub linked : 1 ≤ length (of_class v.caches (info m (superblock_at v.setup.capacity block)))
-      → next m block ≡ first_of (of_class v.caches (info m (superblock_at v.setup.capacity block)))
+  pub is_class : IsClass (info m (superblock_of v.setup.capacity block))
+  pub held : 0 < times block (of_class v.small (info m (superblock_of v.setup.capacity block)))
+  pub linked : 1 ≤ length (of_class v.caches (info m (superblock_of v.setup.capacity block)))
+      → next m block ≡ first_of (of_class v.caches (info m (superblock_of v.setup.capacity block)))
 
 -- the batch is empty, or of the block's superblock, and its last block is still linked to the block
 pub record IsBehind (m : Memory) (v : View) (block : ℕ) : Type 0 where
-  pub same : v.batch.descriptor ≡ superblock_at v.setup.capacity block
+  pub same : v.batch.descriptor ≡ superblock_of v.setup.capacity block
   pub unchanged : v.batch.linked ≡ true
   pub linked : next m (last_of v.batch.blocks) ≡ block
 
@@ -130,8 +130,8 @@ pub record MayHoldLarge (m : Memory) (v : View) (d n : ℕ) : Type 0 where
   pub durable_infos : (e : ℕ) → d ≤ e → e < d + n → durable_info m e ≡ info m e
 
 pub record MaySplit (v : View) (block : ℕ) : Type 0 where
-  pub held : 1 ≤ span_count (superblock_at v.setup.capacity block) v.large
-  pub first : block ≡ start_word v.setup.capacity (superblock_at v.setup.capacity block)
+  pub held : 1 ≤ span_count (superblock_of v.setup.capacity block) v.large
+  pub first : block ≡ start_word v.setup.capacity (superblock_of v.setup.capacity block)
 
 abbrev pub MayShift : Memory → View → Option Shift → Type 0
 MayShift m v None = ⊤

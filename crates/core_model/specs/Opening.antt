@@ -2,8 +2,7 @@
 -- batched or claimed, and all words are durable.
 use Rattle.std.specs.Prelude.{◌≡◌, ℕ, zero, suc, ◌+◌, ◌/◌, ◌<◌, Bool, cond, ◌&&◌, nat_eq, nat_lt, List, [], ◌∷◌, ◌++◌, length, map, replicate, slice_index, Contains, None, Some, get_or}
 use Rattle.heap_model.specs.declared.block.Block.{Block}
-use Rattle.heap_model.specs.Geometry.{roots, lists, info_word, head_word, capacity_word, used_word, superblock_words}
-use Rattle.core_model.specs.Cells.{superblock_at}
+use Rattle.heap_model.specs.Geometry.{roots, lists, info_word, head_word, capacity_word, used_word, superblock_words, superblock_of}
 use Rattle.core_model.specs.View.{Setup, Span, LastLook, View, no_batch}
 use Rattle.core_model.specs.Effects.{steps, trimmed}
 use Rattle.core_model.specs.Steps.{TableState}
@@ -25,13 +24,13 @@ is_small b = nat_lt b.words superblock_words
 
 abbrev pub small_blocks : ℕ → (ℕ → ℕ) → ℕ → List Block → List ℕ
 small_blocks capacity info class [] = []
-small_blocks capacity info class (b ∷ bs) = cond (is_small b && nat_eq (info (superblock_at capacity b.first_word)) class)
+small_blocks capacity info class (b ∷ bs) = cond (is_small b && nat_eq (info (superblock_of capacity b.first_word)) class)
     (b.first_word ∷ small_blocks capacity info class bs) (small_blocks capacity info class bs)
 
 abbrev pub large_blocks : ℕ → List Block → List Span
 large_blocks capacity [] = []
 large_blocks capacity (b ∷ bs) = cond (is_small b) (large_blocks capacity bs) (record {
-  first = superblock_at capacity b.first_word;
+  first = superblock_of capacity b.first_word;
   count = b.words / superblock_words;
 } ∷ large_blocks capacity bs)
 

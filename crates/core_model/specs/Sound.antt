@@ -1,14 +1,14 @@
 -- What is so of memory and seats between any two steps, as records over no more than each reads. "In exactly one place"
 -- is a sum over lists, seats and the superblocks that are full in no list.
 use Rattle.std.specs.Prelude.{◌≡◌, ◌≢◌, ℕ, ◌+◌, ◌*◌, ◌<◌, ◌≤◌, ◌⊎◌, ◌↔◌, true, not, ◌&&◌, nat_eq, nat_lt, List, length, get_or, Contains, Option, None, Some, slice_index}
-use Rattle.heap_model.specs.Geometry.{lists, roots, start_word, image_words, largest_capacity, capacity_word, used_word, IsFixed}
+use Rattle.heap_model.specs.Geometry.{lists, roots, start_word, image_words, largest_capacity, capacity_word, used_word, IsFixed, superblock_of}
 use Rattle.std.specs.List.{range_with_len}
 use Rattle.heap_model.specs.Sizes.{last_class, IsClass, words_of_class, blocks_of}
 use Rattle.heap_model.specs.Words.{head_first, head_pops, anchor_state, anchor_first, anchor_count, empty_state, partial_state, full_state, full_anchor, large_info}
 use Rattle.heap_model.specs.Counting.{times, total, below, one_if}
 use Rattle.heap_model.specs.Rest.{list_numbers}
 use Rattle.heap_model.specs.Chains.{Follows, Walks}
-use Rattle.core_model.specs.Cells.{Cell, anchor_cell, link_cell, is_cell, superblock_at}
+use Rattle.core_model.specs.Cells.{Cell, anchor_cell, link_cell, is_cell}
 use Rattle.core_model.specs.Memory.{Memory, used, head, info, anchor, link, next, durable_used, durable_info, table_length, memory_of}
 use Rattle.core_model.specs.View.{Setup, View, Claim, Span, Batch, Snapshot, of_class, one_if_some, known, times_raw, times_classed, times_claimed, times_large, times_block}
 use Rattle.core_model.specs.Effects.{seen, seen_word, seen_of, claim_class, span_count, first_of, steps, before}
@@ -89,8 +89,8 @@ pub record AreChained (capacity : ℕ) (info anchor next : ℕ → ℕ) (chains 
   pub anchored : (d : ℕ) → 0 < cut d → IsAnchoredBy next capacity (info d) d (anchor d) (chains d)
   pub owned : (d b : ℕ) → 0 < cut d → IsCutBlock capacity (info d) d b → times b (chains d) + blocks b ≡ 1
   pub chained : (d b : ℕ) → 0 < cut d → 0 < times b (chains d) → IsCutBlock capacity (info d) d b
-  pub inside : (b : ℕ) → 0 < blocks b → (0 < cut (superblock_at capacity b))
-      × IsCutBlock capacity (info (superblock_at capacity b)) (superblock_at capacity b) b
+  pub inside : (b : ℕ) → 0 < blocks b → (0 < cut (superblock_of capacity b))
+      × IsCutBlock capacity (info (superblock_of capacity b)) (superblock_of capacity b) b
 
 -- the marks are in order; superblocks that a crash must not forget lie below the durable one, and their infos are durable
 pub record AreDurable (capacity used durable_used : ℕ) (info durable_info free cut large : ℕ → ℕ) : Type 0 where
@@ -148,9 +148,9 @@ ClaimsOf m v = HasClaims (info m) (anchor m) v.raw v.split v.cutting v.classed v
 
 -- its blocks are of the class of the list that they are in; those of each cache, and of the batch, are linked
 pub record HasBlocks (capacity : ℕ) (info next : ℕ → ℕ) (small caches : List (List ℕ)) (batch : Batch) : Type 0 where
-  pub held : (class b : ℕ) → 0 < times b (of_class small class) → info (superblock_at capacity b) ≡ class
-  pub cached : (class b : ℕ) → 0 < times b (of_class caches class) → info (superblock_at capacity b) ≡ class
-  pub batched : (b : ℕ) → 0 < times b batch.blocks → (superblock_at capacity b ≡ batch.descriptor) × (info batch.descriptor ≡ batch.class)
+  pub held : (class b : ℕ) → 0 < times b (of_class small class) → info (superblock_of capacity b) ≡ class
+  pub cached : (class b : ℕ) → 0 < times b (of_class caches class) → info (superblock_of capacity b) ≡ class
+  pub batched : (b : ℕ) → 0 < times b batch.blocks → (superblock_of capacity b ≡ batch.descriptor) × (info batch.descriptor ≡ batch.class)
   pub cache_linked : (class : ℕ) → Walks next (first_of (of_class caches class)) (of_class caches class)
   pub batch_linked : Walks next (first_of batch.blocks) batch.blocks
 

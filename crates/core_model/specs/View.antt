@@ -2,7 +2,8 @@
 use Rattle.std.specs.Prelude.{ℕ, ◌+◌, Bool, false, ◌&&◌, nat_eq, nat_le, nat_lt, List, [], ◌∷◌, get_or, Option, None, Some}
 use Rattle.heap_model.specs.Sizes.{words_of_class}
 use Rattle.heap_model.specs.Counting.{times, total, one_if}
-use Rattle.core_model.specs.Cells.{Cell, used_cell, head_cell, info_cell, anchor_cell, link_cell, root_cell, data_cell, no_cell, superblock_at, index_of}
+use Rattle.heap_model.specs.Geometry.{superblock_of}
+use Rattle.core_model.specs.Cells.{Cell, used_cell, head_cell, info_cell, anchor_cell, link_cell, root_cell, data_cell, no_cell, index_of}
 
 -- what stays the same from the opening on: capacity and budget, for how many seats it was opened, and the words of the opened image
 pub record Setup : Type 0 where
@@ -185,7 +186,7 @@ times_own v (link_cell d) = times_claimed d v
 times_own v (root_cell i) = times i v.roots
 times_own v (data_cell word) = times_in_classes word 0 v.small + times_in_classes word 0 v.caches + times_within
     (words_of_class v.batch.class) word v.batch.blocks
-    + times_large (superblock_at v.setup.capacity word) v.large + times_raw (superblock_at v.setup.capacity word) v
+    + times_large (superblock_of v.setup.capacity word) v.large + times_raw (superblock_of v.setup.capacity word) v
 times_own v no_cell = 0
 
 -- how often the word is one of a held block or an owned root
@@ -196,7 +197,7 @@ times_held v (info_cell d) = 0
 times_held v (anchor_cell d) = 0
 times_held v (link_cell d) = 0
 times_held v (root_cell i) = times i v.roots
-times_held v (data_cell word) = times_in_classes word 0 v.small + times_large (superblock_at v.setup.capacity word) v.large
+times_held v (data_cell word) = times_in_classes word 0 v.small + times_large (superblock_of v.setup.capacity word) v.large
 times_held v no_cell = 0
 
 -- how often the word is one of a cached block, or of one in the batch

@@ -2,7 +2,7 @@
 use Rattle.std.proofs.Common.{◌≡◌, ◌≢◌, ℕ, suc, ◌+◌, ◌<◌, ◌≤◌, ◌↔◌, inl, inr, true, nat_eq, List, ◌∷◌, get_or, set, length, refl, ap, sym, subst, ◌∙◌, length-set, eq-eqb, eqb-true, arith}
 use Rattle.std.proofs.lemmas.Bool.{cases_lt}
 use Rattle.std.specs.Vec.{with_item}
-use Rattle.heap_model.specs.Geometry.{lists, start_word, superblocks_end}
+use Rattle.heap_model.specs.Geometry.{lists, start_word, superblocks_end, superblock_of}
 use Rattle.heap_model.specs.Sizes.{IsClass}
 use Rattle.heap_model.specs.Counting.{times, total, without}
 use Rattle.crash_core.specs.declared.owners.BlockPlace.{BlockPlace}
@@ -10,7 +10,6 @@ use Rattle.crash_core.specs.declared.owners.BlockPlace.TheVariants as place
 use Rattle.seat_state.specs.declared.notes.Cache.{Cache}
 use Rattle.seat_state.specs.declared.notes.SeatNotes.{SeatNotes}
 use Rattle.crash_core.specs.declared.state.CoreState.{CoreState}
-use Rattle.core_model.specs.Cells.{superblock_at}
 use Rattle.core_model.specs.Memory.{next, info, memory_of}
 use Rattle.core_model.specs.View.{Setup, View, of_class, times_block}
 use Rattle.core_model.specs.Effects.{first_of, after_free}
@@ -47,7 +46,7 @@ module _ (c : CoreState) (k : Setup) (views : List View) (i : ℕ) (v : View) (t
   pub once : (b : ℕ) → times_block b v ≤ 1
   once b = elim (cases_lt 0 (times_block b v)) [
     | inl some ↦ let tot = total_at (times_block b) views i v below at in let inside = good.shaped.chained.inside b (omega arith) in
-        let o = good.shaped.chained.owned (superblock_at k.capacity b) b inside.0 inside.1 in omega arith
+        let o = good.shaped.chained.owned (superblock_of k.capacity b) b inside.0 inside.1 in omega arith
     | inr none ↦ omega arith
   ]
 
@@ -74,17 +73,17 @@ module _ (c : CoreState) (k : Setup) (views : List View) (i : ℕ) (v : View) (t
     pub held_range : (start_word c.geometry.capacity 0 ≤ block) × (block < superblocks_end c.geometry.capacity)
     held_range = moves.block_range c k views i v t keeps below at at_t block some_block
 
-    pub held_is : IsClass (info (memory_at c) (superblock_at c.geometry.capacity block))
+    pub held_is : IsClass (info (memory_at c) (superblock_of c.geometry.capacity block))
     held_is = let tot = total_at (times_block block) views i v below at in let s = some_block in
         let inside = good.shaped.chained.inside block (omega arith) in
-        subst (λ n. IsClass (info (memory_of n c.words.items) (superblock_at n block))) keeps.capacity
-        (good.shaped.chained.is_class (superblock_at k.capacity block) inside.0)
+        subst (λ n. IsClass (info (memory_of n c.words.items) (superblock_of n block))) keeps.capacity
+        (good.shaped.chained.is_class (superblock_of k.capacity block) inside.0)
 
-    info_v : info (memory_in c k) (superblock_at v.setup.capacity block) ≡ info (memory_at c) (superblock_at c.geometry.capacity block)
-    info_v = ap (λ n. info (memory_in c k) (superblock_at n block)) (seat_capacity c k views i v keeps below at)
-        ∙ ap (λ n. info (memory_of n c.words.items) (superblock_at c.geometry.capacity block)) keeps.capacity
+    info_v : info (memory_in c k) (superblock_of v.setup.capacity block) ≡ info (memory_at c) (superblock_of c.geometry.capacity block)
+    info_v = ap (λ n. info (memory_in c k) (superblock_of n block)) (seat_capacity c k views i v keeps below at)
+        ∙ ap (λ n. info (memory_of n c.words.items) (superblock_of c.geometry.capacity block)) keeps.capacity
 
-    module _ (class : ℕ) (class_is : class ≡ info (memory_at c) (superblock_at c.geometry.capacity block)) where
+    module _ (class : ℕ) (class_is : class ≡ info (memory_at c) (superblock_of c.geometry.capacity block)) where
       is_class : IsClass class
       is_class = subst IsClass (sym class_is) held_is
 
@@ -110,7 +109,7 @@ module _ (c : CoreState) (k : Setup) (views : List View) (i : ℕ) (v : View) (t
 
       to_may : (1 ≤ length (of_class v.caches class) → next (memory_in c k) block ≡ first_of (of_class v.caches class))
           → MayFree (memory_in c k) v block
-      to_may linked = let here : class ≡ info (memory_in c k) (superblock_at v.setup.capacity block) = class_is ∙ sym info_v in record {
+      to_may linked = let here : class ≡ info (memory_in c k) (superblock_of v.setup.capacity block) = class_is ∙ sym info_v in record {
         is_class = subst IsClass here is_class;
         held = subst (λ n. 0 < times block (of_class v.small n)) here in_class;
         linked = subst (λ n. 1 ≤ length (of_class v.caches n) → next (memory_in c k) block ≡ first_of (of_class v.caches n)) here linked;
@@ -208,7 +207,7 @@ module _ (c : CoreState) (k : Setup) (views : List View) (i : ℕ) (v : View) (t
         blocks = with_item c.blocks block (record { seat = i; place = place.Cached });
         seats = with_item c.seats i (record t { caches = set t.caches class new });
       }) views i t
-          (after_free v (info (memory_in c k) (superblock_at v.setup.capacity block)) block)
+          (after_free v (info (memory_in c k) (superblock_of v.setup.capacity block)) block)
       free = subst (λ n. IsMoved c (record c {
         blocks = with_item c.blocks block (record { seat = i; place = place.Cached });
         seats = with_item c.seats i (record t { caches = set t.caches class new });
@@ -216,5 +215,5 @@ module _ (c : CoreState) (k : Setup) (views : List View) (i : ℕ) (v : View) (t
           (class_is ∙ sym info_v) freed
 
   pub not_held : (block : ℕ) → held_in (place_for i (get_or c.blocks.items block no_block)) ≡ 0 → MayFree (memory_in c k) v block → ⊥
-  not_held block none may = let s = in_lists_total block (info (memory_in c k) (superblock_at v.setup.capacity block)) v.small may.held in
+  not_held block none may = let s = in_lists_total block (info (memory_in c k) (superblock_of v.setup.capacity block)) v.small may.held in
       let o = (kept.blocks block).held in omega arith

@@ -4,7 +4,7 @@ use Rattle.std.proofs.lemmas.Bool.{cases_lt}
 use Rattle.std.specs.Prelude.{Vec}
 use Rattle.std.specs.declared.alloc.Global.{Global}
 use Rattle.std.specs.Vec.{with_item}
-use Rattle.heap_model.specs.Geometry.{start_word, superblocks_end, anchor_word}
+use Rattle.heap_model.specs.Geometry.{start_word, superblocks_end, anchor_word, superblock_of}
 use Rattle.heap_model.specs.Sizes.{IsClass, words_of_class, blocks_of}
 use Rattle.heap_model.specs.Counting.{times}
 use Rattle.heap_model.specs.Words.{anchor_state, anchor_first, anchor_count, full_anchor}
@@ -18,7 +18,6 @@ use Rattle.seat_state.specs.declared.notes.Seen.{Seen}
 use Rattle.seat_state.specs.declared.superblocks.SuperblockUsage.{SuperblockUsage}
 use Rattle.seat_state.specs.declared.superblocks.SuperblockUsage.TheVariants as usage
 use Rattle.crash_core.specs.declared.state.CoreState.{CoreState}
-use Rattle.core_model.specs.Cells.{superblock_at}
 use Rattle.core_model.specs.Memory.{anchor, info, next, memory_of}
 use Rattle.core_model.specs.View.{Setup, View, one_if_some, no_batch, times_block, times_classed}
 use Rattle.core_model.specs.Effects.{chain, first_of, last_of, seen_word, seen_of, won, lost, claimed, trimmed, given, given_anchor, batch_anchor}
@@ -84,9 +83,9 @@ module _ (c : CoreState) (k : Setup) (views : List View) (i : ℕ) (v : View) (t
       let there = first_there v.batch.blocks some_length in let s = (good.blocks i v below at).batched (first_of v.batch.blocks) there in
       let tot = total_at (times_block (first_of v.batch.blocks)) views i v below at in
       let inside = good.shaped.chained.inside (first_of v.batch.blocks) (omega arith) in
-      subst IsClass (ap (λ n. info (memory_in c k) (superblock_at n (first_of v.batch.blocks))) (sym cap) ∙ ap (info (memory_in c k)) s.0 ∙ s.1
+      subst IsClass (ap (λ n. info (memory_in c k) (superblock_of n (first_of v.batch.blocks))) (sym cap) ∙ ap (info (memory_in c k)) s.0 ∙ s.1
       ∙ kept.batch.class)
-      (good.shaped.chained.is_class (superblock_at k.capacity (first_of v.batch.blocks)) inside.0)
+      (good.shaped.chained.is_class (superblock_of k.capacity (first_of v.batch.blocks)) inside.0)
 
   pub batch_below : t.batch.count ≢ 0 → t.batch.descriptor < c.geometry.capacity
   batch_below some = let b = batched k (memory_in c k) views i v below at good t.batch.descriptor kept.batch.descriptor

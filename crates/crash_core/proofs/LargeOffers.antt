@@ -4,9 +4,8 @@ use Rattle.std.proofs.lemmas.Bool.{cases_eq}
 use Rattle.std.proofs.lemmas.List.{get_or-set_same, get_or-set_other}
 use Rattle.heap_model.specs.Counting.{times, total}
 use Rattle.heap_model.specs.declared.block.Block.{Block}
-use Rattle.heap_model.specs.Geometry.{start_word, superblock_words}
+use Rattle.heap_model.specs.Geometry.{start_word, superblock_words, superblock_of}
 use Rattle.heap_model.proofs.ListLemmas.{one_at_most}
-use Rattle.core_model.specs.Cells.{superblock_at}
 use Rattle.core_model.specs.Carriers.{carrier_of, MayHand}
 use Rattle.core_model.specs.Effects.{span_count}
 use Rattle.core_model.specs.Guards.{MaySplit}
@@ -55,7 +54,7 @@ module _ (c : CoreState) (k : Setup) (s : TableState) (i : ℕ) (v : View) (t : 
   j = length s.views
 
   abbrev d : ℕ
-  d = superblock_at v.setup.capacity x
+  d = superblock_of v.setup.capacity x
 
   abbrev n : ℕ
   n = span_count d v.large
@@ -76,8 +75,8 @@ module _ (c : CoreState) (k : Setup) (s : TableState) (i : ℕ) (v : View) (t : 
   chosen_is : chosen_spans (λ e. nat_eq e d) v.large ≡ span ∷ []
   chosen_is = one_span d v.large (good.claims i v below at).some (most d) may.held
 
-  same_d : d ≡ superblock_at c.geometry.capacity x
-  same_d = ap (λ m. superblock_at m x) (seat_capacity c k s.views i v keeps below at)
+  same_d : d ≡ superblock_of c.geometry.capacity x
+  same_d = ap (λ m. superblock_of m x) (seat_capacity c k s.views i v keeps below at)
 
   mine_there : (e : ℕ) → d ≤ e → e < d + n → 0 < large_in (usage_for i (get_or c.superblocks.items e no_superblock))
   mine_there = subst (λ m. (e : ℕ) → m ≤ e → e < m + span_count m v.large
@@ -221,7 +220,7 @@ pub large_at : (c : CoreState) (k : Setup) (s : TableState) (i : ℕ) (v : View)
     (at : get_or s.views i v ≡ v) (at_t : IsSeatAt c i t) (hand : MayHand v)
     (may : MaySplit v x) (no_small : total (times x) v.small ≡ 0) (c' : CoreState) (handed : IsHanded c c' i t)
     (same : c'.blocks.items ≡ c.blocks.items) (rest : List SuperblockOwner) (d' n' j' : ℕ)
-    → d' ≡ superblock_at v.setup.capacity x → n' ≡ span_count (superblock_at v.setup.capacity x) v.large → j' ≡ length s.views
+    → d' ≡ superblock_of v.setup.capacity x → n' ≡ span_count (superblock_of v.setup.capacity x) v.large → j' ≡ length s.views
     → IsRange c.superblocks.items rest d' n' (record { seat = j'; usage = usage.Large 0 })
     → c'.superblocks.items ≡ set rest d' (record { seat = j'; usage = usage.Large n' }) → d' < length rest → Represents c' k (after_offer s i v x)
 large_at c k s i v t x stands at at_t hand may no_small c' handed same rest d' n' j' d_is n_is j_is range first long =

@@ -1,12 +1,11 @@
 -- The core when the first block of a cache goes behind the batch.
 use Rattle.std.proofs.Common.{◌≡◌, ◌≢◌, ℕ, ◌+◌, ◌-◌, ◌<◌, ◌≤◌, ◌↔◌, true, false, cond, nat_eq, List, [], ◌∷◌, ◌++◌, get_or, set, length, refl, ap, ap₂, sym, subst, ◌∙◌, length-set, eq-eqb, eqb-true, true≢false, arith}
 use Rattle.std.specs.Vec.{with_item}
-use Rattle.heap_model.specs.Geometry.{start_word, superblocks_end}
+use Rattle.heap_model.specs.Geometry.{start_word, superblocks_end, superblock_of}
 use Rattle.crash_core.specs.declared.owners.BlockPlace.TheVariants as place
 use Rattle.seat_state.specs.declared.notes.Cache.{Cache}
 use Rattle.seat_state.specs.declared.notes.SeatNotes.{SeatNotes}
 use Rattle.crash_core.specs.declared.state.CoreState.{CoreState}
-use Rattle.core_model.specs.Cells.{superblock_at}
 use Rattle.core_model.specs.Memory.{next, memory_of}
 use Rattle.core_model.specs.View.{Setup, View, of_class}
 use Rattle.core_model.specs.Effects.{first_of, last_of, rest_of, after_lift}
@@ -58,19 +57,19 @@ module _ (c : CoreState) (k : Setup) (views : List View) (i : ℕ) (v : View) (t
     pub lift_unlinked : t.batch.count ≢ 0 → t.batch.linked ≡ false → MayLift (memory_in c k) v class → ⊥
     lift_unlinked some not lifts = true≢false (sym (lifts.behind (let n = kept.batch.count in omega arith)).unchanged ∙ kept.batch.linked ∙ not)
 
-    pub lift_apart : t.batch.count ≢ 0 → (d : ℕ) → d ≡ superblock_at c.geometry.capacity e.first → t.batch.descriptor ≢ d
+    pub lift_apart : t.batch.count ≢ 0 → (d : ℕ) → d ≡ superblock_of c.geometry.capacity e.first → t.batch.descriptor ≢ d
         → MayLift (memory_in c k) v class → ⊥
     lift_apart some d d_is apart lifts = apart (sym kept.batch.descriptor ∙ (lifts.behind (let n = kept.batch.count in omega arith)).same
-        ∙ ap₂ superblock_at (seat_capacity c k views i v keeps below at) first_is ∙ sym d_is)
+        ∙ ap₂ superblock_of (seat_capacity c k views i v keeps below at) first_is ∙ sym d_is)
 
-    pub lift_behind : t.batch.count ≢ 0 → t.batch.linked ≡ true → (d : ℕ) → d ≡ superblock_at c.geometry.capacity e.first
+    pub lift_behind : t.batch.count ≢ 0 → t.batch.linked ≡ true → (d : ℕ) → d ≡ superblock_of c.geometry.capacity e.first
         → t.batch.descriptor ≡ d → (to : ℕ) → to ≡ next (memory_at c) t.batch.last → (nat_eq to e.first ≡ true) ↔ MayLift (memory_in c k) v class
     lift_behind some linked d d_is same to to_is = (
       λ h. record {
         is_class = may.is_class;
         cached = may.cached;
         behind = λ more. record {
-          same = kept.batch.descriptor ∙ same ∙ d_is ∙ sym (ap₂ superblock_at (seat_capacity c k views i v keeps below at) first_is);
+          same = kept.batch.descriptor ∙ same ∙ d_is ∙ sym (ap₂ superblock_of (seat_capacity c k views i v keeps below at) first_is);
           unchanged = kept.batch.linked ∙ linked;
           linked = now ∙ eqb-true to e.first h ∙ sym first_is;
         };
@@ -80,7 +79,7 @@ module _ (c : CoreState) (k : Setup) (views : List View) (i : ℕ) (v : View) (t
       now : next (memory_in c k) (last_of v.batch.blocks) ≡ to
       now = ap (next (memory_in c k)) kept.batch.last ∙ ap (λ n. next (memory_of n c.words.items) t.batch.last) keeps.capacity ∙ sym to_is
 
-    pub lift : (first d head : ℕ) → first ≡ next (memory_at c) e.first → d ≡ superblock_at c.geometry.capacity e.first
+    pub lift : (first d head : ℕ) → first ≡ next (memory_at c) e.first → d ≡ superblock_of c.geometry.capacity e.first
         → head ≡ cond (nat_eq t.batch.count 0) e.first t.batch.first
         → IsMoved c (record c {
           blocks = with_item c.blocks e.first (record { seat = i; place = place.Batched });
@@ -115,7 +114,7 @@ module _ (c : CoreState) (k : Setup) (views : List View) (i : ℕ) (v : View) (t
         });
         caches = moves.caches_after c k views i v t keeps below at at_t class may first next_is;
         batch = record {
-          descriptor = ap₂ superblock_at (seat_capacity c k views i v keeps below at) first_is ∙ sym d_is;
+          descriptor = ap₂ superblock_of (seat_capacity c k views i v keeps below at) first_is ∙ sym d_is;
           class = refl;
           first = first_append v.batch.blocks b ∙ ap₂ (λ n x. cond (nat_eq n 0) x (first_of v.batch.blocks)) kept.batch.count first_is
               ∙ ap (λ x. cond (nat_eq t.batch.count 0) e.first x) kept.batch.first ∙ sym head_is;

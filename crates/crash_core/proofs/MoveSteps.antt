@@ -1,7 +1,7 @@
 -- The core when a block goes from a cache to what its seat holds.
 use Rattle.std.proofs.Common.{◌≡◌, ◌≢◌, ℕ, ◌+◌, ◌-◌, ◌<◌, ◌≤◌, ◌↔◌, true, nat_eq, nat_lt, List, ◌∷◌, get_or, set, length, refl, ap, sym, subst, ◌∙◌, length-set, lt-ltb, ltb-true, arith}
 use Rattle.std.specs.Vec.{with_item}
-use Rattle.heap_model.specs.Geometry.{lists, start_word, superblocks_end}
+use Rattle.heap_model.specs.Geometry.{lists, start_word, superblocks_end, superblock_of}
 use Rattle.heap_model.specs.Sizes.{words_of_class, last_class}
 use Rattle.heap_model.specs.Counting.{times, total, one_if}
 use Rattle.heap_model.proofs.SizeLemmas.{two_words}
@@ -10,7 +10,6 @@ use Rattle.crash_core.specs.declared.owners.BlockPlace.TheVariants as place
 use Rattle.seat_state.specs.declared.notes.Cache.{Cache}
 use Rattle.seat_state.specs.declared.notes.SeatNotes.{SeatNotes}
 use Rattle.crash_core.specs.declared.state.CoreState.{CoreState}
-use Rattle.core_model.specs.Cells.{superblock_at}
 use Rattle.core_model.specs.Memory.{next, info, memory_of}
 use Rattle.core_model.specs.View.{Setup, View, of_class, times_block}
 use Rattle.core_model.specs.Effects.{first_of, rest_of, after_alloc}
@@ -49,16 +48,16 @@ module _ (c : CoreState) (k : Setup) (views : List View) (i : ℕ) (v : View) (t
   block_range b some =
       let tot = total_at (times_block b) views i v below at in
       let inside = good.shaped.chained.inside b (omega arith) in
-      let is_class = good.shaped.chained.is_class (superblock_at k.capacity b) inside.0 in
-      let ends = inside_of k.capacity (info (memory_in c k) (superblock_at k.capacity b)) (superblock_at k.capacity b) b is_class inside.1 in
+      let is_class = good.shaped.chained.is_class (superblock_of k.capacity b) inside.0 in
+      let ends = inside_of k.capacity (info (memory_in c k) (superblock_of k.capacity b)) (superblock_of k.capacity b) b is_class inside.1 in
       let low = ends.0 in let high = ends.1 in
-      let less = good.shaped.durable.below (superblock_at k.capacity b) (omega arith) in let q = good.shaped.durable.behind in
+      let less = good.shaped.durable.below (superblock_of k.capacity b) (omega arith) in let q = good.shaped.durable.behind in
       let r = good.shaped.durable.room in
-      let two = two_words (info (memory_in c k) (superblock_at k.capacity b)) is_class in let cap = keeps.capacity in
-      within (superblock_at k.capacity b) low high (omega arith) (omega arith) where
+      let two = two_words (info (memory_in c k) (superblock_of k.capacity b)) is_class in let cap = keeps.capacity in
+      within (superblock_of k.capacity b) low high (omega arith) (omega arith) where
         within : (d : ℕ) → start_word k.capacity d ≤ b → b + words_of_class
-            (info (memory_in c k) (superblock_at k.capacity b)) ≤ start_word k.capacity (d + 1)
-            → 0 < words_of_class (info (memory_in c k) (superblock_at k.capacity b)) → d < k.capacity
+            (info (memory_in c k) (superblock_of k.capacity b)) ≤ start_word k.capacity (d + 1)
+            → 0 < words_of_class (info (memory_in c k) (superblock_of k.capacity b)) → d < k.capacity
             → (start_word c.geometry.capacity 0 ≤ b) × (b < superblocks_end c.geometry.capacity)
         within d low high two less = let cap = keeps.capacity in (omega arith, omega arith)
 

@@ -5,8 +5,7 @@ use Rattle.core_model.specs.declared.answer.StepAnswer.{StepAnswer}
 use Rattle.core_model.specs.declared.answer.StepAnswer.TheVariants.{NotNow, Stopped}
 use Rattle.core_model.specs.Carriers.{MayHand}
 use Rattle.heap_model.specs.declared.block.Block.{Block}
-use Rattle.heap_model.specs.Geometry.{start_word}
-use Rattle.core_model.specs.Cells.{superblock_at}
+use Rattle.heap_model.specs.Geometry.{start_word, superblock_of}
 use Rattle.core_model.specs.Effects.{span_count}
 use Rattle.core_model.specs.Guards.{IsThere, MaySplit}
 use Rattle.core_model.specs.Handing.{HoldsAt, offers_not, offers_stopped}
@@ -59,7 +58,7 @@ not_held v x no_small no_large holds = by holds.block holds.holds holds.at where
   by _ (a_large d n some count) at = no_large (large_there d n some count at) where
     large_there : (d n : ℕ) → 0 < n → span_count d v.large ≡ n → start_word v.setup.capacity d ≡ x → MaySplit v x
     large_there d n some count at =
-        let d_is : superblock_at v.setup.capacity x ≡ d = omega (arith, at) in
+        let d_is : superblock_of v.setup.capacity x ≡ d = omega (arith, at) in
         record {
           held = subst (λ e. 1 ≤ span_count e v.large) (sym d_is) (omega (arith, count, some));
           first = sym at ∙ ap (start_word v.setup.capacity) (sym d_is);

@@ -5,7 +5,7 @@ use Rattle.std.proofs.lemmas.List.{get_or-set_same, get_or-set_other, get_or_pas
 use Rattle.heap_model.specs.Counting.{times, total}
 use Rattle.heap_model.specs.declared.block.Block.{Block}
 use Rattle.heap_model.specs.Sizes.{words_of_class}
-use Rattle.core_model.specs.Cells.{superblock_at}
+use Rattle.heap_model.specs.Geometry.{superblock_of}
 use Rattle.core_model.specs.Carriers.{carrier_of, MayHand}
 use Rattle.core_model.specs.Handing.{after_offer, HoldsAt, MayOffer}
 use Rattle.core_model.specs.Held.{IsHeld, a_small}
@@ -54,7 +54,7 @@ module _ (c : CoreState) (k : Setup) (s : TableState) (i : ℕ) (v : View) (t : 
   j = length s.views
 
   abbrev d : ℕ
-  d = superblock_at v.setup.capacity x
+  d = superblock_of v.setup.capacity x
 
   one_there : total (times x) v.small ≡ 1
   one_there = (kept.blocks x).held ∙ ap held_in held
@@ -78,12 +78,12 @@ module _ (c : CoreState) (k : Setup) (s : TableState) (i : ℕ) (v : View) (t : 
   -- a superblock that is cut is part of no large block
   no_large : times_large d v.large ≡ 0
   no_large =
-      let same = ap (λ (h : Setup). superblock_at h.capacity x) (good.set_up i v below at).setup in
+      let same = ap (λ (h : Setup). superblock_of h.capacity x) (good.set_up i v below at).setup in
       let mine = total_at (times_block x) s.views i v below at in let one = one_there in
       let cut = (good.shaped.chained.inside x (omega arith)).0 in
-      let p = good.shaped.placed.one_place (superblock_at k.capacity x) in
-      let most = one_at_most (nat_lt (superblock_at k.capacity x) (used (memory_in c k))) in
-      let large = total_at (λ (u : View). times_large (superblock_at k.capacity x) u.large) s.views i v below at in
+      let p = good.shaped.placed.one_place (superblock_of k.capacity x) in
+      let most = one_at_most (nat_lt (superblock_of k.capacity x) (used (memory_in c k))) in
+      let large = total_at (λ (u : View). times_large (superblock_of k.capacity x) u.large) s.views i v below at in
       let is = ap (λ e. times_large e v.large) same in omega arith
 
   spans : (chosen_spans (λ e. nat_eq e d) v.large ≡ []) × (chosen_spans (λ e. not (nat_eq e d)) v.large ≡ v.large)

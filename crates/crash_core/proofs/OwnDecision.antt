@@ -2,7 +2,7 @@
 use Rattle.std.proofs.Common.{◌≡◌, ℕ, ◌+◌, ◌-◌, ◌*◌, ◌/◌, ◌<◌, ◌≤◌, ◌↔◌, inl, inr, Bool, true, false, nat_eq, List, get_or, length, refl, ap, sym, subst, ◌∙◌, arith}
 use Rattle.std.proofs.Math.Nat.{div-mul-le_self, lt-div-mul-add}
 use Rattle.std.proofs.lemmas.Bool.{cases_lt, cases_order}
-use Rattle.heap_model.specs.Geometry.{roots, start_word, superblocks_end}
+use Rattle.heap_model.specs.Geometry.{roots, start_word, superblocks_end, superblock_of}
 use Rattle.heap_model.specs.Sizes.{IsClass, words_of_class}
 use Rattle.heap_model.specs.Counting.{times, total, one_if}
 use Rattle.heap_model.proofs.BlockLemmas.{block_step}
@@ -11,7 +11,7 @@ use Rattle.crash_core.specs.declared.owners.BlockPlace.{BlockPlace}
 use Rattle.seat_state.specs.declared.notes.SeatNotes.{SeatNotes}
 use Rattle.seat_state.specs.declared.superblocks.SuperblockUsage.{SuperblockUsage}
 use Rattle.crash_core.specs.declared.state.CoreState.{CoreState}
-use Rattle.core_model.specs.Cells.{Cell, info_cell, anchor_cell, link_cell, root_cell, data_cell, cell_at, superblock_at}
+use Rattle.core_model.specs.Cells.{Cell, info_cell, anchor_cell, link_cell, root_cell, data_cell, cell_at}
 use Rattle.core_model.specs.Memory.{info, memory_of}
 use Rattle.core_model.specs.View.{Setup, View, times_own, times_raw, times_large, times_block}
 use Rattle.core_model.specs.Guards.{IsOwn}
@@ -76,13 +76,13 @@ module _ (c : CoreState) (k : Setup) (views : List View) (i : ℕ) (v : View) (t
       let e = ap (λ y. raw_in y + split_in y + cutting_in y + classed_in y) x_is in omega arith))
 
   module _ (word : ℕ) (from : start_word c.geometry.capacity 0 ≤ word) (until : word < superblocks_end c.geometry.capacity) (d : ℕ)
-      (d_is : d ≡ superblock_at c.geometry.capacity word) (x : SuperblockUsage)
+      (d_is : d ≡ superblock_of c.geometry.capacity word) (x : SuperblockUsage)
       (x_is : x ≡ usage_for i (get_or c.superblocks.items d no_superblock)) where
-    d_v : superblock_at v.setup.capacity word ≡ d
-    d_v = ap (λ n. superblock_at n word) (seat_capacity c k views i v keeps below at) ∙ sym d_is
+    d_v : superblock_of v.setup.capacity word ≡ d
+    d_v = ap (λ n. superblock_of n word) (seat_capacity c k views i v keeps below at) ∙ sym d_is
 
-    parts_of : times_large (superblock_at v.setup.capacity word) v.large + times_raw
-        (superblock_at v.setup.capacity word) v ≡ raw_in x + split_in x + cutting_in x + large_in x
+    parts_of : times_large (superblock_of v.setup.capacity word) v.large + times_raw
+        (superblock_of v.setup.capacity word) v ≡ raw_in x + split_in x + cutting_in x + large_in x
     parts_of = ap (λ n. times_large n v.large + times_raw n v) d_v
         ∙ (let s = usage_is d in let p = s.is_raw in let q = s.is_split in let r = s.is_cutting in let l = s.is_large in
         let e = ap (λ y. raw_in y + split_in y + cutting_in y + large_in y) x_is in omega arith)
@@ -91,13 +91,13 @@ module _ (c : CoreState) (k : Setup) (views : List View) (i : ℕ) (v : View) (t
     data_whole some = let p = parts_of in omega arith
 
     module _ (none : raw_in x + split_in x + cutting_in x + large_in x ≡ 0) (class : ℕ) (class_is : class ≡ info (memory_at c) d) where
-      info_now : info (memory_in c k) (superblock_at k.capacity word) ≡ class
-      info_now = ap (info (memory_in c k)) (ap (λ n. superblock_at n word) keeps.capacity ∙ sym d_is)
+      info_now : info (memory_in c k) (superblock_of k.capacity word) ≡ class
+      info_now = ap (info (memory_in c k)) (ap (λ n. superblock_of n word) keeps.capacity ∙ sym d_is)
           ∙ ap (λ n. info (memory_of n c.words.items) d) keeps.capacity ∙ sym class_is
 
       pub data_unclassed : (IsClass class → ⊥) → IsOwn v (data_cell word) → ⊥
       data_unclassed not own = let p = parts_of in let has = covered k (memory_in c k) views good i v below at word (omega arith) in
-          not (subst IsClass info_now (good.shaped.chained.is_class (superblock_at k.capacity word) has.1.cut))
+          not (subst IsClass info_now (good.shaped.chained.is_class (superblock_of k.capacity word) has.1.cut))
 
       module _ (is_class : IsClass class) (words block : ℕ) (words_are : words ≡ words_of_class class)
           (block_is : block ≡ start_word c.geometry.capacity d + (word - start_word c.geometry.capacity d) / words * words)
@@ -124,12 +124,12 @@ module _ (c : CoreState) (k : Setup) (views : List View) (i : ℕ) (v : View) (t
         after_word : word < block + words
         after_word = let l = lt-div-mul-add {a = word - start_word c.geometry.capacity d} {b = words} some_words in let a = low in omega arith
 
-        block_in : superblock_at k.capacity block ≡ d
+        block_in : superblock_of k.capacity block ≡ d
         block_in = let a = before_word in let h = high in let e = keeps.capacity in let z = d_is in
             (let y : start_word c.geometry.capacity d ≤ block = omega arith in omega arith)
 
-        info_block : info (memory_in c k) (superblock_at v.setup.capacity block) ≡ class
-        info_block = ap (λ n. info (memory_in c k) (superblock_at n block)) cap ∙ ap (info (memory_in c k)) block_in
+        info_block : info (memory_in c k) (superblock_of v.setup.capacity block) ≡ class
+        info_block = ap (λ n. info (memory_in c k) (superblock_of n block)) cap ∙ ap (info (memory_in c k)) block_in
             ∙ ap (λ n. info (memory_of n c.words.items) d) keeps.capacity ∙ sym class_is
 
         until_class : (n : ℕ) → n ≡ class → word < block + words_of_class n
@@ -156,11 +156,11 @@ module _ (c : CoreState) (k : Setup) (views : List View) (i : ℕ) (v : View) (t
         counted = let s = place_is in let a = s.held in let e = s.cached in let f = s.batched in
             let g = ap (λ y. held_in y + cached_in y + batched_in y) p_is in omega arith
 
-        at_block : (y : ℕ) → IsCutBlock k.capacity class (superblock_at k.capacity word) y → y ≤ word → word < y + words_of_class class → y ≡ block
+        at_block : (y : ℕ) → IsCutBlock k.capacity class (superblock_of k.capacity word) y → y ≤ word → word < y + words_of_class class → y ≡ block
         at_block y cut y_from y_until = unique cut.index (cut.at ∙ (let e = keeps.capacity in let z = d_is in
-            let g : start_word k.capacity (superblock_at k.capacity word)
+            let g : start_word k.capacity (superblock_of k.capacity word)
             + cut.index * words_of_class class ≡ start_word c.geometry.capacity d + cut.index * words_of_class class =
-            ap (λ n. start_word n (superblock_at n word) + cut.index * words_of_class class) keeps.capacity
+            ap (λ n. start_word n (superblock_of n word) + cut.index * words_of_class class) keeps.capacity
             ∙ ap (λ n. start_word c.geometry.capacity n + cut.index * words_of_class class) (sym d_is) in g)
             ∙ ap (λ n. start_word c.geometry.capacity d + cut.index * n) (sym words_are))
             y_from (subst (λ n. word < y + n) (sym words_are) y_until) where
@@ -185,7 +185,7 @@ module _ (c : CoreState) (k : Setup) (views : List View) (i : ℕ) (v : View) (t
           λ own. (one_true b (held_in p + cached_in p + batched_in p) b_is).1 (let z = parts_of in
               let has = covered k (memory_in c k) views good i v below at word (omega arith) in
               let same : has.1.class ≡ class = sym has.1.info_is ∙ info_now in
-              let here : has.0 ≡ block = at_block has.0 (subst (λ n. IsCutBlock k.capacity n (superblock_at k.capacity word) has.0)
+              let here : has.0 ≡ block = at_block has.0 (subst (λ n. IsCutBlock k.capacity n (superblock_of k.capacity word) has.0)
               same has.1.is) has.1.from (subst (λ n. word < has.0 + words_of_class n) same has.1.until) in
               let owned = subst (λ y. 0 < times_block y v) here has.1.owned in let n = counted in omega arith),
         )

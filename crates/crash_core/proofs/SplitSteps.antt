@@ -4,14 +4,13 @@ use Rattle.std.proofs.lemmas.Bool.{cases_lt}
 use Rattle.std.specs.Prelude.{Vec, Option}
 use Rattle.std.specs.declared.alloc.Global.{Global}
 use Rattle.std.specs.Vec.{with_item}
-use Rattle.heap_model.specs.Geometry.{start_word}
+use Rattle.heap_model.specs.Geometry.{start_word, superblock_of}
 use Rattle.seat_state.specs.declared.notes.SeatNotes.{SeatNotes}
 use Rattle.seat_state.specs.declared.notes.Seen.{Seen}
 use Rattle.seat_state.specs.declared.superblocks.SuperblockUsage.{SuperblockUsage}
 use Rattle.seat_state.specs.declared.superblocks.SuperblockUsage.TheVariants as usage
 use Rattle.seat_state.specs.declared.superblocks.SuperblockOwner.{SuperblockOwner}
 use Rattle.crash_core.specs.declared.state.CoreState.{CoreState}
-use Rattle.core_model.specs.Cells.{superblock_at}
 use Rattle.core_model.specs.Memory.{used}
 use Rattle.core_model.specs.View.{Setup, View, times_large}
 use Rattle.core_model.specs.Effects.{steps, cleared, span_count, without_span, after_split}
@@ -50,13 +49,13 @@ module _ (c : CoreState) (k : Setup) (views : List View) (i : ℕ) (v : View) (t
   good = keeps.sound.good
 
   abbrev d : ℕ
-  d = superblock_at c.geometry.capacity block
+  d = superblock_of c.geometry.capacity block
 
-  d_v : superblock_at v.setup.capacity block ≡ d
-  d_v = ap (λ n. superblock_at n block) (seat_capacity c k views i v keeps below_i at)
+  d_v : superblock_of v.setup.capacity block ≡ d
+  d_v = ap (λ n. superblock_of n block) (seat_capacity c k views i v keeps below_i at)
 
   pub split_first : MaySplit v block → block ≡ start_word c.geometry.capacity d
-  split_first may = subst (λ n. block ≡ start_word n (superblock_at n block)) (seat_capacity c k views i v keeps below_i at) may.first
+  split_first may = subst (λ n. block ≡ start_word n (superblock_of n block)) (seat_capacity c k views i v keeps below_i at) may.first
 
   count_is : span_count d v.large ≡ count_in (usage_for i (get_or c.superblocks.items d no_superblock))
   count_is = (kept.superblocks d).count
@@ -75,7 +74,7 @@ module _ (c : CoreState) (k : Setup) (views : List View) (i : ℕ) (v : View) (t
   split_there from whole x n x_is n_is = (
     λ h. record {
       held = subst (λ m. 1 ≤ span_count m v.large) (sym d_v) (let e = count_is in let f = ap count_in x_is in let more = ltb-true 0 n h in omega arith);
-      first = subst (λ m. block ≡ start_word m (superblock_at m block)) (sym (seat_capacity c k views i v keeps below_i at)) (omega arith);
+      first = subst (λ m. block ≡ start_word m (superblock_of m block)) (sym (seat_capacity c k views i v keeps below_i at)) (omega arith);
     },
     λ may. lt-ltb 0 n (let h = subst (λ m. 1 ≤ span_count m v.large) d_v may.held in let e = count_is in let f = ap count_in x_is in omega arith),
   )
@@ -108,7 +107,7 @@ module _ (c : CoreState) (k : Setup) (views : List View) (i : ℕ) (v : View) (t
         → IsRange c.superblocks.items owners.items d count (record { seat = i; usage = usage.Split })
         → snapshot anchor ≡ cleared d count (snapshot t.seen_anchor)
         → IsMoved c (record c { superblocks = owners; seats = with_item c.seats i (record t { seen_anchor = anchor }) }) views i t
-        (after_split v (superblock_at v.setup.capacity block))
+        (after_split v (superblock_of v.setup.capacity block))
     split count count_n owners anchor range_count anchor_is = subst
         (λ m. IsMoved c (record c { superblocks = owners; seats = with_item c.seats i (record t { seen_anchor = anchor }) }) views i t
         (after_split v m)) (sym d_v) (record {
@@ -179,8 +178,8 @@ module _ (c : CoreState) (k : Setup) (views : List View) (i : ℕ) (v : View) (t
 -- what fits when a large block may be split
 pub record SplitFits (c : CoreState) (i block : ℕ) : Type 0 where
   pub from : start_word c.geometry.capacity 0 ≤ block
-  pub range : superblock_at c.geometry.capacity block + count_in (usage_for i
-      (get_or c.superblocks.items (superblock_at c.geometry.capacity block) no_superblock)) ≤ length c.superblocks.items
+  pub range : superblock_of c.geometry.capacity block + count_in (usage_for i
+      (get_or c.superblocks.items (superblock_of c.geometry.capacity block) no_superblock)) ≤ length c.superblocks.items
 
 pub split_fits : (c : CoreState) (i block : ℕ) (t : SeatNotes) → IsCore c → i < length c.seats.items → IsSeatAt c i t
     → Decides c i (λ m v. MaySplit v block) true → SplitFits c i block

@@ -5,14 +5,13 @@ use Rattle.std.specs.Prelude.{Vec}
 use Rattle.std.specs.declared.alloc.Global.{Global}
 use Rattle.std.specs.Vec.{with_item}
 use Rattle.super_block.specs.declared.geometry.Geometry.{Geometry}
-use Rattle.heap_model.specs.Geometry.{image_words}
+use Rattle.heap_model.specs.Geometry.{image_words, superblock_of}
 use Rattle.core_model.specs.declared.answer.StepAnswer.TheVariants.{Done, Stopped}
 use Rattle.core_model.specs.declared.event.Event.TheVariants.{Tick}
 use Rattle.core_model.specs.declared.event.Shift.{Shift}
 use Rattle.core_model.specs.declared.event.Shift.TheVariants.{Cut, Alloc, Free, Lift, Large, Split}
 use Rattle.seat_state.specs.declared.notes.SeatNotes.{SeatNotes}
 use Rattle.crash_core.specs.declared.state.CoreState.{CoreState}
-use Rattle.core_model.specs.Cells.{superblock_at}
 use Rattle.core_model.specs.Memory.{Memory, info}
 use Rattle.core_model.specs.View.{Setup, View}
 use Rattle.core_model.specs.Effects.{drew, stopped, shifted}
@@ -40,7 +39,7 @@ free_held c i block core less decides =
     let here = entry_there core.views i below in
     let seat = entry_there c.seats.items i less in
     let may = (decides core.setup core.views here.0 core.keeps below here.1).0 refl in
-    let s = in_lists_total block (info (memory_in c core.setup) (superblock_at here.0.setup.capacity block)) here.0.small may.held in
+    let s = in_lists_total block (info (memory_in c core.setup) (superblock_of here.0.setup.capacity block)) here.0.small may.held in
     let o = ((core.keeps.each i seat.0 here.0 below (seat_is less seat.1) here.1).blocks block).held in omega arith
 
 -- a change says nothing of a ticket

@@ -1,8 +1,7 @@
 //! How blocks go between what a seat holds, its caches and its batch.
 
 ghost use Rattle.std.specs.Prelude.{◌≡◌, ◌<◌, ◌≤◌, length, get_or, true};
-ghost use Rattle.heap_model.specs.Geometry.{start_word, superblocks_end};
-ghost use Rattle.core_model.specs.Cells.{superblock_at};
+ghost use Rattle.heap_model.specs.Geometry.{start_word, superblocks_end, superblock_of};
 ghost use Rattle.core_model.specs.Memory.{info};
 ghost use Rattle.core_model.specs.Effects.{after_alloc, after_free, after_lift};
 ghost use Rattle.core_model.specs.Guards.{MayAlloc, MayFree, MayLift};
@@ -58,7 +57,7 @@ fn held_class(core: &CoreState, seat: usize, block: u64) -> u64
     requires seat { seat < length core.now.seats.items }
     requires held { 0 < held_in (place_for seat (get_or core.now.blocks.items block no_block)) }
     ensures class { result
-        ≡ info (memory_at core.now) (superblock_at core.now.geometry.capacity block) }
+        ≡ info (memory_at core.now) (superblock_of core.now.geometry.capacity block) }
     ensures some { 1 ≤ result }
     ensures last { result ≤ LAST_CLASS }
     ensures from { start_word core.now.geometry.capacity 0 ≤ block }
@@ -95,7 +94,7 @@ pub(crate) fn free(core: &mut CoreState, seat: usize, block: u64)
     requires may { Decides core.old seat (λ m v. MayFree m v block) true }
     requires held { 0 < held_in (place_for seat (get_or core.old.blocks.items block no_block)) }
     ensures { Moves core.old seat (λ m v. after_free v
-        (info m (superblock_at v.setup.capacity block)) block) core.new }
+        (info m (superblock_of v.setup.capacity block)) block) core.new }
 {
     let class = held_class(core, seat, block);
     let notes = core.seats[seat];

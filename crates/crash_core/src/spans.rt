@@ -1,7 +1,7 @@
 //! How superblocks go between what a seat claims and its large blocks.
 
 ghost use Rattle.std.specs.Prelude.{◌≡◌, ◌<◌, ◌≤◌, length, true};
-ghost use Rattle.core_model.specs.Cells.{superblock_at};
+ghost use Rattle.heap_model.specs.Geometry.{superblock_of};
 ghost use Rattle.core_model.specs.Effects.{after_large, after_split};
 ghost use Rattle.core_model.specs.Guards.{MayHoldLarge, MaySplit};
 ghost use Rattle.crash_core.specs.Standing.{IsCore, Decides, Moves, MayJoin};
@@ -35,7 +35,7 @@ pub(crate) fn split(core: &mut CoreState, seat: usize, block: u64)
     requires seat { seat < length core.old.seats.items }
     requires may { Decides core.old seat (λ m v. MaySplit v block) true }
     ensures { Moves core.old seat (λ m v. after_split v
-        (superblock_at v.setup.capacity block)) core.new }
+        (superblock_of v.setup.capacity block)) core.new }
 {
     let notes = core.seats[seat];
     let d = core.geometry.superblock_of(block);

@@ -4,7 +4,7 @@ use Rattle.std.proofs.lemmas.Bool.{cases_lt, cases_eq}
 use Rattle.std.proofs.lemmas.List.{get_or_default}
 use Rattle.heap_model.specs.declared.block.Block.{Block}
 use Rattle.heap_model.specs.Counting.{one_if, times, total}
-use Rattle.heap_model.specs.Geometry.{lists, start_word, superblock_words}
+use Rattle.heap_model.specs.Geometry.{lists, start_word, superblock_words, superblock_of}
 use Rattle.heap_model.specs.Recovered.{HasPartIn, IsBlockOfClass, IsFreeSuperblock, beside, freed, fresh}
 use Rattle.heap_model.specs.Sizes.{IsClass, words_of_class}
 use Rattle.heap_model.specs.Words.{head_first}
@@ -12,7 +12,6 @@ use Rattle.heap_model.proofs.CountingLemmas.{one_if_some, one_if_true, total_som
 use Rattle.heap_model.proofs.SizeLemmas.{four_blocks}
 use Rattle.heap_at_rest.proofs.ListLemmas.{one_following, times_of}
 use Rattle.heap_at_rest.proofs.PartLemmas.{class_part, one_superblock}
-use Rattle.core_model.specs.Cells.{superblock_at}
 use Rattle.core_model.specs.Effects.{span_count}
 use Rattle.core_model.specs.Held.{IsHeld, a_large, a_small}
 use Rattle.core_model.specs.Memory.{Memory, used, head, info, link}
@@ -61,12 +60,12 @@ module _ (k : Setup) (m : Memory) (v : View) (good : Good k m (v ∷ [])) (idle 
   lies class b there =
       let some = in_lists_total b class v.small there in
       let home = good.shaped.chained.inside b (omega arith) in
-      let now : info m (superblock_at k.capacity b) ≡ class = ap (λ n. info m (superblock_at n b)) (sym cap) ∙ blocks.held class b there in
-      let at : IsCutBlock k.capacity class (superblock_at k.capacity b) b = subst
-      (λ c. IsCutBlock k.capacity c (superblock_at k.capacity b) b) now home.1 in
+      let now : info m (superblock_of k.capacity b) ≡ class = ap (λ n. info m (superblock_of n b)) (sym cap) ∙ blocks.held class b there in
+      let at : IsCutBlock k.capacity class (superblock_of k.capacity b) b = subst
+      (λ c. IsCutBlock k.capacity c (superblock_of k.capacity b) b) now home.1 in
       record {
-        d = superblock_at k.capacity b;
-        is_class = subst IsClass now (good.shaped.chained.is_class (superblock_at k.capacity b) home.0);
+        d = superblock_of k.capacity b;
+        is_class = subst IsClass now (good.shaped.chained.is_class (superblock_of k.capacity b) home.0);
         info_is = now;
         cut = home.0;
         index = at.index;
@@ -95,7 +94,7 @@ module _ (k : Setup) (m : Memory) (v : View) (good : Good k m (v ∷ [])) (idle 
     pub info_is : info m d ≡ class
     pub cut : 0 < times_cut g (tally_of (v ∷ [])) d
     pub there : 0 < times first (of_class v.small class)
-    pub at : superblock_at k.capacity first ≡ d
+    pub at : superblock_of k.capacity first ≡ d
 
   pub has_part : (b : Block) (d : ℕ) → IsHeld v b → HasPartIn k.capacity b d → HasSmall d ⊎ (0 < times_large d v.large)
   has_part b d (a_small class first there) part =
@@ -142,7 +141,7 @@ module _ (k : Setup) (m : Memory) (v : View) (good : Good k m (v ∷ [])) (idle 
       )
 
   -- a held block of a class has a part in its superblock
-  pub small_part : (class b : ℕ) → (there : 0 < times b (of_class v.small class)) → (d : ℕ) → superblock_at k.capacity b ≡ d
+  pub small_part : (class b : ℕ) → (there : 0 < times b (of_class v.small class)) → (d : ℕ) → superblock_of k.capacity b ≡ d
       → HasPartIn k.capacity (small_block class b) d
   small_part class b there d at =
       let l = lies class b there in
@@ -152,13 +151,13 @@ module _ (k : Setup) (m : Memory) (v : View) (good : Good k m (v ∷ [])) (idle 
   -- a superblock of the class is free or not
   pub free_or_not : (class d : ℕ) → IsClass class → d < used m → info m d ≡ class
       → IsFreeSuperblock (layout_now k.capacity m) (IsHeld v) d ⊎ (IsFreeSuperblock (layout_now k.capacity m) (IsHeld v) d → ⊥)
-  free_or_not class d is taken now = elim (cases_lt 0 (total (λ b. one_if (nat_eq (superblock_at k.capacity b) d)) (of_class v.small class))) [
+  free_or_not class d is taken now = elim (cases_lt 0 (total (λ b. one_if (nat_eq (superblock_of k.capacity b) d)) (of_class v.small class))) [
     | inl some ↦ inr (λ free.
-        let one = total_some (λ b. one_if (nat_eq (superblock_at k.capacity b) d)) (of_class v.small class) some in
+        let one = total_some (λ b. one_if (nat_eq (superblock_of k.capacity b) d)) (of_class v.small class) some in
         let there = times_of one.0 (of_class v.small class) one.1 in
         free.empty (small_block class one.0) (a_small class one.0 there)
-        (small_part class one.0 there d (eqb-true (superblock_at k.capacity one.0) d
-        (one_if_some (nat_eq (superblock_at k.capacity one.0) d) one.2))))
+        (small_part class one.0 there d (eqb-true (superblock_of k.capacity one.0) d
+        (one_if_some (nat_eq (superblock_of k.capacity one.0) d) one.2))))
     | inr none ↦ inl (record {
       taken = taken;
       empty = λ b holds part. elim (has_part b d holds part) as (λ _. ⊥) [
@@ -170,12 +169,12 @@ module _ (k : Setup) (m : Memory) (v : View) (good : Good k m (v ∷ [])) (idle 
       ];
     })
   ] where
-    counts : (b : ℕ) (bs : List ℕ) → 0 < times b bs → superblock_at k.capacity b ≡ d
-        → 0 < total (λ x. one_if (nat_eq (superblock_at k.capacity x) d)) bs
+    counts : (b : ℕ) (bs : List ℕ) → 0 < times b bs → superblock_of k.capacity b ≡ d
+        → 0 < total (λ x. one_if (nat_eq (superblock_of k.capacity x) d)) bs
     counts b [] there at = absurd (omega arith)
-    counts b (x ∷ bs) there at = elim (cases_eq x b) as (λ _. 0 < total (λ y. one_if (nat_eq (superblock_at k.capacity y) d)) (x ∷ bs)) [
-      | inl same ↦ let one = one_if_true (nat_eq (superblock_at k.capacity x) d)
-          (eq-eqb (superblock_at k.capacity x) d (ap (superblock_at k.capacity) same ∙ at)) in omega arith
+    counts b (x ∷ bs) there at = elim (cases_eq x b) as (λ _. 0 < total (λ y. one_if (nat_eq (superblock_of k.capacity y) d)) (x ∷ bs)) [
+      | inl same ↦ let one = one_if_true (nat_eq (superblock_of k.capacity x) d)
+          (eq-eqb (superblock_of k.capacity x) d (ap (superblock_of k.capacity) same ∙ at)) in omega arith
       | inr other ↦ let none = ne-eqb-none x b other in let rest = counts b bs (omega arith) at in omega arith
     ]
 

@@ -6,7 +6,7 @@ use Rattle.heap_model.specs.Counting.{below, times, total}
 use Rattle.heap_model.specs.Sizes.{IsClass}
 use Rattle.heap_model.specs.Words.{head_first, full_anchor}
 use Rattle.heap_seat.specs.declared.fault.Looks.{Looks}
-use Rattle.core_model.specs.Cells.{superblock_at}
+use Rattle.heap_model.specs.Geometry.{superblock_of}
 use Rattle.core_model.specs.Memory.{Memory, used, head, info, anchor, link}
 use Rattle.core_model.specs.Sound.{CoreShape, Good, IsCutBlock, ClaimsOf, BlocksOf, tally_of, times_cut, times_in_lists, class_numbers}
 use Rattle.core_model.specs.View.{Batch, Setup, View, Parts, LastLook, of_class, one_if_some, times_block, times_classed, times_large, times_raw}
@@ -123,8 +123,8 @@ module _ (k : Setup) (m : Memory) (v : View) (good : Good k m (v ∷ [])) (idle 
     one : times_block b v ≡ 1
     one = let o = good.shaped.chained.owned d b some (subst (λ n. IsCutBlock k.capacity n d b) (sym now) at) in let n = none in omega arith
 
-    home : superblock_at v.setup.capacity b ≡ d
-    home = ap (λ n. superblock_at n b) cap ∙ superblock_is k.capacity class d b is at
+    home : superblock_of v.setup.capacity b ≡ d
+    home = ap (λ n. superblock_of n b) cap ∙ superblock_is k.capacity class d b is at
 
     cached : total (times b) v.caches ≡ 0
     cached = elim (cases_lt 0 (total (times b) v.caches)) as (λ _. total (times b) v.caches ≡ 0) [

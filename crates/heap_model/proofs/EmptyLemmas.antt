@@ -1,8 +1,8 @@
 -- An empty heap is at rest.
-use Rattle.std.proofs.Common.{◌≡◌, ℕ, zero, suc, ◌+◌, ◌-◌, ◌*◌, ◌<◌, ◌≤◌, inl, inr, List, [], ◌++◌, length, slice_index, slice_set, replicate, cond, nat_lt, refl, ap, ◌∙◌, sym, arith}
+use Rattle.std.proofs.Common.{◌≡◌, ℕ, zero, suc, ◌+◌, ◌-◌, ◌*◌, ◌<◌, ◌≤◌, inl, inr, [], length, slice_index, replicate, cond, nat_lt, refl, ap, ◌∙◌, sym, arith}
 use Rattle.std.proofs.lemmas.Bool.{cases_lt, ltb-true, lt-ltb, le-ltb}
 use Rattle.std.proofs.lemmas.List.{length-replicate, length-append, get_or_past, get_or-replicate, get_or_append_left, get_or-append_right}
-use Rattle.heap_model.specs.Geometry.{magic, version, clean, largest_capacity, roots, image_words, old_image_words, kind_word, info_word, anchor_word, link_word}
+use Rattle.heap_model.specs.Geometry.{largest_capacity, roots, image_words, old_image_words, kind_word, info_word, anchor_word, link_word}
 use Rattle.heap_model.specs.Header.{empty_words, first_kinds, IsWellFormed, capacity_of, used_of}
 use Rattle.heap_model.specs.Rest.{IsShaped, IsReady}
 use Rattle.heap_model.proofs.MemberLemmas.{in_none}
@@ -48,12 +48,6 @@ empty_kind capacity i =
     rw (behind) (get_or-append_right (replicate (old_image_words capacity - 4) 0) first_kinds (old_image_words capacity - 4)
     (old_image_words capacity - 4 + i) 0 long (omega arith)
     ∙ ap (λ k. slice_index first_kinds k) (omega arith))
-
--- zeros with the first four words set, and then the kinds
-pub empty_by_sets : (capacity count : ℕ) → count ≡ old_image_words capacity
-    → slice_set (slice_set (slice_set (slice_set (replicate count 0) 0 magic) 1 version) 2 capacity) 3 clean ++ first_kinds ≡ empty_words capacity
-unfolding empty_words
-empty_by_sets capacity count is = let four : count ≡ suc (suc (suc (suc (old_image_words capacity - 4)))) = omega arith in rw four refl
 
 pub length-empty : (capacity : ℕ) → length (empty_words capacity) ≡ image_words capacity
 unfolding empty_words
@@ -103,9 +97,3 @@ empty_ready capacity some small = record {
   ascending = λ i j d less within. absurd (omega arith);
   shaped = empty_shaped capacity;
 }
-
--- as the words are made: zeros, and then the header
-pub ready_by_sets : (zeros : List ℕ) (capacity count : ℕ) → zeros ≡ replicate count 0 → count ≡ old_image_words capacity → 1 ≤ capacity
-    → capacity ≤ largest_capacity
-    → IsReady (slice_set (slice_set (slice_set (slice_set zeros 0 magic) 1 version) 2 capacity) 3 clean ++ first_kinds) []
-ready_by_sets zeros capacity count are is some small = rw (are, empty_by_sets capacity count is) (empty_ready capacity some small)

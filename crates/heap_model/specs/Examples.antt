@@ -2,7 +2,7 @@
 use Rattle.std.specs.Prelude.{◌≡◌, ℕ, List, [], ◌∷◌, take, refl, Some, None}
 use Rattle.std.proofs.Common.{arith, inl, inr}
 use Rattle.heap_model.specs.declared.header.BadHeader.TheVariants.{Short, Magic, Version, Capacity, Length, State, Used, Kind}
-use Rattle.heap_model.specs.Geometry.{magic, version, old_version, largest_capacity, clean, dirty, image_words, IsReserved, in_header, in_descriptor}
+use Rattle.heap_model.specs.Geometry.{magic, version, old_version, largest_capacity, clean, dirty, image_words, superblock_of, IsReserved, in_header, in_descriptor}
 use Rattle.heap_model.specs.Counting.{put, times, total, without, below}
 use Rattle.heap_model.specs.Image.{Image, image_of_bytes, bytes_of_words}
 use Rattle.heap_model.specs.Header.{header_fault, has_fault, kinds_of, first_kinds}
@@ -82,6 +82,10 @@ with_kinds = refl
 most_words : image_words largest_capacity ≡ 33589288
 unfolding largest_capacity
 most_words = refl
+
+-- in a heap of two superblocks these start at words 1,080 and 9,272
+first_and_last_words : superblock_of 2 1080 ∷ superblock_of 2 9271 ∷ superblock_of 2 9272 ∷ [] ≡ 0 ∷ 0 ∷ 1 ∷ []
+first_and_last_words = refl
 
 -- 257 superblocks are too many for the old version alone, and 4,097 for both
 too_many_of_old : header_fault None 16875904 (of_old_version 257 []) ≡ Some Capacity

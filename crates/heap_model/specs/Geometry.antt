@@ -1,5 +1,5 @@
 -- Where things stand in an image, as word indices. A word has 8 bytes, a line 8 words; `capacity` is the number of superblocks, `d` one of them.
-use Rattle.std.specs.Prelude.{◌≡◌, ◌≢◌, ℕ, ◌+◌, ◌-◌, ◌*◌, ◌<◌, ◌≤◌, ◌⊎◌}
+use Rattle.std.specs.Prelude.{◌≡◌, ◌≢◌, ℕ, ◌+◌, ◌-◌, ◌*◌, ◌/◌, ◌<◌, ◌≤◌, ◌⊎◌}
 use Rattle.std.proofs.Common.{arith}
 pub use Rattle.heap_model.specs.Sizes.{lists, superblock_words}
 
@@ -86,6 +86,10 @@ link_word d = 1066 + 8 * d
 -- the first word of superblock d
 abbrev pub start_word : ℕ → ℕ → ℕ
 start_word capacity d = 1064 + 8 * capacity + 8192 * d
+
+-- the superblock that a word index lies in, of words behind the header, the roots and the descriptors
+abbrev pub superblock_of : ℕ → ℕ → ℕ
+superblock_of capacity word = (word - start_word capacity 0) / superblock_words
 
 -- the first word behind the last superblock
 abbrev pub superblocks_end : ℕ → ℕ

@@ -2,12 +2,11 @@
 use Rattle.std.proofs.Common.{◌≡◌, ◌≢◌, ℕ, ◌+◌, ◌-◌, ◌*◌, ◌/◌, ◌<◌, ◌≤◌, ◌⊎◌, inl, inr, Bool, true, false, None, cond, nat_eq, length, refl, ap, sym, subst, ◌∙◌, mul-div_cancel, arith}
 use Rattle.std.proofs.lemmas.Bool.{cases_eq}
 use Rattle.heap_model.specs.Counting.{times}
-use Rattle.heap_model.specs.Geometry.{start_word}
+use Rattle.heap_model.specs.Geometry.{start_word, superblock_of}
 use Rattle.heap_model.specs.Sizes.{IsClass, words_of_class, blocks_of}
 use Rattle.heap_model.specs.Words.{anchor_state, anchor_count, full_anchor}
 use Rattle.heap_model.proofs.SizeLemmas.{two_words, few_blocks}
 use Rattle.core_model.specs.declared.event.Event.TheVariants.{Give}
-use Rattle.core_model.specs.Cells.{superblock_at}
 use Rattle.core_model.specs.Memory.{Memory, memory_of, anchor, info}
 use Rattle.core_model.specs.View.{View, no_batch, times_block}
 use Rattle.core_model.specs.Effects.{seen_word, first_of, batch_anchor, given_anchor, claimed, given, trimmed, won}
@@ -48,13 +47,13 @@ module _ (v : View) (s : HasSoundState v) (d : ℕ) (of_d : v.batch.descriptor �
   there : 0 < times first v.batch.blocks
   there = first_there v.batch.blocks some
 
-  of : (superblock_at v.setup.capacity first ≡ d) × (info m d ≡ v.batch.class)
+  of : (superblock_of v.setup.capacity first ≡ d) × (info m d ≡ v.batch.class)
   of = let b = (s.sound.good.blocks s.seat v s.below s.at).batched first there in (b.0 ∙ of_d, ap (info m) (sym of_d) ∙ b.1)
 
   own : 0 < times_block first v
   own = let t = there in omega arith
 
-  info_is : info m (superblock_at v.setup.capacity first) ≡ v.batch.class
+  info_is : info m (superblock_of v.setup.capacity first) ≡ v.batch.class
   info_is = ap (info m) of.0 ∙ of.1
 
   pub batch_class : IsClass v.batch.class
@@ -62,7 +61,7 @@ module _ (v : View) (s : HasSoundState v) (d : ℕ) (of_d : v.batch.descriptor �
 
   pub batch_first : IsCutBlock v.setup.capacity v.batch.class d first
   batch_first = subst (λ e. IsCutBlock v.setup.capacity v.batch.class e first) of.0
-      (subst (λ n. IsCutBlock v.setup.capacity n (superblock_at v.setup.capacity first) first) info_is (block_cut v s first own).1)
+      (subst (λ n. IsCutBlock v.setup.capacity n (superblock_of v.setup.capacity first) first) info_is (block_cut v s first own).1)
 
   pub batch_below : d < v.setup.capacity
   batch_below = batched v.setup m s.views s.seat v s.below s.at s.sound.good d of_d some

@@ -3,7 +3,7 @@ use Rattle.std.proofs.Common.{◌≡◌, ℕ, ◌+◌, ◌<◌, ◌≤◌, ◌�
 use Rattle.std.proofs.lemmas.Bool.{cases_eq, cases_lt}
 use Rattle.std.proofs.lemmas.List.{get_or-set_same, get_or-set_other}
 use Rattle.heap_model.specs.Counting.{times, total, without}
-use Rattle.core_model.specs.Cells.{superblock_at}
+use Rattle.heap_model.specs.Geometry.{superblock_of}
 use Rattle.core_model.specs.View.{of_class}
 use Rattle.core_model.specs.Effects.{first_of, rest_of}
 use Rattle.core_model.proofs.BlockLemmas.{of_class_same, of_class_other, total_lists}
@@ -128,7 +128,7 @@ module _ (p : OwnedParts) (class : ℕ) (block : ℕ) (less_small : class < leng
     ];
     cached = λ c b there. elim (in_set p.caches class (block ∷ of_class p.caches class) c b less there) [
       | inl here ↦ elim (cases_eq block b) [
-        | inl same ↦ subst (λ n. get_or classes (superblock_at p.capacity n) 0 ≡ c) same (are.held class block held ∙ sym here.0)
+        | inl same ↦ subst (λ n. get_or classes (superblock_of p.capacity n) 0 ≡ c) same (are.held class block held ∙ sym here.0)
         | inr other ↦ are.cached class b (let h = here.1 in let z = ne-eqb-none block b other in omega arith) ∙ sym here.0
       ]
       | inr old ↦ are.cached c b old
@@ -144,8 +144,8 @@ module _ (p : OwnedParts) (class d : ℕ) (xs : List ℕ) (less : class < length
   pub cached_times : (b : ℕ) → times_had b cached_parts ≡ times_had b p + times b xs
   cached_times b = let t = total_lists b p.caches class xs less in let e = ap (times b) empty in omega arith
 
-  pub cached_classes : (classes : List ℕ) → d < length classes → ((b : ℕ) → 0 < times b xs → superblock_at p.capacity b ≡ d)
-      → ((b : ℕ) → 0 < times_had b p → superblock_at p.capacity b ≡ d → get_or classes d 0 ≡ class) → AreClasses classes p
+  pub cached_classes : (classes : List ℕ) → d < length classes → ((b : ℕ) → 0 < times b xs → superblock_of p.capacity b ≡ d)
+      → ((b : ℕ) → 0 < times_had b p → superblock_of p.capacity b ≡ d → get_or classes d 0 ≡ class) → AreClasses classes p
       → AreClasses (set classes d class) cached_parts
   cached_classes classes inside of_d same are = record {
     held = λ c b there. kept b c (are.held c b there) (let t = in_total b c p.small there in omega arith);
@@ -158,10 +158,10 @@ module _ (p : OwnedParts) (class d : ℕ) (xs : List ℕ) (less : class < length
     in_total : (b c : ℕ) (lists : List (List ℕ)) → 0 < times b (of_class lists c) → 0 < total (times b) lists
     in_total b c lists there = in_lists_total b c lists there
 
-    kept : (b c : ℕ) → get_or classes (superblock_at p.capacity b) 0 ≡ c → 0 < times_had b p
-        → get_or (set classes d class) (superblock_at p.capacity b) 0 ≡ c
-    kept b c is had = elim (cases_eq (superblock_at p.capacity b) d) [
+    kept : (b c : ℕ) → get_or classes (superblock_of p.capacity b) 0 ≡ c → 0 < times_had b p
+        → get_or (set classes d class) (superblock_of p.capacity b) 0 ≡ c
+    kept b c is had = elim (cases_eq (superblock_of p.capacity b) d) [
       | inl here ↦ ap (λ n. get_or (set classes d class) n 0) here ∙ get_or-set_same classes d class 0 inside ∙ sym (same b had here)
           ∙ ap (λ n. get_or classes n 0) (sym here) ∙ is
-      | inr other ↦ get_or-set_other classes d (superblock_at p.capacity b) class 0 other ∙ is
+      | inr other ↦ get_or-set_other classes d (superblock_of p.capacity b) class 0 other ∙ is
     ]

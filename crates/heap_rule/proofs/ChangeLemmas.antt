@@ -1,7 +1,7 @@
 -- What each shift makes of what a seat keeps to tell its own words may be done, and fits the view after it.
 use Rattle.std.proofs.Common.{◌≡◌, ℕ, ◌+◌, ◌-◌, ◌<◌, ◌≤◌, inl, inr, Option, Some, None, List, [], ◌∷◌, ◌++◌, length, ap, sym, subst, ◌∙◌, arith}
 use Rattle.std.proofs.lemmas.Bool.{cases_eq, cases_lt}
-use Rattle.heap_model.specs.Geometry.{largest_capacity_fits}
+use Rattle.heap_model.specs.Geometry.{largest_capacity_fits, superblock_of}
 use Rattle.heap_model.specs.Counting.{times}
 use Rattle.heap_model.specs.Sizes.{IsClass}
 use Rattle.heap_model.proofs.SizeLemmas.{few_blocks}
@@ -9,7 +9,6 @@ use Rattle.size_table.specs.declared.size_class.SizeClass.{SizeClass}
 use Rattle.core_model.specs.declared.event.Event.TheVariants.{Tick}
 use Rattle.core_model.specs.declared.event.Shift.{Shift}
 use Rattle.core_model.specs.declared.event.Shift.TheVariants.{Cut, Alloc, Free, Lift, Large, Split}
-use Rattle.core_model.specs.Cells.{superblock_at}
 use Rattle.core_model.specs.Memory.{Memory, memory_of, info}
 use Rattle.core_model.specs.View.{View, of_class, times_block}
 use Rattle.core_model.specs.Effects.{first_of, span_count}
@@ -77,7 +76,7 @@ batch_room v s class can = let short = chain_short v.setup.capacity class d (fir
       first = first_of cs
 
       d : ℕ
-      d = superblock_at v.setup.capacity first
+      d = superblock_of v.setup.capacity first
 
       cached : 0 < times first cs
       cached = first_there cs can.cached
@@ -88,10 +87,10 @@ batch_room v s class can = let short = chain_short v.setup.capacity class d (fir
       info_d : info m d ≡ class
       info_d = (good.blocks s.seat v s.below s.at).cached class first cached
 
-      of_d : (b : ℕ) → 0 < times b (first ∷ v.batch.blocks) → (superblock_at v.setup.capacity b ≡ d) × (0 < times_block b v)
+      of_d : (b : ℕ) → 0 < times b (first ∷ v.batch.blocks) → (superblock_of v.setup.capacity b ≡ d) × (0 < times_block b v)
       of_d b some = elim (cases_lt 0 (times b v.batch.blocks)) [
         | inl batched ↦ (((good.blocks s.seat v s.below s.at).batched b batched).0 ∙ can.same (member v.batch.blocks batched), omega arith)
-        | inr not ↦ let e = here (omega arith) in (ap (superblock_at v.setup.capacity) (sym e), subst (λ n. 0 < times_block n v) e own)
+        | inr not ↦ let e = here (omega arith) in (ap (superblock_of v.setup.capacity) (sym e), subst (λ n. 0 < times_block n v) e own)
       ] where
         member : (xs : List ℕ) → 0 < times b xs → 1 ≤ length xs
         member [] there = absurd (omega arith)
@@ -155,7 +154,7 @@ large_change v d n can s o own = (
   λ found o' is. as_is _ o' _ is.others (large_owned v s o own found d n is.rest o'.ownerships can is.owning is.first),
 )
 
-pub split_change : (v : View) (block d n : ℕ) → MaySplit v block → d ≡ superblock_at v.setup.capacity block → n ≡ span_count d v.large
+pub split_change : (v : View) (block d n : ℕ) → MaySplit v block → d ≡ superblock_of v.setup.capacity block → n ≡ span_count d v.large
     → FitsChange (change.Split d n) v (Some (Split block))
 split_change v block d n may d_is n_is s o own = (
   (let n_some = some in let last = span_covers d (d + n - 1) v.large (omega arith) (omega arith) (omega arith) in

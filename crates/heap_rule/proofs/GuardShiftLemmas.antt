@@ -1,13 +1,13 @@
 -- What a view shows of the shift of a draw, the seat may do.
 use Rattle.std.proofs.Common.{◌≡◌, ℕ, ◌+◌, ◌<◌, ◌≤◌, inl, inr, true, cond, nat_eq, length, Option, None, Some, refl, ap, sym, subst, ◌∙◌, eq-eqb, ne_eqb, arith}
-use Rattle.heap_model.specs.Geometry.{start_word}
+use Rattle.heap_model.specs.Geometry.{start_word, superblock_of}
 use Rattle.heap_model.specs.Sizes.{IsClass}
 use Rattle.heap_model.specs.Chains.{Walks}
 use Rattle.heap_model.specs.Words.{large_info}
 use Rattle.heap_model.specs.Counting.{times}
 use Rattle.core_model.specs.declared.event.Shift.{Shift}
 use Rattle.core_model.specs.declared.event.Shift.TheVariants.{Cut, Alloc, Free, Lift, Large, Split}
-use Rattle.core_model.specs.Cells.{info_cell, data_cell, is_cell, superblock_at}
+use Rattle.core_model.specs.Cells.{info_cell, data_cell, is_cell}
 use Rattle.core_model.specs.Memory.{Memory, memory_of, info, next}
 use Rattle.core_model.specs.View.{View, of_class, times_block}
 use Rattle.core_model.specs.Effects.{class_blocks, first_of, last_of}
@@ -48,7 +48,7 @@ module _ (v : View) (s : HasSoundState v) where
     own : 0 < times_block block v
     own = let held = in_lists_total block can.class v.small can.held in omega arith
 
-    info_is : info m (superblock_at v.setup.capacity block) ≡ can.class
+    info_is : info m (superblock_of v.setup.capacity block) ≡ can.class
     info_is = (s.sound.good.blocks s.seat v s.below s.at).held can.class block can.held
 
   lift_may : (class : ℕ) → CanLift v class → MayLift m v class

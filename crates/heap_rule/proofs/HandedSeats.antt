@@ -2,10 +2,10 @@
 use Rattle.std.proofs.Common.{◌≡◌, ℕ, ◌+◌, ◌*◌, ◌<◌, true, false, None, Some, Option, Bool, cond, nat_lt, ltb-true, List, [], ◌∷◌, get_or, refl, ap, sym, subst, ◌∙◌, arith}
 use Rattle.std.specs.Prelude.{slice_set}
 use Rattle.heap_model.specs.declared.block.Block.{Block}
-use Rattle.heap_model.specs.Geometry.{start_word, superblock_words}
+use Rattle.heap_model.specs.Geometry.{start_word, superblock_words, superblock_of}
 use Rattle.heap_model.specs.Sizes.{words_of_class}
 use Rattle.core_model.specs.Carriers.{accepted, carrier_of, offered}
-use Rattle.core_model.specs.Cells.{cell_at, superblock_at}
+use Rattle.core_model.specs.Cells.{cell_at}
 use Rattle.core_model.specs.Effects.{only_own, span_count}
 use Rattle.core_model.specs.Held.{IsHeld, a_small, a_large}
 use Rattle.core_model.specs.Memory.{table_length}
@@ -34,7 +34,7 @@ use Rattle.heap_rule.proofs.OwnedReads.{block_there as held_there, small_held, s
 
 -- a held block that the seat keeps no span of is small, of the class that it keeps; another is large
 pub is_small : (v : View) (s : HasSoundState v) (o : Owned) (own : HasOwned o (parts_of v)) (b : Block) (d n class : ℕ) (x : Ownership)
-    → IsHeld v b → d ≡ superblock_at v.setup.capacity b.first_word → (d < v.setup.capacity → x ≡ get_or o.ownerships.items d x)
+    → IsHeld v b → d ≡ superblock_of v.setup.capacity b.first_word → (d < v.setup.capacity → x ≡ get_or o.ownerships.items d x)
     → n ≡ count_in x → n ≡ 0 → (d < v.setup.capacity → class ≡ get_or o.classes.items d 0) → HoldsSmall v b class
 is_small v s o own b d n class x (a_small of first there) d_is x_is n_is none class_is =
     let less = (held_there v s o own b d n x (a_small of first there) d_is x_is n_is).below in
@@ -47,7 +47,7 @@ is_small v s o own b d n class x (a_large e m some m_is) d_is x_is n_is none cla
     let same : n ≡ m = span_of v s o own d n x h.below (x_is h.below) n_is ∙ ap (λ k. span_count k v.large) here ∙ m_is in omega arith)
 
 pub is_large : (v : View) (s : HasSoundState v) (o : Owned) (own : HasOwned o (parts_of v)) (b : Block) (d n : ℕ) (x : Ownership) → IsHeld v b
-    → d ≡ superblock_at v.setup.capacity b.first_word → (d < v.setup.capacity → x ≡ get_or o.ownerships.items d x)
+    → d ≡ superblock_of v.setup.capacity b.first_word → (d < v.setup.capacity → x ≡ get_or o.ownerships.items d x)
     → n ≡ count_in x → 0 < n → HoldsLarge v b d n
 is_large v s o own b d n x (a_small of first there) d_is x_is n_is more =
     absurd (let less = (held_there v s o own b d n x (a_small of first there) d_is x_is n_is).below in

@@ -3,11 +3,11 @@ use Rattle.std.proofs.Common.{◌+◌, ◌≡◌, ◌<◌, ◌≤◌, ℕ, inr, 
 use Rattle.heap_model.specs.declared.block.Block.{Block}
 use Rattle.heap_model.specs.Blocks.{AreOneOrApart, layout_of, IsIn}
 use Rattle.heap_model.specs.Counting.{times}
-use Rattle.heap_model.specs.Geometry.{image_words, superblocks_end, largest_capacity, used_word, root_word, roots, start_word}
+use Rattle.heap_model.specs.Geometry.{image_words, superblocks_end, largest_capacity, used_word, root_word, roots, start_word, superblock_of}
 use Rattle.heap_model.specs.Image.{Image}
 use Rattle.heap_model.specs.Sizes.{words_of_class}
 use Rattle.heap_model.proofs.BlockLemmas.{block_inside, block_words}
-use Rattle.core_model.specs.Cells.{Cell, cell_at, data_cell, root_cell, superblock_at}
+use Rattle.core_model.specs.Cells.{Cell, cell_at, data_cell, root_cell}
 use Rattle.core_model.specs.Guards.{IsOwn}
 use Rattle.core_model.specs.Held.{AreHeldOnce, IsHeld, IsHeldBy, a_small, a_large, durable_image}
 use Rattle.core_model.specs.Memory.{memory_of, durable_used, used}
@@ -78,7 +78,7 @@ module _ (v : View) (s : HasSoundState v) where
       let own = in_classes_word word first 0 class v.small from (let e = ap words_of_class (let p : class ≡ 0 + class = omega arith in p) in
       omega arith) there in omega arith
   held_own b (a_large d n some count) word within = let from = within.from in let until = within.until in
-      let own = span_covers d (superblock_at v.setup.capacity word) v.large (omega arith) (omega arith) (omega arith) in omega arith
+      let own = span_covers d (superblock_of v.setup.capacity word) v.large (omega arith) (omega arith) (omega arith) in omega arith
 
   pub block_words_own : (b : Block) → IsHeld v b → (word : ℕ) → IsIn b word → IsOwn v (cell_at v.setup.capacity word)
       × Lasts (cell_at v.setup.capacity word)

@@ -5,7 +5,7 @@ use Rattle.heap_model.specs.declared.block.Block.{Block}
 use Rattle.heap_model.specs.Counting.{times, total, one_if}
 use Rattle.heap_model.proofs.MemberLemmas.{in_head, in_rest}
 use Rattle.core_model.specs.Carriers.{accepted, both_lists, carrier_of, offered}
-use Rattle.core_model.specs.Cells.{superblock_at}
+use Rattle.heap_model.specs.Geometry.{superblock_of}
 use Rattle.core_model.specs.Effects.{span_count, without_span}
 use Rattle.core_model.specs.Memory.{Memory, memory_of, used}
 use Rattle.core_model.specs.Sound.{Good}
@@ -88,7 +88,7 @@ module _ (v : View) (s : HasSoundState v) (b : Block) (d n : ℕ) (large : Holds
   abbrev good : Good v.setup m s.views
   good = s.sound.good
 
-  place_is : superblock_at v.setup.capacity b.first_word ≡ d
+  place_is : superblock_of v.setup.capacity b.first_word ≡ d
   place_is = let f = large.is.first in omega arith
 
   counted : (span : Span) → Contains v.large span → 1 ≤ span.count
@@ -108,7 +108,7 @@ module _ (v : View) (s : HasSoundState v) (b : Block) (d n : ℕ) (large : Holds
   -- no small block begins where the large one does
   none_small : total (times b.first_word) v.small ≡ 0
   none_small = elim (cases_lt 0 (total (times b.first_word) v.small)) [
-    | inl own ↦ absurd (let cut = (block_cut v s b.first_word (omega arith)).0 in let e = superblock_at v.setup.capacity b.first_word in
+    | inl own ↦ absurd (let cut = (block_cut v s b.first_word (omega arith)).0 in let e = superblock_of v.setup.capacity b.first_word in
         let p = good.shaped.placed.one_place e in let most = one_at_most (nat_lt e (used m)) in
         let t = total_at (λ (u : View). times_large e u.large) s.views s.seat v s.below s.at in let some = large.is.some in
         let l = taken e (let h = place_is in omega arith) (let h = place_is in omega arith) in omega arith)
@@ -122,7 +122,7 @@ module _ (v : View) (s : HasSoundState v) (b : Block) (d n : ℕ) (large : Holds
       (λ i. (sym (lists_same b.first_word v.small none_small) i, sym large_left i, sym (all_roots v.roots) i))
       (with_ownerships o o'.ownerships (parts_of v) v.raw v.split v.cutting v.classed (without_span d v.large) own lost.owning.long
       (lost_ownerships o.ownerships.items o'.ownerships.items (parts_of v) d n (sym large.held) large.is.some lost.owning own.ownerships))) where
-        large_left : chosen_spans (λ e. not (nat_eq e (superblock_at v.setup.capacity b.first_word))) v.large ≡ without_span d v.large
+        large_left : chosen_spans (λ e. not (nat_eq e (superblock_of v.setup.capacity b.first_word))) v.large ≡ without_span d v.large
         large_left = ap (λ x. chosen_spans (λ e. not (nat_eq e x)) v.large) place_is ∙ without_it d v.large counted once
 
   pub large_alone : HoldsOneLarge (carrier_of v b.first_word) b d n

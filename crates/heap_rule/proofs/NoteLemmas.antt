@@ -1,9 +1,8 @@
 -- What each shift makes of a seat's notes may be noted, and fits the view after it.
 use Rattle.std.proofs.Common.{◌≡◌, ℕ, ◌+◌, ◌<◌, ◌≤◌, true, Some, cond, nat_eq, length, refl, sym, subst, ◌∙◌, arith}
-use Rattle.heap_model.specs.Geometry.{lists}
+use Rattle.heap_model.specs.Geometry.{lists, superblock_of}
 use Rattle.size_table.specs.declared.size_class.SizeClass.{SizeClass}
 use Rattle.core_model.specs.declared.event.Shift.TheVariants.{Cut, Alloc, Free, Lift, Large, Split}
-use Rattle.core_model.specs.Cells.{superblock_at}
 use Rattle.core_model.specs.View.{View, of_class}
 use Rattle.core_model.specs.Effects.{first_of, rest_of, span_count}
 use Rattle.core_model.specs.Guards.{MayAlloc}
@@ -41,7 +40,7 @@ lift_notes v class block first can block_is next_is n kept = (
   λ n' is. subst (λ (x : SeatNotes). FitsShift x v (Some (Lift class))) (sym is) (subst (λ b. FitsShift (record n {
     caches = uncached n.caches class first;
     batch = record {
-      descriptor = superblock_at v.setup.capacity b;
+      descriptor = superblock_of v.setup.capacity b;
       class = class;
       first = cond (nat_eq n.batch.count 0) b n.batch.first;
       last = b;
@@ -82,7 +81,7 @@ large_notes v d count n kept = (
       (large_fits n v d count n'.seen_anchor kept is.look),
 )
 
-pub split_notes : (v : View) (block d count : ℕ) → d ≡ superblock_at v.setup.capacity block → count ≡ span_count d v.large
+pub split_notes : (v : View) (block d count : ℕ) → d ≡ superblock_of v.setup.capacity block → count ≡ span_count d v.large
     → FitsNotes (change.Split d count) v (Some (Split block))
 split_notes v block d count d_is count_is n kept = (
   tt,

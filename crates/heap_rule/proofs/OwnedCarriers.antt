@@ -3,11 +3,10 @@ use Rattle.std.proofs.Common.{◌≡◌, ◌≢◌, ℕ, ◌+◌, ◌<◌, ◌�
 use Rattle.std.proofs.lemmas.Bool.{cases_eq, cases_lt}
 use Rattle.std.proofs.lemmas.List.{get_or-set_same, get_or-set_other, get_or_default}
 use Rattle.heap_model.specs.declared.block.Block.{Block}
-use Rattle.heap_model.specs.Geometry.{image_words, start_word}
+use Rattle.heap_model.specs.Geometry.{image_words, start_word, superblock_of}
 use Rattle.heap_model.specs.Counting.{times, total, one_if}
 use Rattle.heap_model.proofs.MemberLemmas.{head_or_rest, in_head, in_rest}
 use Rattle.core_model.specs.Carriers.{accepted, both_lists, carrier_of, offered}
-use Rattle.core_model.specs.Cells.{superblock_at}
 use Rattle.core_model.specs.Memory.{Memory, memory_of, info, used}
 use Rattle.core_model.specs.Sound.{Good}
 use Rattle.core_model.specs.Splitting.{chosen, chosen_lists, chosen_spans}
@@ -87,19 +86,19 @@ module _ (v : View) (s : HasSoundState v) (b : Block) (class : ℕ) (small : Hol
       let once = (held_once v.setup s.words s.views s.sound).small b.first_word in (omega arith, omega arith)
 
   -- no large block takes the superblock of a small one
-  no_span : times_large (superblock_at v.setup.capacity b.first_word) v.large ≡ 0
-  no_span = let d = superblock_at v.setup.capacity b.first_word in let t = in_lists in
+  no_span : times_large (superblock_of v.setup.capacity b.first_word) v.large ≡ 0
+  no_span = let d = superblock_of v.setup.capacity b.first_word in let t = in_lists in
       let all = total_at (times_block b.first_word) s.views s.seat v s.below s.at in
       let cut = (good.shaped.chained.inside b.first_word (omega arith)).0 in let p = good.shaped.placed.one_place d in
       let most = one_at_most (nat_lt d (used m)) in
       let large = total_at (λ (u : View). times_large d u.large) s.views s.seat v s.below s.at in omega arith
 
-  large_same : chosen_spans (λ d. not (nat_eq d (superblock_at v.setup.capacity b.first_word))) v.large ≡ v.large
-  large_same = all_spans (λ d. not (nat_eq d (superblock_at v.setup.capacity b.first_word))) v.large
-      (λ span there. elim (cases_eq span.first (superblock_at v.setup.capacity b.first_word)) [
+  large_same : chosen_spans (λ d. not (nat_eq d (superblock_of v.setup.capacity b.first_word))) v.large ≡ v.large
+  large_same = all_spans (λ d. not (nat_eq d (superblock_of v.setup.capacity b.first_word))) v.large
+      (λ span there. elim (cases_eq span.first (superblock_of v.setup.capacity b.first_word)) [
         | inl here ↦ absurd (let t = span_takes v.large span (good.claims s.seat v s.below s.at).some there in let z = no_span in
             let e = ap (λ d. times_large d v.large) here in omega arith)
-        | inr other ↦ ap not (ne_eqb span.first (superblock_at v.setup.capacity b.first_word) other)
+        | inr other ↦ ap not (ne_eqb span.first (superblock_of v.setup.capacity b.first_word) other)
       ])
 
   pub offer_owned : (o : Owned) (blocks : List Bool) → HasOwned o (parts_of v) → IsMarking o.blocks blocks (b.first_word ∷ []) false
@@ -150,7 +149,7 @@ module _ (v u : View) (b : Block) (class : ℕ) (alone : HoldsOneSmall u b class
   after = s.sound.good
 
   abbrev d : ℕ
-  d = superblock_at v.setup.capacity b.first_word
+  d = superblock_of v.setup.capacity b.first_word
 
   -- its class is that of the superblock
   class_is : info (memory_of v.setup.capacity s.words) d ≡ class
@@ -162,17 +161,17 @@ module _ (v u : View) (b : Block) (class : ℕ) (alone : HoldsOneSmall u b class
       (after.blocks s.seat (accepted v u) s.below s.at).held class b.first_word (let both = both_class b.first_word class u.small v.small in
       let e = ap (λ c. times b.first_word (of_class u.small c)) of_class_is in omega arith)
 
-  same_class : (of n : ℕ) → info (memory_of v.setup.capacity s.words) (superblock_at v.setup.capacity n) ≡ of
-      → superblock_at v.setup.capacity n ≡ d → of ≡ class
+  same_class : (of n : ℕ) → info (memory_of v.setup.capacity s.words) (superblock_of v.setup.capacity n) ≡ of
+      → superblock_of v.setup.capacity n ≡ d → of ≡ class
   same_class of n is here = sym is ∙ ap (info (memory_of v.setup.capacity s.words)) here ∙ class_is
 
-  there : (classes : List ℕ) (of n : ℕ) → d < length classes → info (memory_of v.setup.capacity s.words) (superblock_at v.setup.capacity n) ≡ of
-      → get_or classes (superblock_at v.setup.capacity n) 0 ≡ of
-      → get_or (set classes d class) (superblock_at v.setup.capacity n) 0 ≡ of
-  there classes of n less is old = elim (cases_eq (superblock_at v.setup.capacity n) d) as
-      (λ _. get_or (set classes d class) (superblock_at v.setup.capacity n) 0 ≡ of) [
+  there : (classes : List ℕ) (of n : ℕ) → d < length classes → info (memory_of v.setup.capacity s.words) (superblock_of v.setup.capacity n) ≡ of
+      → get_or classes (superblock_of v.setup.capacity n) 0 ≡ of
+      → get_or (set classes d class) (superblock_of v.setup.capacity n) 0 ≡ of
+  there classes of n less is old = elim (cases_eq (superblock_of v.setup.capacity n) d) as
+      (λ _. get_or (set classes d class) (superblock_of v.setup.capacity n) 0 ≡ of) [
         | inl here ↦ ap (λ e. get_or (set classes d class) e 0) here ∙ get_or-set_same classes d class 0 less ∙ sym (same_class of n is here)
-        | inr other ↦ get_or-set_other classes d (superblock_at v.setup.capacity n) class 0 other ∙ old
+        | inr other ↦ get_or-set_other classes d (superblock_of v.setup.capacity n) class 0 other ∙ old
       ]
 
   pub accept_owned : (o : Owned) (blocks : List Bool) (classes : Vec ℕ Global) → HasOwned o (parts_of v) → d < length o.classes.items
@@ -203,11 +202,11 @@ module _ (v u : View) (b : Block) (class : ℕ) (alone : HoldsOneSmall u b class
         stacks = own.stacks;
       }) where
         held : (of n : ℕ) → 0 < times n (of_class (both_lists u.small v.small) of)
-            → get_or (set o.classes.items d class) (superblock_at v.setup.capacity n) 0 ≡ of
+            → get_or (set o.classes.items d class) (superblock_of v.setup.capacity n) 0 ≡ of
         held of n some = elim (cases_lt 0 (times n (of_class u.small of))) as
-            (λ _. get_or (set o.classes.items d class) (superblock_at v.setup.capacity n) 0 ≡ of) [
+            (λ _. get_or (set o.classes.items d class) (superblock_of v.setup.capacity n) 0 ≡ of) [
               | inl theirs ↦ let here = it_is n (let t = in_lists_total n of u.small theirs in let one = alone.once n in omega arith) in
-                  ap (λ x. get_or (set o.classes.items d class) (superblock_at v.setup.capacity x) 0) here
+                  ap (λ x. get_or (set o.classes.items d class) (superblock_of v.setup.capacity x) 0) here
                   ∙ get_or-set_same o.classes.items d class 0 less ∙ sym (alone.in_class of n theirs)
               | inr none ↦ let both = both_class n of u.small v.small in there o.classes.items of n less
                   ((after.blocks s.seat (accepted v u) s.below s.at).held of n some) (own.classes.held of n (omega arith))
@@ -219,11 +218,11 @@ module _ (v u : View) (b : Block) (class : ℕ) (alone : HoldsOneSmall u b class
                     omega arith)
               ]
 
-        cached : (of n : ℕ) → 0 < times n (of_class v.caches of) → get_or (set o.classes.items d class) (superblock_at v.setup.capacity n) 0 ≡ of
+        cached : (of n : ℕ) → 0 < times n (of_class v.caches of) → get_or (set o.classes.items d class) (superblock_of v.setup.capacity n) 0 ≡ of
         cached of n some = there o.classes.items of n less ((after.blocks s.seat (accepted v u) s.below s.at).cached of n some)
             (own.classes.cached of n some)
 
-        batched : (n : ℕ) → 0 < times n v.batch.blocks → get_or (set o.classes.items d class) (superblock_at v.setup.capacity n) 0 ≡ v.batch.class
+        batched : (n : ℕ) → 0 < times n v.batch.blocks → get_or (set o.classes.items d class) (superblock_of v.setup.capacity n) 0 ≡ v.batch.class
         batched n some = let q = (after.blocks s.seat (accepted v u) s.below s.at).batched n some in
             there o.classes.items v.batch.class n less (ap (info (memory_of v.setup.capacity s.words)) q.0 ∙ q.1) (own.classes.batched n some)
 
@@ -239,7 +238,7 @@ one_marked old n mark less = record {
 
 -- where a block that is a seat's stands
 pub block_there : (v : View) (s : HasSoundState v) (b : ℕ) → 0 < times_block b v → (start_word v.setup.capacity 0 ≤ b)
-    × (b < image_words v.setup.capacity) × (superblock_at v.setup.capacity b < v.setup.capacity)
+    × (b < image_words v.setup.capacity) × (superblock_of v.setup.capacity b < v.setup.capacity)
 block_there v s b own = let r = block_range v s b own in let p = r.0 in let q = r.1 in (p, omega arith, block_below v s b own)
 
 pub small_own : (v : View) (b : Block) (class : ℕ) → HoldsSmall v b class → 0 < times_block b.first_word v
@@ -274,8 +273,8 @@ carrier_alone v s b class small = record {
     | inr other ↦ absurd (let t = in_lists_total n of (chosen_lists (λ x. nat_eq x b.first_word) v.small) there in
         let z = lists_only b.first_word n v.small other in omega arith)
   ];
-  none_large = no_spans (λ d. nat_eq d (superblock_at v.setup.capacity b.first_word)) v.large
-      (λ span there. ne_eqb span.first (superblock_at v.setup.capacity b.first_word)
+  none_large = no_spans (λ d. nat_eq d (superblock_of v.setup.capacity b.first_word)) v.large
+      (λ span there. ne_eqb span.first (superblock_of v.setup.capacity b.first_word)
       (λ here. let t = span_takes v.large span (s.sound.good.claims s.seat v s.below s.at).some there in let z = no_span v s b class small in
       let e = ap (λ d. times_large d v.large) here in omega (arith, t, z, e)));
 }

@@ -3,11 +3,10 @@ use Rattle.std.specs.Vec.{vec_capacity}
 use Rattle.std.proofs.Common.{◌≡◌, ℕ, zero, suc, ◌+◌, ◌<◌, ◌≤◌, inl, inr, false, nat_eq, List, [], ◌∷◌, ◌++◌, get_or, set, length, slice_index, refl, ap, sym, subst, ◌∙◌, arith}
 use Rattle.std.proofs.lemmas.Bool.{cases_eq, cases_lt}
 use Rattle.std.proofs.lemmas.List.{get_or-set_same, get_or-set_other, get_or_append_left}
-use Rattle.heap_model.specs.Geometry.{lists, roots, capacity_word, info_word, image_words}
+use Rattle.heap_model.specs.Geometry.{lists, roots, capacity_word, info_word, image_words, superblock_of}
 use Rattle.heap_model.specs.Rest.{IsReady}
 use Rattle.heap_model.specs.Counting.{times, total, one_if}
 use Rattle.super_block.specs.Contents.{Contents}
-use Rattle.core_model.specs.Cells.{superblock_at}
 use Rattle.core_model.specs.Opening.{AreOwners, setup_of, opened_view, opened_state, picked, tabulate, small_blocks}
 use Rattle.core_model.specs.View.{View, of_class}
 use Rattle.core_model.proofs.OpenLemmas.{length_tabulate, tabulate_at, small_member}
@@ -156,10 +155,10 @@ gathered heap owners seats seat superblocks o ready are less are_superblocks g =
   small_at class = small_blocks (slice_index heap.words capacity_word) (λ d. slice_index heap.words (info_word d)) class
       (picked seat heap.held owners.held)
 
-  class_at : (class b : ℕ) → class < lists → 0 < times b (of_class p.small class) → get_or o.classes.items (superblock_at p.capacity b) 0 ≡ class
+  class_at : (class b : ℕ) → class < lists → 0 < times b (of_class p.small class) → get_or o.classes.items (superblock_of p.capacity b) 0 ≡ class
   class_at class b some there =
       let low = block_below v (opened_has heap owners seats seat ready are less) b (let t = in_lists_total b class p.small there in omega arith) in
-      g.classes_are (superblock_at p.capacity b) (let l = g.classes_long in omega arith)
+      g.classes_are (superblock_of p.capacity b) (let l = g.classes_long in omega arith)
       ∙ small_member p.capacity (λ d. slice_index heap.words (info_word d)) class b (picked seat heap.held owners.held)
       (subst (λ xs. 0 < times b xs) (tabulate_at small_at 0 lists class [] some ∙ ap small_at (let e : 0 + class ≡ class = omega arith in e)) there)
 

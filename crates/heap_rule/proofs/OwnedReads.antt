@@ -3,12 +3,12 @@ use Rattle.std.proofs.Common.{◌≡◌, ℕ, ◌+◌, ◌-◌, ◌*◌, ◌/◌
 use Rattle.std.proofs.Math.Nat.{div-mul-le_self, lt-div-mul-add}
 use Rattle.std.proofs.lemmas.Bool.{cases_lt, cases_order}
 use Rattle.heap_model.specs.declared.block.Block.{Block}
-use Rattle.heap_model.specs.Geometry.{roots, start_word, superblocks_end, superblock_words}
+use Rattle.heap_model.specs.Geometry.{roots, start_word, superblocks_end, superblock_words, superblock_of}
 use Rattle.heap_model.specs.Sizes.{IsClass, words_of_class}
 use Rattle.heap_model.specs.Counting.{times, total, one_if}
 use Rattle.heap_model.proofs.BlockLemmas.{block_step}
 use Rattle.heap_model.proofs.SizeLemmas.{two_words}
-use Rattle.core_model.specs.Cells.{Cell, link_cell, root_cell, data_cell, cell_at, superblock_at}
+use Rattle.core_model.specs.Cells.{Cell, link_cell, root_cell, data_cell, cell_at}
 use Rattle.core_model.specs.Memory.{Memory, memory_of, used, info}
 use Rattle.core_model.specs.View.{View, of_class, times_own, times_raw, times_large, times_block, times_classed}
 use Rattle.core_model.specs.Effects.{span_count, claim_class}
@@ -71,12 +71,12 @@ module _ (v : View) (s : HasSoundState v) (o : Owned) (own : HasOwned o (parts_o
       let r = (ownership_is d x less is).is_classed in omega arith)
 
   module _ (word : ℕ) (from : start_word v.setup.capacity 0 ≤ word) (until : word < superblocks_end v.setup.capacity) (d : ℕ)
-      (d_is : d ≡ superblock_at v.setup.capacity word) (x : Ownership) (x_is : x ≡ get_or o.ownerships.items d x) where
+      (d_is : d ≡ superblock_of v.setup.capacity word) (x : Ownership) (x_is : x ≡ get_or o.ownerships.items d x) where
     pub d_below : d < v.setup.capacity
     d_below = omega arith
 
-    parts_own : times_large (superblock_at v.setup.capacity word) v.large + times_raw
-        (superblock_at v.setup.capacity word) v ≡ unclassed_in x + large_in x
+    parts_own : times_large (superblock_of v.setup.capacity word) v.large + times_raw
+        (superblock_of v.setup.capacity word) v ≡ unclassed_in x + large_in x
     parts_own = ap (λ n. times_large n v.large + times_raw n v) (sym d_is)
         ∙ (let q = ownership_is d x d_below x_is in let a = q.unclassed in let b = q.is_large in omega arith)
 
@@ -90,22 +90,22 @@ module _ (v : View) (s : HasSoundState v) (o : Owned) (own : HasOwned o (parts_o
       block_has : (own_word : IsOwn v (data_cell word)) → (b : ℕ) × (0 < times_block b v) × IsCutBlock v.setup.capacity class d b × (b ≤ word)
           × (word < b + words_of_class class) × IsClass class
       block_has own_word = let p = parts_own in let has = covered v.setup m s.views good s.seat v s.below s.at word (omega arith) in
-          let here : superblock_at v.setup.capacity has.0 ≡ d = in_superblock has.0 has.1.class has.1.is
-          (subst IsClass has.1.info_is (good.shaped.chained.is_class (superblock_at v.setup.capacity word) has.1.cut)) in
+          let here : superblock_of v.setup.capacity has.0 ≡ d = in_superblock has.0 has.1.class has.1.is
+          (subst IsClass has.1.info_is (good.shaped.chained.is_class (superblock_of v.setup.capacity word) has.1.cut)) in
           let same : has.1.class ≡ class = sym has.1.info_is ∙ ap (info m) (sym d_is ∙ sym here) ∙ sym (class_kept v s o own has.0 has.1.owned)
           ∙ ap (λ n. get_or o.classes.items n 0) here ∙ sym class_at in (
             has.0,
             has.1.owned,
             subst (λ n. IsCutBlock v.setup.capacity class n has.0) (sym d_is)
-                (subst (λ n. IsCutBlock v.setup.capacity n (superblock_at v.setup.capacity word) has.0) same has.1.is),
+                (subst (λ n. IsCutBlock v.setup.capacity n (superblock_of v.setup.capacity word) has.0) same has.1.is),
             has.1.from,
             subst (λ n. word < has.0 + words_of_class n) same has.1.until,
             subst IsClass (sym has.1.info_is ∙ has.1.info_is ∙ same) (subst IsClass has.1.info_is
-                (good.shaped.chained.is_class (superblock_at v.setup.capacity word) has.1.cut)),
+                (good.shaped.chained.is_class (superblock_of v.setup.capacity word) has.1.cut)),
           ) where
-            in_superblock : (b c : ℕ) → IsCutBlock v.setup.capacity c (superblock_at v.setup.capacity word) b → IsClass c
-                → superblock_at v.setup.capacity b ≡ d
-            in_superblock b c cut is = superblock_is v.setup.capacity c (superblock_at v.setup.capacity word) b is cut ∙ sym d_is
+            in_superblock : (b c : ℕ) → IsCutBlock v.setup.capacity c (superblock_of v.setup.capacity word) b → IsClass c
+                → superblock_of v.setup.capacity b ≡ d
+            in_superblock b c cut is = superblock_is v.setup.capacity c (superblock_of v.setup.capacity word) b is cut ∙ sym d_is
 
       pub data_unclassed : (IsClass class → ⊥) → IsOwn v (data_cell word) → ⊥
       data_unclassed not own_word = not (block_has own_word).5
@@ -127,13 +127,13 @@ module _ (v : View) (s : HasSoundState v) (o : Owned) (own : HasOwned o (parts_o
         pub block_inside : block < superblocks_end v.setup.capacity
         block_inside = let b = before_word in omega arith
 
-        block_at : superblock_at v.setup.capacity block ≡ d
+        block_at : superblock_of v.setup.capacity block ≡ d
         block_at = let a = before_word in (let y : start_word v.setup.capacity d ≤ block = omega arith in omega arith)
 
         until_class : (n : ℕ) → class ≡ n → word < block + words_of_class n
         until_class n is = subst (λ y. word < block + y) (words_are ∙ ap words_of_class is) after_word
 
-        class_of : (n : ℕ) → get_or o.classes.items (superblock_at v.setup.capacity block) 0 ≡ n → class ≡ n
+        class_of : (n : ℕ) → get_or o.classes.items (superblock_of v.setup.capacity block) 0 ≡ n → class ≡ n
         class_of n is = class_at ∙ ap (λ e. get_or o.classes.items e 0) (sym block_at) ∙ is
 
         has_word : 0 < times_block block v → 0 < in_blocks v word
@@ -170,7 +170,7 @@ module _ (v : View) (s : HasSoundState v) (o : Owned) (own : HasOwned o (parts_o
         )
 
   -- a held small block
-  pub small_held : (class b d : ℕ) (x : Ownership) → 0 < times b (of_class v.small class) → d ≡ superblock_at v.setup.capacity b
+  pub small_held : (class b d : ℕ) (x : Ownership) → 0 < times b (of_class v.small class) → d ≡ superblock_of v.setup.capacity b
       → x ≡ get_or o.ownerships.items d x → (d < v.setup.capacity) × IsClass class × (count_in x ≡ 0) × (get_or o.classes.items d 0 ≡ class)
   small_held class b d x there d_is x_is = (
     below_d,
@@ -188,9 +188,9 @@ module _ (v : View) (s : HasSoundState v) (o : Owned) (own : HasOwned o (parts_o
 
     none : times_large d v.large ≡ 0
     none = subst (λ n. times_large n v.large ≡ 0) (sym d_is) (let c = (block_cut v s b owned).0 in
-        let p = good.shaped.placed.one_place (superblock_at v.setup.capacity b) in
-        let most = one_at_most (nat_lt (superblock_at v.setup.capacity b) (used m)) in
-        let t = total_at (λ (u : View). times_large (superblock_at v.setup.capacity b) u.large) s.views s.seat v s.below s.at in omega arith)
+        let p = good.shaped.placed.one_place (superblock_of v.setup.capacity b) in
+        let most = one_at_most (nat_lt (superblock_of v.setup.capacity b) (used m)) in
+        let t = total_at (λ (u : View). times_large (superblock_of v.setup.capacity b) u.large) s.views s.seat v s.below s.at in omega arith)
 
 -- where a large block begins no small one is held, and the other way round; what is kept tells which it is, and how many words it has
 pub record IsBlockAt (v : View) (d count class : ℕ) (b : Block) : Type 0 where
@@ -201,7 +201,7 @@ pub record IsBlockAt (v : View) (d count class : ℕ) (b : Block) : Type 0 where
   pub small : count ≡ 0 → (b.words ≡ words_of_class class) × IsClass class
 
 pub block_there : (v : View) (s : HasSoundState v) (o : Owned) (own : HasOwned o (parts_of v)) (b : Block) (d count : ℕ) (x : Ownership)
-    → IsHeld v b → d ≡ superblock_at v.setup.capacity b.first_word → (d < v.setup.capacity → x ≡ get_or o.ownerships.items d x)
+    → IsHeld v b → d ≡ superblock_of v.setup.capacity b.first_word → (d < v.setup.capacity → x ≡ get_or o.ownerships.items d x)
     → count ≡ count_in x → IsBlockAt v d count (get_or o.classes.items d 0) b
 block_there v s o own b d count x (a_small class first there) d_is x_is count_is =
     let owned : 0 < times_block first v = (let t = in_lists_total first class v.small there in omega arith) in

@@ -4,7 +4,7 @@ use Rattle.std.proofs.Common.{◌≡◌, ℕ, ◌<◌, ◌≤◌, Bool, true, na
 use Rattle.heap_model.specs.Sizes.{IsClass}
 use Rattle.heap_model.specs.Counting.{times, without}
 use Rattle.core_model.specs.declared.event.Shift.TheVariants.{Cut, Alloc, Free, Lift, Large, Split}
-use Rattle.core_model.specs.Cells.{superblock_at}
+use Rattle.heap_model.specs.Geometry.{superblock_of}
 use Rattle.core_model.specs.Memory.{Memory, memory_of, used, info}
 use Rattle.core_model.specs.View.{View, of_class, times_raw}
 use Rattle.core_model.specs.Effects.{steps, drew, shifted, class_blocks, first_of, rest_of, span_count, without_range, without_span}
@@ -172,13 +172,13 @@ module _ (v : View) (s : HasSoundState v) (o : Owned) (own : HasOwned o (parts_o
         less : d < v.setup.capacity
         less = taken_below v s d (let c = can.cutting in omega arith)
 
-        of_d : (b : ℕ) → 0 < times b cs → superblock_at v.setup.capacity b ≡ d
+        of_d : (b : ℕ) → 0 < times b cs → superblock_of v.setup.capacity b ≡ d
         of_d b some = superblock_is v.setup.capacity class d b is (block_of v.setup.capacity class d b some)
 
-        none : (b : ℕ) → 0 < times_had b (parts_of v) → superblock_at v.setup.capacity b ≡ d → get_or o.classes.items d 0 ≡ class
-        none b had here = absurd (let c = (block_cut v s b had).0 in let p = good.shaped.placed.one_place (superblock_at v.setup.capacity b) in
-            let most = one_at_most (nat_lt (superblock_at v.setup.capacity b) (used m)) in
-            let t = total_at (times_raw (superblock_at v.setup.capacity b)) s.views s.seat v s.below s.at in
+        none : (b : ℕ) → 0 < times_had b (parts_of v) → superblock_of v.setup.capacity b ≡ d → get_or o.classes.items d 0 ≡ class
+        none b had here = absurd (let c = (block_cut v s b had).0 in let p = good.shaped.placed.one_place (superblock_of v.setup.capacity b) in
+            let most = one_at_most (nat_lt (superblock_of v.setup.capacity b) (used m)) in
+            let t = total_at (times_raw (superblock_of v.setup.capacity b)) s.views s.seat v s.below s.at in
             let c2 = subst (λ n. 0 < times n v.cutting) (sym here) can.cutting in omega arith)
 
   pub large_owned : (d n : ℕ) (rest : List Ownership) (ownerships : Vec Ownership Global) → CanHoldLarge v d n
@@ -199,7 +199,7 @@ module _ (v : View) (s : HasSoundState v) (o : Owned) (own : HasOwned o (parts_o
         less = let c = can.some in let g = (can.each d (omega arith) (omega arith)).claimed in let t = taken_below v s d (omega arith) in
             let l = owning.long in let k = own.ownerships_long in omega arith
 
-  pub split_owned : (block d n : ℕ) (ownerships : Vec Ownership Global) → MaySplit v block → d ≡ superblock_at v.setup.capacity block
+  pub split_owned : (block d n : ℕ) (ownerships : Vec Ownership Global) → MaySplit v block → d ≡ superblock_of v.setup.capacity block
       → n ≡ span_count d v.large → HaveOwnership o.ownerships.items ownerships.items d n ownership.Unclassed
       → HasOwned (record o { ownerships = ownerships }) (parts_of (shifted m (drew v found) (Some (Split block))))
   split_owned block d n ownerships may d_is n_is owning = subst (λ e. HasOwned (record o { ownerships = ownerships })

@@ -2,12 +2,12 @@
 use Rattle.std.proofs.Common.{◌≡◌, ◌≢◌, ℕ, zero, suc, ◌+◌, ◌-◌, ◌*◌, ◌<◌, ◌≤◌, inl, inr, Bool, true, false, None, cond, nat_lt, List, [], ◌∷◌, ◌++◌, get_or, set, length, refl, ap, ap₂, sym, subst, ◌∙◌, length-set, ltb-true, lt-ltb, true≢false, Vec, Global, arith}
 use Rattle.std.specs.Vec.{vec_capacity}
 use Rattle.std.proofs.lemmas.Bool.{cases_eq, cases_lt}
-use Rattle.heap_model.specs.Geometry.{lists, start_word, image_words}
+use Rattle.heap_model.specs.Geometry.{lists, start_word, image_words, superblock_of}
 use Rattle.heap_model.specs.Sizes.{IsClass, words_of_class, blocks_of}
 use Rattle.heap_model.specs.Words.{anchor_state, anchor_first, anchor_count, head_first, head_pops, full_anchor, full_state}
 use Rattle.heap_model.specs.Counting.{times, total, without}
 use Rattle.core_model.specs.declared.event.Event.TheVariants.{Store, TakeFresh, Pop, Push, TakeAll, Give}
-use Rattle.core_model.specs.Cells.{Cell, used_cell, head_cell, info_cell, anchor_cell, link_cell, root_cell, data_cell, no_cell, cell_at, superblock_at}
+use Rattle.core_model.specs.Cells.{Cell, used_cell, head_cell, info_cell, anchor_cell, link_cell, root_cell, data_cell, no_cell, cell_at}
 use Rattle.core_model.specs.Memory.{Memory, memory_of, used, head, link, info, anchor, next}
 use Rattle.core_model.specs.View.{View, Claim, Span, of_class, no_batch, times_raw, times_classed, times_large, times_block}
 use Rattle.core_model.specs.Effects.{steps, seen, seen_word, seen_of, before, claimed, taken_fresh, popped, pushed, pushed_raw, pushed_classed, taken_all, given, won, trimmed, stored, stored_anchor, claim_class, anchored_blocks, chain, first_of, without_claim}
@@ -154,7 +154,7 @@ module _ (v : View) (s : HasSoundState v) where
 
   -- the class that is kept of a block's superblock is that of its info
   pub class_kept : (o : Owned) → HasOwned o (parts_of v) → (b : ℕ) → 0 < times_block b v
-      → get_or o.classes.items (superblock_at v.setup.capacity b) 0 ≡ info m (superblock_at v.setup.capacity b)
+      → get_or o.classes.items (superblock_of v.setup.capacity b) 0 ≡ info m (superblock_of v.setup.capacity b)
   class_kept o own b some = let h = good.blocks s.seat v s.below s.at in elim (cases_lt 0 (total (times b) v.small)) [
     | inl small ↦ let c = which_class b v.small small in own.classes.held c.n b c.there ∙ sym (h.held c.n b c.there)
     | inr not_small ↦ elim (cases_lt 0 (total (times b) v.caches)) [
@@ -320,7 +320,7 @@ module _ (v w : View) (d found : ℕ) (event : IsEvent (TakeAll d) v found w) (s
   taken_cut b some = subst (λ c. IsCutBlock v.setup.capacity c d b) claim.1
       (good0.shaped.chained.chained d b cut_d (subst (λ l. 0 < times b l) blocks_are some))
 
-  pub taken_of : (b : ℕ) → 0 < times b taken_blocks → superblock_at v.setup.capacity b ≡ d
+  pub taken_of : (b : ℕ) → 0 < times b taken_blocks → superblock_of v.setup.capacity b ≡ d
   taken_of b some = superblock_is v.setup.capacity class d b claim.0 (taken_cut b some)
 
   pub took_caches : w.caches ≡ set v.caches class taken_blocks
@@ -388,7 +388,7 @@ module _ (v w : View) (d found : ℕ) (event : IsEvent (TakeAll d) v found w) (s
         room = own.room;
         stacks = restacked o.stacks.items stacks.items v.caches class (λ cache. taken_blocks) own.stacks (let l = claim.0.last in omega arith) less r;
       }) where
-        same_class : (b : ℕ) → 0 < times_had b (parts_of v) → superblock_at v.setup.capacity b ≡ d → get_or o.classes.items d 0 ≡ class
+        same_class : (b : ℕ) → 0 < times_had b (parts_of v) → superblock_of v.setup.capacity b ≡ d → get_or o.classes.items d 0 ≡ class
         same_class b had here = ap (λ n. get_or o.classes.items n 0) (sym here) ∙ class_kept v event.before o own b had ∙ ap (info m0) here ∙ claim.1
 
 -- the batch is given back

@@ -2,9 +2,9 @@
 use Rattle.std.proofs.Common.{◌≡◌, ℕ, zero, suc, ◌≤◌, ◌<◌, inl, inr, nat_lt, get_or, length, None, Some, refl, ap, ◌∙◌, arith}
 use Rattle.std.proofs.lemmas.Bool.{cases_lt}
 use Rattle.std.proofs.lemmas.List.{get_or-set_same}
-use Rattle.heap_model.specs.Geometry.{image_words}
+use Rattle.heap_model.specs.Geometry.{image_words, superblock_of}
 use Rattle.core_model.specs.declared.event.Event.TheVariants.{Load, Store, Settle}
-use Rattle.core_model.specs.Cells.{Cell, used_cell, head_cell, info_cell, anchor_cell, link_cell, root_cell, data_cell, no_cell, cell_at, superblock_at}
+use Rattle.core_model.specs.Cells.{Cell, used_cell, head_cell, info_cell, anchor_cell, link_cell, root_cell, data_cell, no_cell, cell_at}
 use Rattle.core_model.specs.Effects.{learn, stored, stored_anchor, used_up}
 use Rattle.core_model.specs.Guards.{IsOwn, MayChangeWord}
 use Rattle.core_model.specs.Memory.{Memory, memory_of, used}
@@ -28,15 +28,15 @@ module _ (v : View) (s : HasSoundState v) where
   pub raw_inside : (d : ℕ) → 0 < times_raw d v → d < v.setup.capacity
   raw_inside d some = taken v.setup m s.views s.seat v s.below s.at s.sound.good d (omega arith)
 
-  pub no_block : (word : ℕ) → 0 < times_raw (superblock_at v.setup.capacity word) v → times_block word v ≡ 0
+  pub no_block : (word : ℕ) → 0 < times_raw (superblock_of v.setup.capacity word) v → times_block word v ≡ 0
   no_block word raw = elim (cases_lt 0 (times_block word v)) [
-    | inl some ↦ absurd (let d = superblock_at v.setup.capacity word in let cut = (block_cut v s word some).0 in
+    | inl some ↦ absurd (let d = superblock_of v.setup.capacity word in let cut = (block_cut v s word some).0 in
         let mine = total_at (times_raw d) s.views s.seat v s.below s.at in let p = s.sound.good.shaped.placed.one_place d in
         let one = one_at_most (nat_lt d (used m)) in omega arith)
     | inr none ↦ omega arith
   ]
 
-  pub raw_blank : (word : ℕ) → 0 < times_raw (superblock_at v.setup.capacity word) v → MayChangeWord v word
+  pub raw_blank : (word : ℕ) → 0 < times_raw (superblock_of v.setup.capacity word) v → MayChangeWord v word
   raw_blank word raw = let none = no_block word raw in record { uncached = omega arith; in_batch = inl (omega arith) }
 
   pub volatile_long : length v.volatile ≡ image_words v.setup.capacity

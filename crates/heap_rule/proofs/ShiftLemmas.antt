@@ -1,11 +1,11 @@
 -- What is kept of a seat once a change of its parts is done, which goes with a draw.
 use Rattle.std.proofs.Common.{◌≡◌, ℕ, suc, ◌+◌, ◌-◌, ◌*◌, ◌<◌, ◌≤◌, inl, inr, true, cond, nat_eq, Option, Some, List, ◌∷◌, get_or, set, length, refl, ap, ap₂, sym, subst, ◌∙◌, lt-ltb, arith}
 use Rattle.std.proofs.lemmas.Bool.{cases_lt}
-use Rattle.heap_model.specs.Geometry.{lists, start_word, info_word, largest_capacity_fits}
+use Rattle.heap_model.specs.Geometry.{lists, start_word, info_word, largest_capacity_fits, superblock_of}
 use Rattle.heap_model.specs.Sizes.{IsClass, words_of_class, blocks_of}
 use Rattle.heap_model.proofs.SizeLemmas.{four_blocks}
 use Rattle.core_model.specs.declared.event.Shift.TheVariants.{Cut, Alloc, Free, Lift, Large, Split}
-use Rattle.core_model.specs.Cells.{data_cell, info_cell, superblock_at}
+use Rattle.core_model.specs.Cells.{data_cell, info_cell}
 use Rattle.core_model.specs.Memory.{memory_of, info, volatile_at, next, table_length}
 use Rattle.core_model.specs.View.{View, of_class, times_block, times_large}
 use Rattle.core_model.specs.Effects.{first_of, rest_of, cleared, span_count, class_blocks}
@@ -95,7 +95,7 @@ module _ (notes : SeatNotes) (v : View) (kept : IsKeptOf notes v) (class : ℕ) 
         batch = kept.batch;
       }
 
-      pub lift_fits : (d head : ℕ) → d ≡ superblock_at v.setup.capacity cache.first
+      pub lift_fits : (d head : ℕ) → d ≡ superblock_of v.setup.capacity cache.first
           → head ≡ cond (nat_eq notes.batch.count 0) cache.first notes.batch.first
           → FitsShift (record notes {
             caches = set notes.caches class rest;
@@ -120,7 +120,7 @@ module _ (notes : SeatNotes) (v : View) (kept : IsKeptOf notes v) (class : ℕ) 
         caches = cache_set notes.caches v.caches class (rest_of cs) rest kept.caches less (long_caches v kept.has class less) next_is
             (let l = rest_length cs in let n = cache_count less in omega arith);
         batch = record {
-          descriptor = ap (superblock_at v.setup.capacity) first_is ∙ sym d_is;
+          descriptor = ap (superblock_of v.setup.capacity) first_is ∙ sym d_is;
           class = refl;
           first = first_append v.batch.blocks (first_of cs) ∙ ap₂ (λ n x. cond (nat_eq n 0) x (first_of v.batch.blocks))
               kept.batch.count first_is ∙ ap (λ x. cond (nat_eq notes.batch.count 0) cache.first x) kept.batch.first ∙ sym head_is;
@@ -145,7 +145,7 @@ module _ (v : View) (s : HasSoundState v) (block : ℕ) (can : CanFree v block) 
   pub free_own : 0 < times_block block v
   free_own = let held = in_lists_total block can.class v.small can.held in omega arith
 
-  pub free_info : info (memory_of v.setup.capacity s.words) (superblock_at v.setup.capacity block) ≡ can.class
+  pub free_info : info (memory_of v.setup.capacity s.words) (superblock_of v.setup.capacity block) ≡ can.class
   free_info = (s.sound.good.blocks s.seat v s.below s.at).held can.class block can.held
 
   pub free_class : IsClass can.class
@@ -213,7 +213,7 @@ large_fits notes v d count anchor kept cleared_is = λ s found. record {
 }
 
 pub split_fits : (notes : SeatNotes) (v : View) (block d count : ℕ) (anchor : Option Seen) → IsKeptOf notes v
-    → d ≡ superblock_at v.setup.capacity block → count ≡ span_count d v.large
+    → d ≡ superblock_of v.setup.capacity block → count ≡ span_count d v.large
     → snapshot anchor ≡ cleared d count (snapshot notes.seen_anchor) → FitsShift (record notes { seen_anchor = anchor }) v (Some (Split block))
 split_fits notes v block d count anchor kept d_is count_is cleared_is = λ s found. record {
   notes_are = record {
@@ -222,7 +222,7 @@ split_fits notes v block d count anchor kept d_is count_is cleared_is = λ s fou
     seen_used = kept.notes_are.seen_used;
     seen_head = kept.notes_are.seen_head;
     seen_link = kept.notes_are.seen_link;
-    seen_anchor = ap (λ x. cleared (superblock_at v.setup.capacity block) (span_count (superblock_at v.setup.capacity block) v.large) x)
+    seen_anchor = ap (λ x. cleared (superblock_of v.setup.capacity block) (span_count (superblock_of v.setup.capacity block) v.large) x)
         kept.notes_are.seen_anchor
         ∙ ap (λ e. cleared e (span_count e v.large) (snapshot notes.seen_anchor)) (sym d_is)
         ∙ ap (λ n. cleared d n (snapshot notes.seen_anchor)) (sym count_is) ∙ sym cleared_is;

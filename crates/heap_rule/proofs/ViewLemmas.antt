@@ -1,13 +1,13 @@
 -- What a view shows of own words is so in every sound state, and what it has lies in the image.
 use Rattle.std.proofs.Common.{◌≡◌, inl, inr, ℕ, suc, zero, ◌+◌, ◌<◌, ◌≤◌, true, nat_lt, nat_le, List, [], ◌∷◌, length, refl, ap, sym, subst, ◌∙◌, lt-ltb, le-leb, arith}
 use Rattle.std.proofs.lemmas.Bool.{cases_lt}
-use Rattle.heap_model.specs.Geometry.{start_word, superblocks_end}
+use Rattle.heap_model.specs.Geometry.{start_word, superblocks_end, superblock_of}
 use Rattle.heap_model.specs.Sizes.{IsClass, words_of_class, blocks_of}
 use Rattle.heap_model.specs.Chains.{Walks}
 use Rattle.heap_model.specs.Words.{anchor_state, empty_state}
 use Rattle.heap_model.specs.Counting.{times}
 use Rattle.heap_model.proofs.SizeLemmas.{two_words, four_blocks}
-use Rattle.core_model.specs.Cells.{Cell, info_cell, anchor_cell, data_cell, is_cell, superblock_at}
+use Rattle.core_model.specs.Cells.{Cell, info_cell, anchor_cell, data_cell, is_cell}
 use Rattle.core_model.specs.Memory.{Memory, memory_of, anchor, info, next}
 use Rattle.core_model.specs.View.{View, of_class, times_raw, times_classed, times_block}
 use Rattle.core_model.specs.Effects.{steps, class_blocks, first_of}
@@ -57,35 +57,35 @@ module _ (v : View) (s : HasSoundState v) where
   info_there d low = lt-ltb d v.setup.capacity (below_capacity d low)
 
   -- the superblock of an own block is cut, for a class
-  pub block_cut : (b : ℕ) → 0 < times_block b v → (0 < times_cut good.shape (tally_of s.views) (superblock_at v.setup.capacity b))
-      × IsCutBlock v.setup.capacity (info m (superblock_at v.setup.capacity b)) (superblock_at v.setup.capacity b) b
+  pub block_cut : (b : ℕ) → 0 < times_block b v → (0 < times_cut good.shape (tally_of s.views) (superblock_of v.setup.capacity b))
+      × IsCutBlock v.setup.capacity (info m (superblock_of v.setup.capacity b)) (superblock_of v.setup.capacity b) b
   block_cut b own = good.shaped.chained.inside b (let t = total_at (times_block b) s.views s.seat v s.below s.at in omega arith)
 
-  pub block_class : (b : ℕ) → 0 < times_block b v → IsClass (info m (superblock_at v.setup.capacity b))
-  block_class b own = good.shaped.chained.is_class (superblock_at v.setup.capacity b) (block_cut b own).0
+  pub block_class : (b : ℕ) → 0 < times_block b v → IsClass (info m (superblock_of v.setup.capacity b))
+  block_class b own = good.shaped.chained.is_class (superblock_of v.setup.capacity b) (block_cut b own).0
 
   pub block_cell : (b : ℕ) → 0 < times_block b v → is_cell v.setup.capacity (data_cell b) ≡ true
   block_cell b own =
       let cut = block_cut b own in let some = cut.0 in
-      let low = good.shaped.durable.below (superblock_at v.setup.capacity b) (omega arith) in let q = good.shaped.durable.behind in
+      let low = good.shaped.durable.below (superblock_of v.setup.capacity b) (omega arith) in let q = good.shaped.durable.behind in
       let r = good.shaped.durable.room in
-      cut_cell v.setup.capacity (info m (superblock_at v.setup.capacity b)) (superblock_at v.setup.capacity b) b (block_class b own) cut.1 (omega arith)
+      cut_cell v.setup.capacity (info m (superblock_of v.setup.capacity b)) (superblock_of v.setup.capacity b) b (block_class b own) cut.1 (omega arith)
 
-  pub block_below : (b : ℕ) → 0 < times_block b v → superblock_at v.setup.capacity b < v.setup.capacity
+  pub block_below : (b : ℕ) → 0 < times_block b v → superblock_of v.setup.capacity b < v.setup.capacity
   block_below b own = let some = (block_cut b own).0 in
-      let low = good.shaped.durable.below (superblock_at v.setup.capacity b) (omega arith) in let q = good.shaped.durable.behind in
+      let low = good.shaped.durable.below (superblock_of v.setup.capacity b) (omega arith) in let q = good.shaped.durable.behind in
       let r = good.shaped.durable.room in omega arith
 
   -- it begins among the words of superblocks
   pub block_range : (b : ℕ) → 0 < times_block b v → (start_word v.setup.capacity 0 ≤ b) × (b < superblocks_end v.setup.capacity)
-  block_range b own = cut_range v.setup.capacity (info m (superblock_at v.setup.capacity b)) (superblock_at v.setup.capacity b) b
+  block_range b own = cut_range v.setup.capacity (info m (superblock_of v.setup.capacity b)) (superblock_of v.setup.capacity b) b
       (block_class b own) (block_below b own) (block_cut b own).1
 
   -- the seat has it once
   pub block_once : (b : ℕ) → times_block b v ≤ 1
   block_once b = elim (cases_lt 0 (times_block b v)) [
     | inl some ↦ let t = total_at (times_block b) s.views s.seat v s.below s.at in let cut = block_cut b some in
-        let o = good.shaped.chained.owned (superblock_at v.setup.capacity b) b cut.0 cut.1 in omega arith
+        let o = good.shaped.chained.owned (superblock_of v.setup.capacity b) b cut.0 cut.1 in omega arith
     | inr none ↦ omega arith
   ]
 

@@ -2,12 +2,11 @@
 use Rattle.std.specs.Prelude.{◌≡◌, ℕ, ◌+◌, ◌-◌, ◌<◌, ◌≤◌, ⊤, true, cond, nat_eq, List, [], ◌∷◌, ◌++◌, get_or, set, length, Option, None}
 use Rattle.std.specs.Vec.{vec_capacity}
 use Rattle.heap_model.specs.Counting.{times}
-use Rattle.heap_model.specs.Geometry.{lists, start_word}
+use Rattle.heap_model.specs.Geometry.{lists, start_word, superblock_of}
 use Rattle.heap_model.specs.Sizes.{blocks_of}
 use Rattle.core_model.specs.declared.event.Event.{Event}
 use Rattle.core_model.specs.declared.event.Event.TheVariants.{TakeFresh, Pop, Push, TakeAll, Give}
 use Rattle.core_model.specs.declared.event.Shift.{Shift}
-use Rattle.core_model.specs.Cells.{superblock_at}
 use Rattle.core_model.specs.Memory.{memory_of}
 use Rattle.core_model.specs.View.{View}
 use Rattle.core_model.specs.Effects.{class_blocks, cleared, rest_of, shifted, drew}
@@ -152,7 +151,7 @@ IsNoted (change.Freed class block) capacity n n' = n' ≡ record n {
 IsNoted (change.Lifted class block first) capacity n n' = n' ≡ record n {
   caches = uncached n.caches class first;
   batch = record {
-    descriptor = superblock_at capacity block;
+    descriptor = superblock_of capacity block;
     class = class;
     first = cond (nat_eq n.batch.count 0) block n.batch.first;
     last = block;

@@ -2,9 +2,8 @@
 use Rattle.std.specs.Prelude.{◌≡◌, ℕ, ◌+◌, ◌*◌, ◌<◌, ◌≤◌, false, true, [], ◌∷◌, set, slice_set, length}
 use Rattle.heap_model.specs.declared.block.Block.{Block}
 use Rattle.heap_model.specs.Counting.{times, total}
-use Rattle.heap_model.specs.Geometry.{start_word, superblock_words}
+use Rattle.heap_model.specs.Geometry.{start_word, superblock_words, superblock_of}
 use Rattle.heap_model.specs.Sizes.{IsClass, words_of_class}
-use Rattle.core_model.specs.Cells.{superblock_at}
 use Rattle.core_model.specs.Effects.{span_count}
 use Rattle.core_model.specs.View.{View, of_class}
 use Rattle.heap_rule.specs.declared.owned.Holding.{Holding}
@@ -65,7 +64,7 @@ CanLose b (holding.Large d n) o = d + n ≤ length o.ownerships.items
 pub record CanGainSmall (b : Block) (capacity : ℕ) (o : Owned) : Type 0 where
   pub from : start_word capacity 0 ≤ b.first_word
   pub word : b.first_word < length o.blocks
-  pub superblock : superblock_at capacity b.first_word < length o.classes.items
+  pub superblock : superblock_of capacity b.first_word < length o.classes.items
 
 abbrev pub CanGain : Block → Holding → ℕ → Owned → Type 0
 CanGain b (holding.Small class) capacity o = CanGainSmall b capacity o
@@ -89,5 +88,5 @@ pub record IsGained (o o' : Owned) (word d class : ℕ) : Type 0 where
 
 -- what is kept once it is
 abbrev pub HasGained : Block → Holding → ℕ → Owned → Owned → Type 0
-HasGained b (holding.Small class) capacity o o' = IsGained o o' b.first_word (superblock_at capacity b.first_word) class
+HasGained b (holding.Small class) capacity o o' = IsGained o o' b.first_word (superblock_of capacity b.first_word) class
 HasGained b (holding.Large d n) capacity o o' = IsLargeIn o o' d n

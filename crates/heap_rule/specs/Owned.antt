@@ -2,8 +2,7 @@
 use Rattle.std.specs.Prelude.{◌≡◌, ℕ, zero, suc, ◌+◌, ◌/◌, ◌<◌, ◌≤◌, ◌↔◌, Bool, true, false, List, get_or, length}
 use Rattle.std.specs.Vec.{vec_capacity}
 use Rattle.heap_model.specs.Counting.{times, total}
-use Rattle.heap_model.specs.Geometry.{roots, superblock_words, image_words}
-use Rattle.core_model.specs.Cells.{superblock_at}
+use Rattle.heap_model.specs.Geometry.{roots, superblock_words, image_words, superblock_of}
 use Rattle.core_model.specs.View.{View, Claim, Span, of_class, times_classed, times_large}
 use Rattle.core_model.specs.Effects.{claim_class, span_count}
 use Rattle.core_model.specs.Opening.{setup_of, opened_view}
@@ -86,9 +85,9 @@ pub record IsOwnership (d : ℕ) (x : Ownership) (p : OwnedParts) : Type 0 where
 
 -- each block of the seat's is in a superblock of its class
 pub record AreClasses (classes : List ℕ) (p : OwnedParts) : Type 0 where
-  pub held : (class b : ℕ) → 0 < times b (of_class p.small class) → get_or classes (superblock_at p.capacity b) 0 ≡ class
-  pub cached : (class b : ℕ) → 0 < times b (of_class p.caches class) → get_or classes (superblock_at p.capacity b) 0 ≡ class
-  pub batched : (b : ℕ) → 0 < times b p.batch → get_or classes (superblock_at p.capacity b) 0 ≡ p.batch_class
+  pub held : (class b : ℕ) → 0 < times b (of_class p.small class) → get_or classes (superblock_of p.capacity b) 0 ≡ class
+  pub cached : (class b : ℕ) → 0 < times b (of_class p.caches class) → get_or classes (superblock_of p.capacity b) 0 ≡ class
+  pub batched : (b : ℕ) → 0 < times b p.batch → get_or classes (superblock_of p.capacity b) 0 ≡ p.batch_class
 
 -- a test for each number that counts
 abbrev pub AreMarked : List Bool → (ℕ → ℕ) → Type 0

@@ -1,14 +1,14 @@
 -- When a seat may do a step, as its view shows it: by what it has, what it has seen, and what it knows of its own words.
 use Rattle.std.specs.Prelude.{◌≡◌, ◌≢◌, ◌≤◌, ◌<◌, ◌⊎◌, ◌+◌, ◌*◌, ℕ, true, cond, nat_eq, List, [], ◌∷◌, Option, Some, None, ⊤, length}
 use Rattle.heap_model.specs.Counting.{times}
-use Rattle.heap_model.specs.Geometry.{lists, start_word}
+use Rattle.heap_model.specs.Geometry.{lists, start_word, superblock_of}
 use Rattle.heap_model.specs.Sizes.{IsClass, words_of_class}
 use Rattle.heap_model.specs.Words.{head_first, anchor_state, anchor_first, anchor_count, empty_state, full_anchor, large_info}
 use Rattle.core_model.specs.declared.event.Event.{Event}
 use Rattle.core_model.specs.declared.event.Event.TheVariants.{Tick, Load, Store, Settle, LookUsed, TakeFresh, KeepUsed, LookHead, LookLink, Pop, Push, LookAnchor, TakeAll, Give}
 use Rattle.core_model.specs.declared.event.Shift.{Shift}
 use Rattle.core_model.specs.declared.event.Shift.TheVariants.{Cut, Alloc, Free, Lift, Large, Split}
-use Rattle.core_model.specs.Cells.{Cell, info_cell, anchor_cell, link_cell, data_cell, cell_at, superblock_at}
+use Rattle.core_model.specs.Cells.{Cell, info_cell, anchor_cell, link_cell, data_cell, cell_at}
 use Rattle.core_model.specs.View.{View, of_class, times_classed, known}
 use Rattle.core_model.specs.Effects.{seen_word, seen_of, claim_class, class_blocks, first_of, last_of}
 use Rattle.core_model.specs.Guards.{IsThere, IsOwn, IsFreelyClaimed, MayChangeWord, MayTake, MayLink, MayPop, MayLookAt, MayTakeAll, MayAlloc, MaySplit, HasTicketFor}
@@ -83,7 +83,7 @@ pub record CanFree (v : View) (block : ℕ) : Type 0 where
 pub record CanLift (v : View) (class : ℕ) : Type 0 where
   pub is_class : IsClass class
   pub cached : 1 ≤ length (of_class v.caches class)
-  pub same : 1 ≤ length v.batch.blocks → v.batch.descriptor ≡ superblock_at v.setup.capacity (first_of (of_class v.caches class))
+  pub same : 1 ≤ length v.batch.blocks → v.batch.descriptor ≡ superblock_of v.setup.capacity (first_of (of_class v.caches class))
   pub unchanged : 1 ≤ length v.batch.blocks → v.batch.linked ≡ true
   pub linked : 1 ≤ length v.batch.blocks → Shows v (data_cell (last_of v.batch.blocks)) (first_of (of_class v.caches class))
 

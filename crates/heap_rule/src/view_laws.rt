@@ -5,9 +5,9 @@ ghost use Rattle.std.specs.Prelude.{◌≡◌, ◌≤◌, ◌<◌, ℕ, None, So
 ghost use Rattle.heap_model.specs.declared.block.Block.{Block};
 ghost use Rattle.heap_model.specs.Blocks.{AreOneOrApart, IsIn};
 ghost use Rattle.heap_model.specs.Counting.{times, total};
-ghost use Rattle.heap_model.specs.Geometry.{image_words, largest_capacity, root_word, roots};
+ghost use Rattle.heap_model.specs.Geometry.{image_words, largest_capacity, root_word, roots, superblock_of};
 ghost use Rattle.core_model.specs.declared.event.Event.TheVariants.{Load, Store, Settle};
-ghost use Rattle.core_model.specs.Cells.{cell_at, superblock_at};
+ghost use Rattle.core_model.specs.Cells.{cell_at};
 ghost use Rattle.core_model.specs.Effects.{learn};
 ghost use Rattle.core_model.specs.Guards.{IsOwn, MayChangeWord};
 ghost use Rattle.core_model.specs.Held.{IsHeld};
@@ -25,9 +25,9 @@ pub fn a_superblock_without_a_class_is_the_seats_alone()
     ensures inside { (v : View) → HasSoundState v → (d : ℕ) → 0 < times_raw d v
         → d < v.setup.capacity }
     ensures blank { (v : View) → HasSoundState v → (word : ℕ)
-        → 0 < times_raw (superblock_at v.setup.capacity word) v → MayChangeWord v word }
+        → 0 < times_raw (superblock_of v.setup.capacity word) v → MayChangeWord v word }
     ensures no_block { (v : View) → HasSoundState v → (word : ℕ)
-        → 0 < times_raw (superblock_at v.setup.capacity word) v → times_block word v ≡ 0 }
+        → 0 < times_raw (superblock_of v.setup.capacity word) v → times_block word v ≡ 0 }
 {}
 
 /// A seat has room to record each word of the image.

@@ -2,11 +2,11 @@
 use Rattle.std.proofs.Common.{◌≡◌, ◌≢◌, ℕ, ◌+◌, ◌<◌, ◌≤◌, inl, inr, Bool, true, false, cond, nat_eq, nat_le, nat_lt, List, ◌∷◌, [], ◌++◌, get_or, length, slice_index, refl, ap, sym, subst, ◌∙◌, lt-ltb, le-leb, true≢false, arith}
 use Rattle.std.proofs.lemmas.Bool.{cases_lt}
 use Rattle.std.proofs.lemmas.List.{get_or-set_other}
-use Rattle.heap_model.specs.Geometry.{image_words, start_word, superblocks_end, used_word}
+use Rattle.heap_model.specs.Geometry.{image_words, start_word, superblocks_end, used_word, superblock_of}
 use Rattle.heap_model.specs.Rest.{IsReady}
 use Rattle.core_model.specs.declared.event.Event.{Event}
 use Rattle.core_model.specs.declared.event.Event.TheVariants.{Tick, Load, Store, Settle, LookUsed, TakeFresh, KeepUsed, LookHead, LookLink, Pop, Push, LookAnchor, TakeAll, Give}
-use Rattle.core_model.specs.Cells.{Cell, used_cell, data_cell, no_cell, is_cell, index_of, cell_at, superblock_at}
+use Rattle.core_model.specs.Cells.{Cell, used_cell, data_cell, no_cell, is_cell, index_of, cell_at}
 use Rattle.core_model.specs.Effects.{seen, place_of, left_there}
 use Rattle.core_model.specs.Guards.{IsOwn, MayStep}
 use Rattle.core_model.specs.Memory.{Memory, StepPlace, volatile_at, durable_at, tickets, used, table_index, memory_of}
@@ -43,13 +43,13 @@ module _ (k : Setup) (m : Memory) (views : List View) (i : ℕ) (v : View) (belo
   whole d = times_large d v.large + times_raw d v
 
   -- an own word of a superblock is of one that was taken
-  own_taken : (word : ℕ) → IsOwn v (data_cell word) → superblock_at k.capacity word < used m
-  own_taken word own = elim (cases_lt (superblock_at k.capacity word) (used m)) [
+  own_taken : (word : ℕ) → IsOwn v (data_cell word) → superblock_of k.capacity word < used m
+  own_taken word own = elim (cases_lt (superblock_of k.capacity word) (used m)) [
     | inl less ↦ less
     | inr past ↦ absurd (
         let cap : v.setup.capacity ≡ k.capacity = ap (λ (s : Setup). s.capacity) (good.set_up i v below at).setup in
-        let same = ap (λ c. whole (superblock_at c word)) cap in
-        let d = superblock_at k.capacity word in
+        let same = ap (λ c. whole (superblock_of c word)) cap in
+        let d = superblock_of k.capacity word in
         let raw = total_at (times_raw d) views i v below at in
         let large = total_at (λ (x : View). times_large d x.large) views i v below at in
         let p = good.shaped.placed.one_place d in let none = below_not d (used m) past in
@@ -59,11 +59,11 @@ module _ (k : Setup) (m : Memory) (views : List View) (i : ℕ) (v : View) (belo
         ])
   ]
 
-  own_past : (word : ℕ) → used m ≤ superblock_at k.capacity word → IsOwn v (data_cell word) → ⊥
+  own_past : (word : ℕ) → used m ≤ superblock_of k.capacity word → IsOwn v (data_cell word) → ⊥
   own_past word past own = let less = own_taken word own in omega arith
 
   -- a step works on none of them
-  no_data : (event : Event) → MayStep m v event → (word : ℕ) → used m ≤ superblock_at k.capacity word → cell_of (place_of v event) ≡ data_cell word → ⊥
+  no_data : (event : Event) → MayStep m v event → (word : ℕ) → used m ≤ superblock_of k.capacity word → cell_of (place_of v event) ≡ data_cell word → ⊥
   no_data (Tick shift) may word past same = true≢false (sym (ap is_data same))
   no_data (Load at) may word past same = own_past word past (subst (IsOwn v) same may.ready)
   no_data (Store at value) may word past same = own_past word past (subst (IsOwn v) same may.ready.0)
@@ -127,7 +127,7 @@ index_apart c tickets is word from until other = (λ z. omega (arith, z, until),
 reached_untaken : (k : Setup) (start : TableState) → Sound k start.words start.views → (words : List ℕ) (views : List View)
     → IsReached k start words views
     → (word : ℕ) → start_word k.capacity 0 ≤ word → word < superblocks_end k.capacity
-    → used (memory_of k.capacity words) ≤ superblock_at k.capacity word
+    → used (memory_of k.capacity words) ≤ superblock_of k.capacity word
     → (get_or words word 0 ≡ get_or start.words word 0) × (get_or words (image_words k.capacity + word) 0 ≡ get_or start.words
     (image_words k.capacity + word) 0)
 reached_untaken k start sound _ _ at_opening word from until past = (refl, refl)
@@ -152,7 +152,7 @@ reached_untaken k start sound _ _ (by_event words views i v event before below a
       there : is_place k.capacity p ≡ true
       there = in_table k m views i v below at sound_before.good event may
 
-      earlier : used m ≤ superblock_at k.capacity word
+      earlier : used m ≤ superblock_of k.capacity word
       earlier = let rises = used_rises k m views i v below at sound_before.good event may in
           let same = ap used (memory_set k.capacity words p x sound_before.long there) in omega (arith, rises, same, past)
 
@@ -182,7 +182,7 @@ never_taken o now kept views ready owners closed word from until = (
   long : length o.words ≡ iw
   long = opened_long o ready owners
 
-  past : used (memory_of (setup_for o).capacity (now ++ (kept ++ (closed.drawn ∷ [])))) ≤ superblock_at (setup_for o).capacity word
+  past : used (memory_of (setup_for o).capacity (now ++ (kept ++ (closed.drawn ∷ [])))) ≤ superblock_of (setup_for o).capacity word
   past = let same = at_now now kept closed.drawn used_word (omega (arith, closed.now_long)) in omega (arith, same, from)
 
   both : (get_or (now ++ (kept ++ (closed.drawn ∷ []))) word 0 ≡ get_or (state_of o).words word 0)

@@ -5,10 +5,10 @@ use Rattle.std.proofs.lemmas.List.{append-nil}
 use Rattle.heap_model.proofs.ListLemmas.{times_append}
 use Rattle.heap_model.specs.declared.block.Block.{Block}
 use Rattle.heap_model.specs.Counting.{one_if, times, without}
-use Rattle.heap_model.specs.Geometry.{anchor_word, start_word, superblock_words, superblocks_end}
+use Rattle.heap_model.specs.Geometry.{anchor_word, start_word, superblock_words, superblocks_end, superblock_of}
 use Rattle.core_model.specs.declared.event.Event.TheVariants.{Store, Tick}
 use Rattle.core_model.specs.declared.event.Shift.TheVariants.{Split}
-use Rattle.core_model.specs.Cells.{Cell, anchor_cell, cell_at, superblock_at}
+use Rattle.core_model.specs.Cells.{Cell, anchor_cell, cell_at}
 use Rattle.core_model.specs.Effects.{learn, span_count, steps, stored, used_up}
 use Rattle.core_model.specs.Guards.{IsOwn, MaySplit}
 use Rattle.core_model.specs.Held.{IsHeld, a_large}
@@ -186,7 +186,7 @@ clearing_on v t w d e from inside clearing cleared losses row = record {
 -- the superblocks of a held large block
 module _ (v : View) (has : HasSoundState v) (block : ℕ) (may : MaySplit v block) where
   abbrev pub first : ℕ
-  first = superblock_at v.setup.capacity block
+  first = superblock_of v.setup.capacity block
 
   abbrev pub large : Block
   large = record { first_word = start_word v.setup.capacity first; words = superblock_words * span_count first v.large }
@@ -215,7 +215,7 @@ module _ (v t : SeatView) (stores : KeepsStores v t) (block : ℕ)
     (event : v.view.stopped ≡ None → (early : View) × Settles v.view early × (found : ℕ) × IsEvent (Tick (Some (Split block))) early found t.view)
     (idle : (step : ℕ) → v.view.stopped ≡ Some step → t ≡ v) where
   abbrev d : ℕ
-  d = superblock_at v.view.setup.capacity block
+  d = superblock_of v.view.setup.capacity block
 
   abbrev n : ℕ
   n = span_count d v.view.large

@@ -3,7 +3,7 @@
 ghost use Rattle.heap_rule.specs.Seated.{IsSeatOf};
 ghost use Rattle.std.specs.Prelude.{◌≡◌, ◌<◌, ◌≤◌, ◌+◌, ℕ, None, OnOk, IfErr};
 ghost use Rattle.heap_model.specs.Counting.{times};
-ghost use Rattle.core_model.specs.Cells.{superblock_at};
+ghost use Rattle.heap_model.specs.Geometry.{superblock_of};
 ghost use Rattle.core_model.specs.Effects.{span_count};
 ghost use Rattle.core_model.specs.Guards.{MaySplit};
 ghost use Rattle.seat_costs.specs.Asked.{HasAsked};
@@ -31,7 +31,7 @@ pub struct Superblocks {
 pub fn superblocks_of(seat: &Seat, shared: &Shared, block: u64) -> Superblocks
     requires seat { IsSeatOf shared.now seat.now }
     requires held { MaySplit seat.now.view block }
-    ensures first { result.first ≡ superblock_at seat.now.view.setup.capacity block }
+    ensures first { result.first ≡ superblock_of seat.now.view.setup.capacity block }
     ensures count { result.count ≡ span_count result.first seat.now.view.large }
     ensures some { 1 ≤ result.count }
     ensures inside { result.first + result.count ≤ seat.now.view.setup.capacity }
@@ -109,14 +109,14 @@ pub fn split<C: Chance>(
     requires seat { IsSeatOf shared.now seat.old }
     requires held { MaySplit seat.old.view block.first_word }
     ensures split { OnOk result (HasSplit
-        (superblock_at seat.old.view.setup.capacity block.first_word)
+        (superblock_of seat.old.view.setup.capacity block.first_word)
         seat.old.view seat.new.view) }
-    ensures may { MayHaveSplit (superblock_at seat.old.view.setup.capacity block.first_word)
+    ensures may { MayHaveSplit (superblock_of seat.old.view.setup.capacity block.first_word)
         seat.old.view seat.new.view }
     ensures stopped { IfErr result (λ e. Stops e.step seat.old.view seat.new.view) }
     ensures drew { seat.old.view.stopped ≡ None → next_of seat.old.view < next_of seat.new.view }
     ensures losses { seat.new.view.losses ≡ seat.old.view.losses }
-    ensures row { let d = superblock_at seat.old.view.setup.capacity block.first_word in
+    ensures row { let d = superblock_of seat.old.view.setup.capacity block.first_word in
         HoldingRow (record no_costs { draws = span_count d seat.old.view.large + 1 })
         seat.old seat.new }
     ensures asked { HasAsked C.draw_gives seat.old.view seat.new.view chance.old chance.new }

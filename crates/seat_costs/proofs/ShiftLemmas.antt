@@ -4,7 +4,7 @@ use Rattle.line_memory.specs.Marks.{mark_at}
 use Rattle.core_model.specs.declared.event.Event.TheVariants.{Tick}
 use Rattle.core_model.specs.declared.event.Shift.{Shift}
 use Rattle.core_model.specs.declared.event.Shift.TheVariants.{Alloc, Cut, Free, Large, Lift, Split}
-use Rattle.core_model.specs.Cells.{superblock_at}
+use Rattle.heap_model.specs.Geometry.{superblock_of}
 use Rattle.core_model.specs.Effects.{class_blocks, cleared, drew, shifted, span_count, without_range}
 use Rattle.core_model.specs.Memory.{Memory, info, memory_of}
 use Rattle.core_model.specs.View.{View}
@@ -29,7 +29,7 @@ module _ (m : Memory) (v u : View) (row : ViewRow one_draw v u) where
   shift_passes (Free block) = passes_alike v u (shifted m u (Some (Free block))) refl row.passes
   shift_passes (Lift class) = passes_alike v u (shifted m u (Some (Lift class))) refl row.passes
   shift_passes (Large d n) = passes_alike v u (shifted m u (Some (Large d n))) refl row.passes
-  shift_passes (Split block) = let d = superblock_at u.setup.capacity block in let floor = max u.floor (d + span_count d u.large) in
+  shift_passes (Split block) = let d = superblock_of u.setup.capacity block in let floor = max u.floor (d + span_count d u.large) in
       passes_alike v (record u { floor = floor }) (shifted m u (Some (Split block))) refl
       (then_none v u (record u { floor = floor }) row (raised_row u floor (omega arith))).passes
 

@@ -4,7 +4,8 @@ use Rattle.std.proofs.lemmas.Bool.{cases_eq}
 use Rattle.std.proofs.lemmas.List.{get_or-set_same, get_or-set_other}
 use Rattle.heap_model.specs.Counting.{times}
 use Rattle.core_model.specs.declared.event.Event.TheVariants.{Settle}
-use Rattle.core_model.specs.Cells.{Cell, used_cell, head_cell, info_cell, anchor_cell, link_cell, root_cell, data_cell, no_cell, cell_at, superblock_at}
+use Rattle.heap_model.specs.Geometry.{superblock_of}
+use Rattle.core_model.specs.Cells.{Cell, used_cell, head_cell, info_cell, anchor_cell, link_cell, root_cell, data_cell, no_cell, cell_at}
 use Rattle.core_model.specs.Effects.{learn, trimmed}
 use Rattle.core_model.specs.Memory.{memory_of}
 use Rattle.core_model.specs.View.{Setup, View, known, times_own, times_in_classes, times_large}
@@ -77,9 +78,9 @@ held_same v w (anchor_cell d) setup small large roots = refl
 held_same v w (link_cell d) setup small large roots = refl
 held_same v w (root_cell i) setup small large roots = ap (times i) roots
 held_same v w (data_cell word) setup small large roots =
-    ap (λ l. times_in_classes word 0 l + times_large (superblock_at w.setup.capacity word) w.large) small
-    ∙ ap (λ l. times_in_classes word 0 v.small + times_large (superblock_at w.setup.capacity word) l) large
-    ∙ ap (λ (k : Setup). times_in_classes word 0 v.small + times_large (superblock_at k.capacity word) v.large) setup
+    ap (λ l. times_in_classes word 0 l + times_large (superblock_of w.setup.capacity word) w.large) small
+    ∙ ap (λ l. times_in_classes word 0 v.small + times_large (superblock_of w.setup.capacity word) l) large
+    ∙ ap (λ (k : Setup). times_in_classes word 0 v.small + times_large (superblock_of k.capacity word) v.large) setup
 held_same v w no_cell setup small large roots = refl
 
 pub still_held : (v w : View) → w.setup ≡ v.setup → w.small ≡ v.small → w.large ≡ v.large → w.roots ≡ v.roots → (word : ℕ) → IsHeldWord v word

@@ -8,14 +8,14 @@ use Rattle.std.proofs.lemmas.List.Elements.{Contains-append_cases, Contains-appe
 use Rattle.heap_model.specs.declared.block.Block.{Block}
 use Rattle.heap_model.specs.Blocks.{IsIn}
 use Rattle.heap_model.specs.Counting.{times, without, one_if}
-use Rattle.heap_model.specs.Geometry.{start_word, superblock_words}
+use Rattle.heap_model.specs.Geometry.{start_word, superblock_words, superblock_of}
 use Rattle.heap_model.specs.Sizes.{IsClass, words_of_class}
 use Rattle.heap_model.proofs.CountingLemmas.{one_if_true}
 use Rattle.heap_model.proofs.DecisionLemmas.{at_most}
 use Rattle.heap_model.proofs.PartLemmas.{same_fields}
 use Rattle.heap_model.proofs.SizeLemmas.{two_words}
 use Rattle.heap_seat.specs.Alloc.{Adds}
-use Rattle.core_model.specs.Cells.{Cell, used_cell, head_cell, info_cell, anchor_cell, link_cell, root_cell, data_cell, no_cell, cell_at, superblock_at}
+use Rattle.core_model.specs.Cells.{Cell, used_cell, head_cell, info_cell, anchor_cell, link_cell, root_cell, data_cell, no_cell, cell_at}
 use Rattle.core_model.specs.Effects.{span_count, without_span}
 use Rattle.core_model.specs.Held.{IsHeld, a_small}
 use Rattle.core_model.specs.View.{Setup, Span, View, of_class, takes, times_in_classes, times_large, times_within}
@@ -127,8 +127,8 @@ module _ (class : ℕ) (b : Block) (v w : View) (below : class < length v.small)
 
   held_more : (word : ℕ) → times_held w (data_cell word) ≡ times_held v (data_cell word) + one_if
       (nat_le b.first_word word && nat_lt word (b.first_word + words_of_class class))
-  held_more word = let s = small_words word in let l = ap (λ x. times_large (superblock_at w.setup.capacity word) x) holds.large in
-      let c = ap (λ (k : Setup). times_large (superblock_at k.capacity word) v.large) holds.setup in omega arith
+  held_more word = let s = small_words word in let l = ap (λ x. times_large (superblock_of w.setup.capacity word) x) holds.large in
+      let c = ap (λ (k : Setup). times_large (superblock_of k.capacity word) v.large) holds.setup in omega arith
 
   pub small_words_stay : (word : ℕ) → IsHeldWord v word → IsHeldWord w word
   small_words_stay = word_stays v w holds.setup holds.roots (λ word. let m = held_more word in omega arith)
@@ -181,10 +181,10 @@ module _ (d n : ℕ) (b : Block) (v w : View) (holds : HoldsSpan d n b v w) wher
   abbrev span : Span
   span = record { first = d; count = n }
 
-  large_more : (word : ℕ) → times_held w (data_cell word) ≡ times_held v (data_cell word) + one_if (takes (superblock_at v.setup.capacity word) span)
+  large_more : (word : ℕ) → times_held w (data_cell word) ≡ times_held v (data_cell word) + one_if (takes (superblock_of v.setup.capacity word) span)
   large_more word = let s = ap (times_in_classes word 0) holds.small in
-      let l = ap (λ x. times_large (superblock_at w.setup.capacity word) x) holds.large in
-      let c = ap (λ (k : Setup). times_large (superblock_at k.capacity word) (span ∷ v.large)) holds.setup in omega arith
+      let l = ap (λ x. times_large (superblock_of w.setup.capacity word) x) holds.large in
+      let c = ap (λ (k : Setup). times_large (superblock_of k.capacity word) (span ∷ v.large)) holds.setup in omega arith
 
   pub large_words_stay : (word : ℕ) → IsHeldWord v word → IsHeldWord w word
   large_words_stay = word_stays v w holds.setup holds.roots (λ word. let m = large_more word in omega arith)
@@ -199,11 +199,11 @@ module _ (d n : ℕ) (b : Block) (v w : View) (holds : HoldsSpan d n b v w) wher
   large_new s t c =
       let had = held_once v s b (let words = large_words in let some = holds.some in omega arith) c in
       let more = large_more b.first_word in
-      let at : superblock_at v.setup.capacity b.first_word ≡ d = let f = large_first in omega arith in
-      let one = one_if_true (takes (superblock_at v.setup.capacity b.first_word) span)
-      (let some = holds.some in and_is (nat_le d (superblock_at v.setup.capacity b.first_word))
-      (nat_lt (superblock_at v.setup.capacity b.first_word) (d + n)) (le-leb d (superblock_at v.setup.capacity b.first_word) (omega arith))
-      (lt-ltb (superblock_at v.setup.capacity b.first_word) (d + n) (omega arith))) in
+      let at : superblock_of v.setup.capacity b.first_word ≡ d = let f = large_first in omega arith in
+      let one = one_if_true (takes (superblock_of v.setup.capacity b.first_word) span)
+      (let some = holds.some in and_is (nat_le d (superblock_of v.setup.capacity b.first_word))
+      (nat_lt (superblock_of v.setup.capacity b.first_word) (d + n)) (le-leb d (superblock_of v.setup.capacity b.first_word) (omega arith))
+      (lt-ltb (superblock_of v.setup.capacity b.first_word) (d + n) (omega arith))) in
       let once = word_once w t b.first_word in omega arith
 
   now_large : held_blocks w ≡ held_in v.small v.setup.capacity (span ∷ v.large)
@@ -248,8 +248,8 @@ module _ (class : ℕ) (b : Block) (v w : View) (below : class < length v.small)
   less_words word = let now = set_words word class v.small rest below in
       let out = within_without (words_of_class class) word b.first_word (of_class v.small class) gives.there in
       let is = ap (times_in_classes word 0) gives.small in
-      let l = ap (λ x. times_large (superblock_at w.setup.capacity word) x) gives.large in
-      let c = ap (λ (k : Setup). times_large (superblock_at k.capacity word) v.large) gives.setup in omega arith
+      let l = ap (λ x. times_large (superblock_of w.setup.capacity word) x) gives.large in
+      let c = ap (λ (k : Setup). times_large (superblock_of k.capacity word) v.large) gives.setup in omega arith
 
   pub small_gone : HasSoundState v → HasSoundState w → Contains (held_blocks w) b → ⊥
   small_gone s t c =
@@ -335,11 +335,11 @@ module _ (d : ℕ) (b : Block) (v w : View) (gives : GivesSpan d b v w) where
   now_left = held_same w v.setup v.small (without_span d v.large) gives.setup gives.small gives.large
 
   left_words : (word : ℕ) → times_held w (data_cell word) + in_range d (span_count d v.large)
-      (superblock_at v.setup.capacity word) ≡ times_held v (data_cell word)
+      (superblock_of v.setup.capacity word) ≡ times_held v (data_cell word)
   left_words word = let s = ap (times_in_classes word 0) gives.small in
-      let l = ap (λ x. times_large (superblock_at w.setup.capacity word) x) gives.large in
-      let c = ap (λ (k : Setup). times_large (superblock_at k.capacity word) (without_span d v.large)) gives.setup in
-      let is = without_span_is (superblock_at v.setup.capacity word) d v.large gives.there in omega arith
+      let l = ap (λ x. times_large (superblock_of w.setup.capacity word) x) gives.large in
+      let c = ap (λ (k : Setup). times_large (superblock_of k.capacity word) (without_span d v.large)) gives.setup in
+      let is = without_span_is (superblock_of v.setup.capacity word) d v.large gives.there in omega arith
 
   pub large_gone : HasSoundState v → HasSoundState w → Contains (held_blocks w) b → ⊥
   large_gone s t c =
@@ -348,13 +348,13 @@ module _ (d : ℕ) (b : Block) (v w : View) (gives : GivesSpan d b v w) where
       let first : b.first_word ≡ start_word v.setup.capacity d = ap (λ (x : Block). x.first_word) gives.block in
       let had = held_once w t b (omega arith) c in
       let less = left_words b.first_word in
-      let at : superblock_at v.setup.capacity b.first_word ≡ d = omega arith in
-      let one = one_if_true (nat_le d (superblock_at v.setup.capacity b.first_word) && nat_lt (superblock_at v.setup.capacity b.first_word)
+      let at : superblock_of v.setup.capacity b.first_word ≡ d = omega arith in
+      let one = one_if_true (nat_le d (superblock_of v.setup.capacity b.first_word) && nat_lt (superblock_of v.setup.capacity b.first_word)
       (d + span_count d v.large))
-      (and_is (nat_le d (superblock_at v.setup.capacity b.first_word))
-      (nat_lt (superblock_at v.setup.capacity b.first_word) (d + span_count d v.large))
-      (le-leb d (superblock_at v.setup.capacity b.first_word) (omega arith))
-      (lt-ltb (superblock_at v.setup.capacity b.first_word) (d + span_count d v.large) (omega arith))) in
+      (and_is (nat_le d (superblock_of v.setup.capacity b.first_word))
+      (nat_lt (superblock_of v.setup.capacity b.first_word) (d + span_count d v.large))
+      (le-leb d (superblock_of v.setup.capacity b.first_word) (omega arith))
+      (lt-ltb (superblock_of v.setup.capacity b.first_word) (d + span_count d v.large) (omega arith))) in
       let once = word_once v s b.first_word in omega arith
 
   pub large_was : (a : Block) → Contains (held_blocks w) a → Contains (held_blocks v) a

@@ -6,7 +6,7 @@ use Rattle.heap_model.specs.Blocks.{Begins, layout_of, of_class, as_large}
 use Rattle.heap_model.specs.Chains.{IsListOf}
 use Rattle.heap_model.specs.Counting.{times, total}
 use Rattle.heap_model.specs.Durability.{IsClosedImage}
-use Rattle.heap_model.specs.Geometry.{anchor_word, info_word, link_word, start_word, superblock_words, head_word}
+use Rattle.heap_model.specs.Geometry.{anchor_word, info_word, link_word, start_word, superblock_words, head_word, superblock_of}
 use Rattle.heap_model.specs.Header.{capacity_of, used_of}
 use Rattle.heap_model.specs.Image.{Image}
 use Rattle.heap_model.specs.Recovered.{IsBlockOfClass}
@@ -16,7 +16,6 @@ use Rattle.heap_model.proofs.CountingLemmas.{times_none}
 use Rattle.heap_model.proofs.PartLemmas.{same_fields}
 use Rattle.heap_model.proofs.SizeLemmas.{few_words}
 use Rattle.heap_at_rest.proofs.ListLemmas.{one_following, times_of}
-use Rattle.core_model.specs.Cells.{superblock_at}
 use Rattle.core_model.specs.Effects.{chain as walked, span_count}
 use Rattle.core_model.specs.Held.{IsHeld, IsHeldBy, a_large, a_small, volatile_image}
 use Rattle.core_model.specs.Memory.{Memory, used, info, memory_of}
@@ -193,9 +192,9 @@ module _ (k : Setup) (words : List ℕ) (views : List View) (sound : Sound k wor
       let mine = total_at (times_block first) views i v below at in
       let home = good.shaped.chained.inside first (omega arith) in
       let cap : v.setup.capacity ≡ k.capacity = ap (λ (s : Setup). s.capacity) (good.set_up i v below at).setup in
-      let d = superblock_at k.capacity first in
+      let d = superblock_of k.capacity first in
       let some = home.0 in
-      let now : info m d ≡ class = ap (λ c. info m (superblock_at c first)) (sym cap) ∙ (good.blocks i v below at).held class first there in
+      let now : info m d ≡ class = ap (λ c. info m (superblock_of c first)) (sym cap) ∙ (good.blocks i v below at).held class first there in
       let is : IsClass class = subst IsClass now (good.shaped.chained.is_class d some) in
       let block_at : IsCutBlock k.capacity class d first = subst (λ c. IsCutBlock k.capacity c d first) now home.1 in
       let one = good.shaped.chained.owned d first some home.1 in

@@ -6,7 +6,7 @@ use Rattle.heap_model.specs.Sizes.{IsClass}
 use Rattle.heap_model.specs.Words.{large_info}
 use Rattle.heap_model.proofs.CountingLemmas.{one_if_some, one_if_true, total_none}
 use Rattle.heap_model.proofs.MemberLemmas.{in_head, in_rest}
-use Rattle.core_model.specs.Cells.{superblock_at}
+use Rattle.heap_model.specs.Geometry.{superblock_of}
 use Rattle.core_model.specs.Effects.{span_count}
 use Rattle.core_model.specs.Memory.{Memory, used, info, memory_of}
 use Rattle.core_model.specs.Sound.{CoreShape, Each, Good, Sound, tally_of, times_cut}
@@ -154,14 +154,14 @@ module _ (k : Setup) (words : List ℕ) (views : List View) (sound : Sound k wor
         let mine = total_at (times_block b) views i v below at in
         let cap : v.setup.capacity ≡ k.capacity = ap (λ (s : Setup). s.capacity) (good.set_up i v below at).setup in
         let cut = (good.shaped.chained.inside b (omega arith)).0 in
-        let class_is : IsClass c.n = subst IsClass (ap (λ n. info m (superblock_at n b)) (sym cap) ∙ info_is)
-        (good.shaped.chained.is_class (superblock_at k.capacity b) cut) in
+        let class_is : IsClass c.n = subst IsClass (ap (λ n. info m (superblock_of n b)) (sym cap) ∙ info_is)
+        (good.shaped.chained.is_class (superblock_of k.capacity b) cut) in
         let none = ap (times b) ((nothing i v below at).empty c.n class_is) in
         absurd (omega (arith, there, none))
     | inr none ↦ omega arith
   ]
 
-  pub in_small : (b : ℕ) → 0 < total (times_block b) views → (class : ℕ) → info m (superblock_at k.capacity b) ≡ class → IsInSmall class b
+  pub in_small : (b : ℕ) → 0 < total (times_block b) views → (class : ℕ) → info m (superblock_of k.capacity b) ≡ class → IsInSmall class b
   in_small b some class is =
       let one = total_where (times_block b) views some in
       let mine = one.4 in
@@ -169,7 +169,7 @@ module _ (k : Setup) (words : List ℕ) (views : List View) (sound : Sound k wor
       let batched = ap (λ (batch : Batch). times b batch.blocks) (nothing one.0 one.1 one.2 one.3).idle.batch in
       let c = which_class b one.1.small (omega arith) in
       let cap : one.1.setup.capacity ≡ k.capacity = ap (λ (s : Setup). s.capacity) (good.set_up one.0 one.1 one.2 one.3).setup in
-      let same : c.n ≡ class = sym ((good.blocks one.0 one.1 one.2 one.3).held c.n b c.there) ∙ ap (λ n. info m (superblock_at n b)) cap ∙ is in
+      let same : c.n ≡ class = sym ((good.blocks one.0 one.1 one.2 one.3).held c.n b c.there) ∙ ap (λ n. info m (superblock_of n b)) cap ∙ is in
       record {
         seat = one.0;
         view = one.1;

@@ -7,11 +7,11 @@ use Rattle.heap_model.proofs.MemberLemmas.{head_or_rest, in_none}
 use Rattle.heap_model.specs.declared.block.Block.{Block}
 use Rattle.heap_model.specs.Blocks.{IsIn}
 use Rattle.heap_model.specs.Counting.{one_if, times}
-use Rattle.heap_model.specs.Geometry.{start_word, superblock_words}
+use Rattle.heap_model.specs.Geometry.{start_word, superblock_words, superblock_of}
 use Rattle.heap_model.specs.Sizes.{words_of_class}
 use Rattle.heap_model.proofs.PartLemmas.{same_fields}
 use Rattle.core_model.specs.Carriers.{accepted, offered}
-use Rattle.core_model.specs.Cells.{cell_at, data_cell, superblock_at}
+use Rattle.core_model.specs.Cells.{cell_at, data_cell}
 use Rattle.core_model.specs.Effects.{span_count}
 use Rattle.core_model.specs.Held.{IsHeld, a_small, a_large}
 use Rattle.core_model.specs.Splitting.{chosen, chosen_lists, chosen_spans}
@@ -96,7 +96,7 @@ held_alike v u setup small large _ (a_large d n some is) = subst
 -- a seat that offers
 module _ (v : View) (s : HasSoundState v) (b : Block) (held : IsHeld v b) where
   abbrev place : ℕ
-  place = superblock_at v.setup.capacity b.first_word
+  place = superblock_of v.setup.capacity b.first_word
 
   pub offer_keeps : (a : Block) → IsHeld (offered v b.first_word) a → IsHeld v a
   offer_keeps _ (a_small class x there) = a_small class x (let e =
@@ -139,16 +139,16 @@ module _ (v : View) (s : HasSoundState v) (b : Block) (held : IsHeld v b) where
 
 -- it is not held then
 gone_from : (v w : View) (block : ℕ) (b : Block) → w.setup ≡ v.setup → w.small ≡ chosen_lists (λ y. not (nat_eq y block)) v.small
-    → w.large ≡ chosen_spans (λ e. not (nat_eq e (superblock_at v.setup.capacity block))) v.large
+    → w.large ≡ chosen_spans (λ e. not (nat_eq e (superblock_of v.setup.capacity block))) v.large
     → b.first_word ≡ block → IsHeld w b → ⊥
 gone_from v w block _ setup small large same (a_small class x there) =
     let e = ap (λ l. times x (of_class l class)) small ∙ in_lists (λ y. not (nat_eq y block)) x class v.small
     ∙ ap (λ t. cond (not t) (times x (of_class v.small class)) 0) (eq-eqb x block same) in omega (arith, e, there)
 gone_from v w block _ setup small large same (a_large d n some is) =
     let capacity = ap (λ (k : Setup). k.capacity) setup in
-    let here : d ≡ superblock_at v.setup.capacity block = omega (arith, same, capacity) in
-    let e = ap (span_count d) large ∙ in_spans (λ e. not (nat_eq e (superblock_at v.setup.capacity block))) d v.large
-    ∙ ap (λ t. cond (not t) (span_count d v.large) 0) (eq-eqb d (superblock_at v.setup.capacity block) here) in
+    let here : d ≡ superblock_of v.setup.capacity block = omega (arith, same, capacity) in
+    let e = ap (span_count d) large ∙ in_spans (λ e. not (nat_eq e (superblock_of v.setup.capacity block))) d v.large
+    ∙ ap (λ t. cond (not t) (span_count d v.large) 0) (eq-eqb d (superblock_of v.setup.capacity block) here) in
     omega (arith, e, is, some)
 
 pub offer_gone : (v : View) (b : Block) → IsHeld (offered v b.first_word) b → ⊥
@@ -233,8 +233,8 @@ module _ (v u : View) (b : Block) (h : Holding) (alone : HoldsAlone u b h) (capa
   w = accepted v u
 
   words_both : (word : ℕ) → times_held w (data_cell word) ≡ times_held v (data_cell word) + times_held u (data_cell word)
-  words_both word = let s = both_within word 0 u.small v.small in let l = large_append (superblock_at v.setup.capacity word) u.large v.large in
-      let p = ap (λ n. times_large (superblock_at n word) u.large) capacity in omega arith
+  words_both word = let s = both_within word 0 u.small v.small in let l = large_append (superblock_of v.setup.capacity word) u.large v.large in
+      let p = ap (λ n. times_large (superblock_of n word) u.large) capacity in omega arith
 
   pub accept_new : IsHeld v b → ⊥
   accept_new held =

@@ -7,7 +7,7 @@ use Rattle.std.proofs.lemmas.List.Elements.{Contains-append_cases}
 use Rattle.heap_model.specs.declared.block.Block.{Block}
 use Rattle.heap_model.specs.Blocks.{IsIn, AreOneOrApart}
 use Rattle.heap_model.specs.Counting.{times}
-use Rattle.heap_model.specs.Geometry.{fixed_words, roots, start_word, superblock_words, superblocks_end, kind_word, capacity_word, largest_capacity}
+use Rattle.heap_model.specs.Geometry.{fixed_words, roots, start_word, superblock_words, superblocks_end, kind_word, capacity_word, largest_capacity, superblock_of}
 use Rattle.heap_model.specs.Image.{Image}
 use Rattle.heap_model.specs.Sizes.{words_of_class}
 use Rattle.heap_model.proofs.CountingLemmas.{one_if_true}
@@ -18,7 +18,7 @@ use Rattle.heap_seat.specs.View.{View as HeapView}
 use Rattle.heap_seat.specs.Sound.{IsSeat, IsPlaced}
 use Rattle.heap_seat.specs.Words.{IsOwn as IsOwnWord, in_block, in_root, HasPicked, KeepsOwn, KeepsPending, KeepsWord, MayBe, MayRead, MixesOwn, NamesAll, StoresKinds}
 use Rattle.heap_model.specs.Header.{capacity_of}
-use Rattle.core_model.specs.Cells.{Cell, cell_at, data_cell, root_cell, superblock_at}
+use Rattle.core_model.specs.Cells.{Cell, cell_at, data_cell, root_cell}
 use Rattle.core_model.specs.Effects.{span_count}
 use Rattle.core_model.specs.Held.{IsHeld, a_small, a_large}
 use Rattle.core_model.specs.View.{Span, View, Setup, takes, times_large, known}
@@ -165,7 +165,7 @@ word_of_block v b (a_small class first there) word within = let from = within.fr
     let own = in_classes_word word first 0 class v.small from (let e = ap words_of_class (let p : class ≡ 0 + class = omega arith in p) in
     omega arith) there in omega arith
 word_of_block v b (a_large d n some count) word within = let from = within.from in let until = within.until in
-    let own = span_covers d (superblock_at v.setup.capacity word) v.large (omega arith) (omega arith) (omega arith) in omega arith
+    let own = span_covers d (superblock_of v.setup.capacity word) v.large (omega arith) (omega arith) (omega arith) in omega arith
 
 module _ (v : View) (s : HasSoundState v) where
   pub held_is : (b : Block) → Contains (held_blocks v) b → IsHeld v b

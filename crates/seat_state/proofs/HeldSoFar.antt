@@ -4,13 +4,12 @@ use Rattle.std.proofs.lemmas.Bool.{cases_eq}
 use Rattle.std.proofs.lemmas.List.{take_all, length-replicate}
 use Rattle.std.proofs.lemmas.List.Elements.{Contains-get_or}
 use Rattle.heap_model.specs.declared.block.Block.{Block}
-use Rattle.heap_model.specs.Geometry.{lists, roots, info_word, image_words}
+use Rattle.heap_model.specs.Geometry.{lists, roots, info_word, image_words, superblock_of}
 use Rattle.heap_model.specs.Counting.{times, total, one_if}
 use Rattle.heap_model.specs.Rest.{IsReady}
 use Rattle.heap_model.proofs.CountingLemmas.{one_if_true, one_if_false}
 use Rattle.heap_model.proofs.MemberLemmas.{in_none, head_or_rest}
 use Rattle.heap_model.proofs.SizeLemmas.{two_words}
-use Rattle.core_model.specs.Cells.{superblock_at}
 use Rattle.core_model.specs.Opening.{picked, is_small, small_blocks, tabulate, AreOwners}
 use Rattle.core_model.proofs.BlockLemmas.{inside_of}
 use Rattle.core_model.proofs.PlaceLemmas.{pick, skip, not-eq, and_both, and_is}
@@ -114,6 +113,6 @@ module _ (words : List ℕ) (held : List Block) (owners : List ℕ) (ready : IsR
       ∙ small_sum c (λ d. slice_index words (info_word d)) b (picked j held owners) (λ p m small. is_class j p m small)
       ∙ sym (ap₂ (λ ps os. total (small_at b) (picked j ps os)) (take_all i held past) (take_all i owners (omega arith))) where
         is_class : (j : ℕ) (p : Block) → Contains (picked j held owners) p → is_small p ≡ true
-            → slice_index words (info_word (superblock_at c p.first_word)) < lists
+            → slice_index words (info_word (superblock_of c p.first_word)) < lists
         is_class j p m small = let s = small_of p (picked_in j held owners p m) small in
             let e = ap (λ d. slice_index words (info_word d)) s.here in let f = s.info_at in let l = s.is_class.last in omega arith

@@ -3,11 +3,10 @@ use Rattle.std.proofs.Common.{◌≡◌, ◌≢◌, ℕ, suc, ◌+◌, ◌/◌, 
 use Rattle.std.proofs.lemmas.Bool.{cases_eq}
 use Rattle.std.proofs.lemmas.List.{append-nil, take_all}
 use Rattle.heap_model.specs.declared.block.Block.{Block}
-use Rattle.heap_model.specs.Geometry.{roots, superblock_words, start_word}
+use Rattle.heap_model.specs.Geometry.{roots, superblock_words, start_word, superblock_of}
 use Rattle.heap_model.specs.Counting.{total, one_if}
 use Rattle.heap_model.specs.Rest.{IsReady, large_part}
 use Rattle.heap_model.proofs.MemberLemmas.{in_head, in_rest}
-use Rattle.core_model.specs.Cells.{superblock_at}
 use Rattle.core_model.specs.Effects.{span_count}
 use Rattle.core_model.specs.Opening.{picked, is_small, large_blocks}
 use Rattle.core_model.specs.View.{Span, takes, times_large}
@@ -47,11 +46,11 @@ large_append : (c : ℕ) (ps qs : List Block) → large_blocks c (ps ++ qs) ≡ 
 large_append c [] qs = refl
 large_append c (p ∷ ps) qs = by_test (is_small p) (large_blocks c (ps ++ qs)) (large_append c ps qs) where
   by_test : (t : Bool) (l : List Span) → l ≡ large_blocks c ps ++ large_blocks c qs
-      → cond t l (record { first = superblock_at c p.first_word; count = p.words / superblock_words } ∷ l)
-      ≡ cond t (large_blocks c ps) (record { first = superblock_at c p.first_word; count = p.words / superblock_words } ∷ large_blocks c ps)
+      → cond t l (record { first = superblock_of c p.first_word; count = p.words / superblock_words } ∷ l)
+      ≡ cond t (large_blocks c ps) (record { first = superblock_of c p.first_word; count = p.words / superblock_words } ∷ large_blocks c ps)
       ++ large_blocks c qs
   by_test true l e = e
-  by_test false l e = ap (λ x. record { first = superblock_at c p.first_word; count = p.words / superblock_words } ∷ x) e
+  by_test false l e = ap (λ x. record { first = superblock_of c p.first_word; count = p.words / superblock_words } ∷ x) e
 
 -- the large blocks of seat j among the first held blocks
 abbrev pub large_so_far : ℕ → List Block → List ℕ → ℕ → ℕ → List Span
@@ -96,14 +95,14 @@ module _ (words : List ℕ) (held : List Block) (owners : List ℕ) (ready : IsR
 
   -- where a large block lies, as its superblocks are counted
   pub large_at : (p : Block) → Contains held p → is_small p ≡ false → (start_word c 0 ≤ p.first_word) × (1 ≤ p.words / superblock_words)
-      × (superblock_at c p.first_word + p.words / superblock_words ≤ c)
+      × (superblock_of c p.first_word + p.words / superblock_words ≤ c)
   large_at p there large = let l = opened.large_of words held 0 1 (alone words held owners ready long) (replicate roots 0) ready
       (for_one words held owners ready long) p there large in let f = l.first in let s = l.size in let o = l.some in let h = l.here in
       let t = l.fits in let u = ready.formed.used in
       (omega arith, omega arith, omega arith)
 
   part_takes : (e : ℕ) (p : Block) → Contains held p → is_small p ≡ false
-      → one_if (takes e (record { first = superblock_at c p.first_word; count = p.words / superblock_words })) ≡ large_part c e p
+      → one_if (takes e (record { first = superblock_of c p.first_word; count = p.words / superblock_words })) ≡ large_part c e p
   part_takes e p there large = opened.part_takes words held 0 1 (alone words held owners ready long) (replicate roots 0) ready
       (for_one words held owners ready long) e p (opened.large_of words held 0 1 (alone words held owners ready long) (replicate roots 0) ready
       (for_one words held owners ready long) p there large)
@@ -135,12 +134,12 @@ module _ (words : List ℕ) (held : List Block) (owners : List ℕ) (ready : IsR
           (before.each j d);
     }) where
       none : (t : Bool) → large_blocks c (cond t (p ∷ []) []) ≡ []
-      none true = ap (λ t. cond t [] (record { first = superblock_at c p.first_word; count = p.words / superblock_words } ∷ [])) small
+      none true = ap (λ t. cond t [] (record { first = superblock_of c p.first_word; count = p.words / superblock_words } ∷ [])) small
       none false = refl
 
     module _ (large : is_small p ≡ false) where
       abbrev d : ℕ
-      d = superblock_at c p.first_word
+      d = superblock_of c p.first_word
 
       abbrev n : ℕ
       n = p.words / superblock_words

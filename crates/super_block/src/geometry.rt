@@ -1,6 +1,6 @@
 //! The word indices that depend on the capacity of an image.
-ghost use Rattle.std.specs.Prelude.{◌≡◌, ◌<◌, ◌≤◌, ◌-◌, ◌/◌};
-ghost use Rattle.heap_model.specs.Geometry.{largest_capacity, info_word, anchor_word, link_word, start_word, kind_word, roots, image_words, old_image_words, superblock_words, superblocks_end};
+ghost use Rattle.std.specs.Prelude.{◌≡◌, ◌<◌, ◌≤◌};
+ghost use Rattle.heap_model.specs.Geometry.{largest_capacity, info_word, anchor_word, link_word, start_word, kind_word, roots, image_words, old_image_words, superblock_of, superblocks_end};
 
 use crate::layout::{
     ANCHOR_OFFSET, DESCRIPTOR_WORDS, FIXED_WORDS, LINK_OFFSET, ROOTS, SUPERBLOCK_WORDS,
@@ -97,7 +97,7 @@ impl Geometry {
     /// at least the capacity.
     pub fn superblock_of(self, word: u64) -> u64
         requires { start_word self.capacity 0 ≤ word }
-        ensures { result ≡ (word - start_word self.capacity 0) / superblock_words }
+        ensures { result ≡ superblock_of self.capacity word }
     {
         (word - self.start(0)) / SUPERBLOCK_WORDS
     }

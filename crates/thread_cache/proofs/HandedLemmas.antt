@@ -10,7 +10,7 @@ use Rattle.heap_seat.specs.Handing.{Accepts, ComesWith, Offers}
 use Rattle.heap_seat.specs.Words.{IsOwn, KeepsOwn}
 use Rattle.atomic_table.specs.Seated.{TableId}
 use Rattle.core_model.specs.Carriers.{accepted}
-use Rattle.core_model.specs.Cells.{superblock_at}
+use Rattle.heap_model.specs.Geometry.{superblock_of}
 use Rattle.core_model.specs.Held.{IsHeld}
 use Rattle.core_model.specs.Splitting.{chosen_spans}
 use Rattle.core_model.specs.View.{LastLook, Role, Setup, Span, View, of_class, one_if_some}
@@ -305,7 +305,7 @@ module _ (b : Block) (s : CacheState) (x y : SeatView) (n : CallCounts) (step : 
   offer_paid table (Ok c) has none =
       let count = ap (λ (v : View). v.accepts) has.left ∙ ap (λ (v : View). v.accepts) has.drawn.left in
       let spans = ap (λ (v : View). length v.large) has.left in let before = ap (λ (v : View). length v.large) has.drawn.left in
-      let fewer = fewer_spans (λ d. not (nat_eq d (superblock_at has.behind.setup.capacity b.first_word))) has.behind.large in omega arith
+      let fewer = fewer_spans (λ d. not (nat_eq d (superblock_of has.behind.setup.capacity b.first_word))) has.behind.large in omega arith
   offer_paid table (Err e) has none = let count = ap (λ (r : Role). r.accepts) none.view.passes.role_is in
       let spans = ap length none.view.large in omega arith
 

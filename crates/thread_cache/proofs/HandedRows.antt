@@ -2,11 +2,11 @@
 use Rattle.std.proofs.Common.{◌≡◌, ◌<◌, ◌≤◌, ℕ, zero, suc, ◌+◌, inl, Bool, true, false, cond, not, nat_eq, List, [], ◌∷◌, get_or, length, Option, None, Some, refl, ap, sym, subst, ◌∙◌, arith}
 use Rattle.heap_model.specs.declared.block.Block.{Block}
 use Rattle.heap_model.specs.Counting.{times}
-use Rattle.heap_model.specs.Geometry.{image_words}
+use Rattle.heap_model.specs.Geometry.{image_words, superblock_of}
 use Rattle.heap_model.specs.Sizes.{words_of_class}
 use Rattle.line_memory.specs.Marks.{IsMarked}
 use Rattle.core_model.specs.Carriers.{IsCarrier, accepted, carrier_of, either_known, either_of, offered}
-use Rattle.core_model.specs.Cells.{Cell, used_cell, head_cell, info_cell, anchor_cell, link_cell, root_cell, data_cell, no_cell, cell_at, index_of, is_cell, superblock_at}
+use Rattle.core_model.specs.Cells.{Cell, used_cell, head_cell, info_cell, anchor_cell, link_cell, root_cell, data_cell, no_cell, cell_at, index_of, is_cell}
 use Rattle.core_model.specs.Memory.{memory_of}
 use Rattle.core_model.specs.Splitting.{chosen, chosen_lists}
 use Rattle.core_model.specs.View.{Batch, Role, View, times_classed, times_in_classes, times_large, times_own, times_raw, times_within}
@@ -45,7 +45,7 @@ classes_less test word class (xs ∷ xss) = let here = within_less test (words_o
 -- what is left after an offer, and what goes
 module _ (v : View) (block : ℕ) where
   abbrev place : ℕ
-  place = superblock_at v.setup.capacity block
+  place = superblock_of v.setup.capacity block
 
   left_less : (cell : Cell) → times_held (offered v block) cell ≤ times_held v cell
   left_less used_cell = omega arith
@@ -55,7 +55,7 @@ module _ (v : View) (block : ℕ) where
   left_less (link_cell d) = omega arith
   left_less (root_cell i) = chosen_less (λ n. true) i v.roots
   left_less (data_cell word) = let s = classes_less (λ b. not (nat_eq b block)) word 0 v.small in
-      let l = spans_less (λ d. not (nat_eq d place)) (superblock_at v.setup.capacity word) v.large in omega arith
+      let l = spans_less (λ d. not (nat_eq d place)) (superblock_of v.setup.capacity word) v.large in omega arith
   left_less no_cell = omega arith
 
   sent_less : (cell : Cell) → times_held (carrier_of v block) cell ≤ times_held v cell
@@ -66,7 +66,7 @@ module _ (v : View) (block : ℕ) where
   sent_less (link_cell d) = omega arith
   sent_less (root_cell i) = chosen_less (λ n. false) i v.roots
   sent_less (data_cell word) = let s = classes_less (λ b. nat_eq b block) word 0 v.small in
-      let l = spans_less (λ d. nat_eq d place) (superblock_at v.setup.capacity word) v.large in omega arith
+      let l = spans_less (λ d. nat_eq d place) (superblock_of v.setup.capacity word) v.large in omega arith
   sent_less no_cell = omega arith
 
   left_word : (word : ℕ) → IsHeldWord (offered v block) word → KeepsWord v (offered v block) word
@@ -166,8 +166,8 @@ module _ (v u : View) (capacity : v.setup.capacity ≡ u.setup.capacity) (carrie
       let s = both_within word 0 u.small v.small in
       let c = ap (times_in_classes word 0) carrier.free.0 in let b =
       ap (λ (x : Batch). times_within (words_of_class x.class) word x.blocks) carrier.free.1 in
-      let l = large_append (superblock_at v.setup.capacity word) u.large v.large in let z = no_raw (superblock_at u.setup.capacity word) in
-      let p = ap (λ n. times_large (superblock_at n word) u.large) capacity in omega arith
+      let l = large_append (superblock_of v.setup.capacity word) u.large v.large in let z = no_raw (superblock_of u.setup.capacity word) in
+      let p = ap (λ n. times_large (superblock_of n word) u.large) capacity in omega arith
   own_both no_cell = omega arith
 
   -- no word is own to both

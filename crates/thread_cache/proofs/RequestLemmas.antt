@@ -5,14 +5,14 @@ use Rattle.std.proofs.lemmas.Bool.{cases_lt, leb-true}
 use Rattle.heap_model.specs.declared.block.Block.{Block}
 use Rattle.heap_model.specs.Blocks.{IsIn}
 use Rattle.heap_model.specs.Counting.{times}
-use Rattle.heap_model.specs.Geometry.{largest_capacity, start_word, superblock_words, superblocks_end}
+use Rattle.heap_model.specs.Geometry.{largest_capacity, start_word, superblock_words, superblocks_end, superblock_of}
 use Rattle.heap_model.specs.Sizes.{IsClass, IsLeastClassFor, blocks_of, largest_small, span_of, words_of_class}
 use Rattle.heap_model.proofs.SizeLemmas.{few_blocks, few_words, size_of-words}
 use Rattle.size_table.proofs.ClassLemmas.{least_of_size, least_small, one_least}
 use Rattle.line_memory.specs.declared.memory.Stopped.{Stopped}
 use Rattle.heap_seat.specs.declared.fault.AllocFault.{AllocFault}
 use Rattle.heap_seat.specs.declared.fault.AllocFault.TheVariants.{Full, Stopped as StoppedFault}
-use Rattle.core_model.specs.Cells.{Cell, used_cell, head_cell, info_cell, anchor_cell, link_cell, root_cell, data_cell, no_cell, cell_at, index_of, is_cell, superblock_at}
+use Rattle.core_model.specs.Cells.{Cell, used_cell, head_cell, info_cell, anchor_cell, link_cell, root_cell, data_cell, no_cell, cell_at, index_of, is_cell}
 use Rattle.core_model.specs.Effects.{span_count, without_span}
 use Rattle.core_model.specs.Guards.{MaySplit}
 use Rattle.core_model.specs.Held.{IsHeld, a_small, a_large}
@@ -135,10 +135,10 @@ module _ (v : View) (has : HasSoundState v) where
       record { is_class = least.is_class; words = ap words_of_class same; there = subst (λ k. 0 < times x (of_class v.small k)) same there }
   small_block b (a_large d n some count) class least = absurd (let small = least_small (8 * (superblock_words * n)) class least in omega arith)
 
-  pub large_span : (b : Block) → IsHeld v b → largest_small < 8 * b.words → IsSpan (superblock_at v.setup.capacity b.first_word) b v
+  pub large_span : (b : Block) → IsHeld v b → largest_small < 8 * b.words → IsSpan (superblock_of v.setup.capacity b.first_word) b v
   large_span b (a_small c x there) large = absurd (let few = few_words c (held_class c x there) in omega arith)
   large_span b (a_large d n some count) large =
-      let at : superblock_at v.setup.capacity (start_word v.setup.capacity d) ≡ d = omega arith in
+      let at : superblock_of v.setup.capacity (start_word v.setup.capacity d) ≡ d = omega arith in
       subst (λ e. IsSpan e (record { first_word = start_word v.setup.capacity d; words = superblock_words * n }) v) (sym at)
       (record {
         there = omega arith;
@@ -159,8 +159,8 @@ module _ (v : View) (has : HasSoundState v) where
     without_it = record v { large = without_span d v.large }
 
     out_of_range : (word : ℕ) → start_word v.setup.capacity 0 ≤ word → (IsIn b word → ⊥)
-        → in_range d (span_count d v.large) (superblock_at v.setup.capacity word) ≡ 0
-    out_of_range word low out = range_not d (span_count d v.large) (superblock_at v.setup.capacity word)
+        → in_range d (span_count d v.large) (superblock_of v.setup.capacity word) ≡ 0
+    out_of_range word low out = range_not d (span_count d v.large) (superblock_of v.setup.capacity word)
         (λ from until. out (subst (λ (x : Block). IsIn x word) (sym span.block) (record { from = omega arith; until = omega arith })))
 
     fewer_words : (k : ℕ) (cell : Cell) → index_of cell ≡ k → is_cell v.setup.capacity cell ≡ true → (IsIn b k → ⊥)
@@ -174,7 +174,7 @@ module _ (v : View) (has : HasSoundState v) where
     fewer_words k (data_cell word) at there out =
         let low = leb-true (start_word v.setup.capacity 0) word (and_both (nat_le (start_word v.setup.capacity 0) word)
         (nat_lt word (superblocks_end v.setup.capacity)) there).0 in
-        let is = without_span_is (superblock_at v.setup.capacity word) d v.large span.there in
+        let is = without_span_is (superblock_of v.setup.capacity word) d v.large span.there in
         let none = out_of_range word low (λ inside. out (subst (IsIn b) at inside)) in omega arith
     fewer_words k no_cell at there out = refl
 
@@ -220,7 +220,7 @@ module _ (v w : SeatView) (class : ℕ) (b : Block) (small : IsSmallBlock class 
 -- a large block that is freed
 module _ (v w : SeatView) (has : HasSoundState v.view) (b : Block) (held : IsHeld v.view b) (large : largest_small < 8 * b.words) where
   abbrev first : ℕ
-  first = superblock_at v.view.setup.capacity b.first_word
+  first = superblock_of v.view.setup.capacity b.first_word
 
   span : IsSpan first b v.view
   span = large_span v.view has b held large

@@ -7,7 +7,7 @@ ghost use Rattle.heap_rule.specs.Seated.{IsSeatOf};
 ghost use Rattle.seat_costs.specs.Asked.{HasAsked};
 ghost use Rattle.seat_costs.specs.Idle.{IsIdle};
 ghost use Rattle.seat_costs.specs.Rows.{HoldingRow, Row, Stops, next_of};
-ghost use Rattle.core_model.specs.Cells.{superblock_at};
+ghost use Rattle.heap_model.specs.Geometry.{superblock_of};
 ghost use Rattle.core_model.specs.Effects.{span_count};
 ghost use Rattle.core_model.specs.Guards.{MaySplit};
 ghost use Rattle.large_block.specs.Splits.{MayHaveSplit, down};
@@ -101,13 +101,13 @@ pub(crate) fn free_large<C: Chance>(
     requires going { seat.old.view.stopped ≡ None }
     requires idle { IsIdle seat.old.view }
     ensures freed { OnOk result (HasFreedLarge
-        (superblock_at seat.old.view.setup.capacity block.first_word)
+        (superblock_of seat.old.view.setup.capacity block.first_word)
         seat.old.view seat.new.view) }
-    ensures may { MayHaveSplit (superblock_at seat.old.view.setup.capacity block.first_word)
+    ensures may { MayHaveSplit (superblock_of seat.old.view.setup.capacity block.first_word)
         seat.old.view seat.new.view }
     ensures stopped { IfErr result (λ e. Stops e.step seat.old.view seat.new.view) }
     ensures drew { next_of seat.old.view < next_of seat.new.view }
-    ensures row { let d = superblock_at seat.old.view.setup.capacity block.first_word in
+    ensures row { let d = superblock_of seat.old.view.setup.capacity block.first_word in
         HoldingRow (large_free_costs (span_count d seat.old.view.large)) seat.old seat.new }
     ensures asked { HasAsked C.draw_gives seat.old.view seat.new.view chance.old chance.new }
     ensures seat { IsSeatOf shared.now seat.new }

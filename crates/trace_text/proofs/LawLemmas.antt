@@ -14,7 +14,7 @@ use Rattle.heap_model.specs.Rest.{IsReady}
 use Rattle.heap_model.specs.Sizes.{IsClass, words_of_class}
 use Rattle.heap_model.proofs.SizeLemmas.{two_words}
 use Rattle.super_block.proofs.NamingLemmas.{block_offset}
-use Rattle.trace_text.specs.HeapMap.{AreInOrder, begins_in, index_of, reaches_into, superblock_of, first_of}
+use Rattle.trace_text.specs.HeapMap.{AreInOrder, begins_in, index_of, reaches_into, begun_in, first_of}
 use Rattle.trace_text.specs.Laws.{IsCounted, in_class, as_large as counted_as_large}
 use Rattle.trace_text.proofs.OrderLemmas.{ready_in_order, both, first_fails, second_fails, find_only}
 
@@ -74,6 +74,6 @@ inside_told words held b first superblocks d ready among at size behind below =
     let same : get_or held among.0 b ≡ b = among.2 in
     let at_same = ap (λ (x : Block). x.first_word) same in
     let size_same = ap (λ (x : Block). x.words) same in
-    ap (λ (o : Option Block). option_map_or (superblock_of capacity) o 0)
+    ap (λ (o : Option Block). option_map_or (begun_in capacity) o 0)
     (reaching_found capacity d among.0 held b (ready_in_order words held ready) among.1 (omega arith) (omega arith) ∙ ap (λ (x : Block). Some x) same)
     ∙ (omega arith)

@@ -10,7 +10,7 @@ use Rattle.heap_model.specs.Blocks.{AreOneOrApart, layout_of}
 use Rattle.heap_model.specs.Geometry.{start_word}
 use Rattle.heap_model.specs.Rest.{IsReady}
 use Rattle.heap_model.proofs.BlockLemmas.{never_overlap}
-use Rattle.trace_text.specs.HeapMap.{AreInOrder, begins_in, reaches_into, superblock_of, first_of}
+use Rattle.trace_text.specs.HeapMap.{AreInOrder, begins_in, reaches_into, begun_in, first_of}
 
 -- blocks that are one or apart, of which one begins before the other
 ends_before : (a b : Block) → AreOneOrApart a b → a.first_word < b.first_word → a.first_word + a.words ≤ b.first_word
@@ -120,7 +120,7 @@ begun_between capacity d held from until order within before behind under over =
 pub first_of-none : (capacity d : ℕ) (held : List Block)
     → AllWithin (λ (b : Block). start_word capacity d ≤ b.first_word) held 0 (length held) → first_of capacity d held ≡ 0
 first_of-none capacity d held behind =
-    ap (λ (o : Option Block). option_map_or (superblock_of capacity) o 0)
+    ap (λ (o : Option Block). option_map_or (begun_in capacity) o 0)
     (find_none (reaches_into capacity d) held (λ k e high. first_fails _ _ (le-ltb _ _ (behind k e (omega arith) high))))
 
 -- a number that is at least another less one, and not that, is at least the other
@@ -148,13 +148,13 @@ pub first_of-some : (capacity d : ℕ) (held : List Block) (count : ℕ) (e : Bl
     → AllWithin (λ (b : Block). b.first_word < start_word capacity d) held 0 count
     → AllWithin (λ (b : Block). start_word capacity d ≤ b.first_word) held count (length held)
     → start_word capacity d - (get_or held (count - 1) e).first_word < (get_or held (count - 1) e).words
-    → first_of capacity d held ≡ superblock_of capacity (get_or held (count - 1) e)
+    → first_of capacity d held ≡ begun_in capacity (get_or held (count - 1) e)
 first_of-some capacity d held count e order some within before behind reaches =
     let b = get_or held (count - 1) e in
     let first = before (count - 1) e (omega arith) (omega arith) in
     let test = both (nat_lt b.first_word (start_word capacity d)) (nat_lt (start_word capacity d) (b.first_word + b.words)) (lt-ltb _ _ first)
     (lt-ltb _ _ (omega arith)) in
-    ap (λ (o : Option Block). option_map_or (superblock_of capacity) o 0)
+    ap (λ (o : Option Block). option_map_or (begun_in capacity) o 0)
     (last_reaches capacity d held count e order some within before behind ∙ cond-true (reaches_into capacity d b) (Some b) None test)
 
 pub first_of-other : (capacity d : ℕ) (held : List Block) (count : ℕ) (e : Block) → AreInOrder held → 0 < count → count ≤ length held
@@ -167,5 +167,5 @@ first_of-other capacity d held count e order some within before behind short =
     let first = before (count - 1) e (omega arith) (omega arith) in
     let test = second_fails (nat_lt b.first_word (start_word capacity d)) (nat_lt (start_word capacity d) (b.first_word + b.words))
     (le-ltb _ _ (omega arith)) in
-    ap (λ (o : Option Block). option_map_or (superblock_of capacity) o 0)
+    ap (λ (o : Option Block). option_map_or (begun_in capacity) o 0)
     (last_reaches capacity d held count e order some within before behind ∙ cond-false (reaches_into capacity d b) (Some b) None test)

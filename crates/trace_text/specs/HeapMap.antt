@@ -3,7 +3,7 @@ use Rattle.std.specs.Prelude.{ℕ, ◌+◌, ◌-◌, ◌/◌, ◌&&◌, ◌==◌
 use Rattle.std.specs.List.{flat_map, range_with_len, list_any}
 use Rattle.std.specs.Option.{option_map_or}
 use Rattle.heap_model.specs.declared.block.Block.{Block}
-use Rattle.heap_model.specs.Geometry.{info_word, start_word, superblock_words}
+use Rattle.heap_model.specs.Geometry.{info_word, start_word, superblock_of}
 use Rattle.heap_model.specs.Header.{capacity_of, used_of}
 use Rattle.heap_model.specs.Image.{Image}
 use Rattle.heap_model.specs.Sizes.{last_class, words_of_class}
@@ -32,12 +32,12 @@ abbrev pub held_indexes : ℕ → ℕ → ℕ → List Block → List ℕ
 held_indexes capacity class d held = map (index_of capacity class d) (filter (begins_in capacity d) held)
 
 -- the superblock in which a block begins
-abbrev pub superblock_of : ℕ → Block → ℕ
-superblock_of capacity b = (b.first_word - start_word capacity 0) / superblock_words
+abbrev pub begun_in : ℕ → Block → ℕ
+begun_in capacity b = superblock_of capacity b.first_word
 
 -- the first superblock of the held large block that goes on into superblock d
 abbrev pub first_of : ℕ → ℕ → List Block → ℕ
-first_of capacity d held = option_map_or (superblock_of capacity) (find (reaches_into capacity d) held) 0
+first_of capacity d held = option_map_or (begun_in capacity) (find (reaches_into capacity d) held) 0
 
 -- whether the info word is a class
 abbrev pub is_class : ℕ → Bool

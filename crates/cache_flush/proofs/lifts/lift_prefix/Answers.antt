@@ -1,5 +1,5 @@
 use Rattle.std.proofs.Common.{◌≡◌, sym, subst, ap, ◌∙◌, arith}
-use Rattle.core_model.specs.Cells.{superblock_at}
+use Rattle.heap_model.specs.Geometry.{superblock_of}
 use Rattle.core_model.specs.View.{Setup}
 use Rattle.seat_costs.proofs.AskedLemmas.{asked_then}
 use Rattle.seat_costs.proofs.RowLemmas.{marks_behind}
@@ -15,8 +15,8 @@ pub loop-class-init : goal.loop-class-init
 loop-class-init g c =
     let v = c.args.seat.now.view in
     let w = c.lift.new.seat.view in
-    let at : c.superblock_of-d.result ≡ superblock_at v.setup.capacity c.cache-first.result.0 =
-    c.superblock_of-d.ensures ∙ ap (λ n. superblock_at n c.cache-first.result.0) (c.new-geometry.ensures ∙ c.capacity.ensures) in record {
+    let at : c.superblock_of-d.result ≡ superblock_of v.setup.capacity c.cache-first.result.0 =
+    c.superblock_of-d.ensures ∙ ap (λ n. superblock_of n c.cache-first.result.0) (c.new-geometry.ensures ∙ c.capacity.ensures) in record {
       lifting = subst (λ d. IsLifting c.args.class.number d c.cache-first.result.0 v w) (sym at)
           (lifting_one v w c.args.class.number c.cache-first.result.0 c.requires.some c.requires.no_batch c.cache-first.ensures.first
           c.in_ok-lift.ensures.lifted c.lift.ensures.row.view);
@@ -44,11 +44,11 @@ superblock_of-requires g c =
 pub returns-then-superblock_of-d-clause-lifted : goal.returns-then-superblock_of-d-clause-lifted
 returns-then-superblock_of-d-clause-lifted g c =
     let v = c.args.seat.now.view in
-    let at : c.superblock_of.result ≡ superblock_at v.setup.capacity c.cache-next.result.0 =
-    c.superblock_of.ensures ∙ ap (λ n. superblock_at n c.cache-next.result.0) (c.new-geometry.ensures ∙ c.capacity.ensures) in
+    let at : c.superblock_of.result ≡ superblock_of v.setup.capacity c.cache-next.result.0 =
+    c.superblock_of.ensures ∙ ap (λ n. superblock_of n c.cache-next.result.0) (c.new-geometry.ensures ∙ c.capacity.ensures) in
     lifted_some v c.recall_soundness.ensures c.args.class.number c.args.class.is c.loop-class.seat.view
     c.superblock_of-d.result c.loop-class.last c.loop-class.invariant.lifting
-    (λ same. c.if-superblock_of-d.true (at ∙ ap (superblock_at v.setup.capacity) c.cache-next.ensures.first ∙ same))
+    (λ same. c.if-superblock_of-d.true (at ∙ ap (superblock_of v.setup.capacity) c.cache-next.ensures.first ∙ same))
 
 pub returns-then-superblock_of-d-clause-row : goal.returns-then-superblock_of-d-clause-row
 returns-then-superblock_of-d-clause-row g c = record {
@@ -67,12 +67,12 @@ returns-then-count-eq0-clause-row g c = record {
 pub lift-requires-in-loop-class-clause-can : goal.lift-requires-in-loop-class-clause-can
 lift-requires-in-loop-class-clause-can g c =
     let v = c.args.seat.now.view in
-    let at : c.superblock_of.result ≡ superblock_at v.setup.capacity c.cache-next.result.0 =
-    c.superblock_of.ensures ∙ ap (λ n. superblock_at n c.cache-next.result.0) (c.new-geometry.ensures ∙ c.capacity.ensures) in
+    let at : c.superblock_of.result ≡ superblock_of v.setup.capacity c.cache-next.result.0 =
+    c.superblock_of.ensures ∙ ap (λ n. superblock_of n c.cache-next.result.0) (c.new-geometry.ensures ∙ c.capacity.ensures) in
     lifting_can v c.recall_soundness.ensures c.args.class.number c.args.class.is c.loop-class.seat.view
     c.superblock_of-d.result c.loop-class.last c.loop-class.invariant.lifting
     (let a = c.if-count-eq0.false in let b = c.cache-next.ensures.count in omega arith)
-    (ap (superblock_at v.setup.capacity) (sym c.cache-next.ensures.first) ∙ sym at ∙ c.if-superblock_of-d.false)
+    (ap (superblock_of v.setup.capacity) (sym c.cache-next.ensures.first) ∙ sym at ∙ c.if-superblock_of-d.false)
 
 pub returns-in_err-lift-2-clause-row : goal.returns-in_err-lift-2-clause-row
 returns-in_err-lift-2-clause-row g c = record {
@@ -87,13 +87,13 @@ returns-in_err-lift-2-clause-row g c = record {
 pub loop-class-preserved : goal.loop-class-preserved
 loop-class-preserved g c =
     let v = c.args.seat.now.view in
-    let at : c.superblock_of.result ≡ superblock_at v.setup.capacity c.cache-next.result.0 =
-    c.superblock_of.ensures ∙ ap (λ n. superblock_at n c.cache-next.result.0) (c.new-geometry.ensures ∙ c.capacity.ensures) in record {
+    let at : c.superblock_of.result ≡ superblock_of v.setup.capacity c.cache-next.result.0 =
+    c.superblock_of.ensures ∙ ap (λ n. superblock_of n c.cache-next.result.0) (c.new-geometry.ensures ∙ c.capacity.ensures) in record {
       lifting = lifting_on v c.recall_soundness.ensures c.args.class.number c.args.class.is c.loop-class.seat.view
           c.superblock_of-d.result c.loop-class.last c.loop-class.invariant.lifting
           c.lift-in-loop-class.new.seat.view c.cache-next.result.0 (let a = c.if-count-eq0.false in let b = c.cache-next.ensures.count in
           omega arith) c.cache-next.ensures.first
-          (ap (superblock_at v.setup.capacity) (sym c.cache-next.ensures.first) ∙ sym at
+          (ap (superblock_of v.setup.capacity) (sym c.cache-next.ensures.first) ∙ sym at
           ∙ c.if-superblock_of-d.false) c.in_ok-lift-2.ensures.lifted c.lift-in-loop-class.ensures.row.view;
       marks = marks_behind c.args.seat.now c.loop-class.seat c.lift-in-loop-class.new.seat c.loop-class.invariant.lifting.row
           c.loop-class.invariant.marks c.lift-in-loop-class.ensures.row;

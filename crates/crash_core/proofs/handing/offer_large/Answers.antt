@@ -1,7 +1,7 @@
 use Rattle.std.proofs.Common.{◌≡◌, ◌+◌, ◌<◌, get_or, length, length-set, refl, ap, sym, ◌∙◌, arith}
 use Rattle.seat_state.specs.declared.superblocks.SuperblockUsage.TheVariants as usage
 use Rattle.seat_state.specs.Superblocks.{usage_for, no_superblock, count_in}
-use Rattle.core_model.specs.Cells.{superblock_at}
+use Rattle.heap_model.specs.Geometry.{superblock_of}
 use Rattle.core_model.specs.Effects.{span_count}
 use Rattle.core_model.specs.Handing.{after_offer, is_offered}
 use Rattle.crash_core.proofs.EventSteps.{core_of}
@@ -35,13 +35,13 @@ returns c = λ k s stands.
     let none = (o.kept.blocks c.args.block).held ∙ c.requires.no_small in
     let cap = seat_capacity c.args.core.now k s.views c.args.seat o.view stands.keeps below o.at in
     let number : c.len.result + c.args.core.now.carriers ≡ length s.views = (let l = c.len.ensures in let n = stands.keeps.seats in omega arith) in
-    let d_is : c.superblock_of-d.result ≡ superblock_at o.view.setup.capacity c.args.block =
-    c.superblock_of-d.ensures ∙ ap (λ n. superblock_at n c.args.block) (sym cap) in
-    let n_is : c.large_count-count.result ≡ span_count (superblock_at o.view.setup.capacity c.args.block) o.view.large =
+    let d_is : c.superblock_of-d.result ≡ superblock_of o.view.setup.capacity c.args.block =
+    c.superblock_of-d.ensures ∙ ap (λ n. superblock_of n c.args.block) (sym cap) in
+    let n_is : c.large_count-count.result ≡ span_count (superblock_of o.view.setup.capacity c.args.block) o.view.large =
     c.large_count-count.ensures ∙ ap count_in (c.usage.ensures ∙ ap
     (λ d. usage_for c.args.seat (get_or c.args.core.now.superblocks.items d no_superblock)) c.superblock_of-d.ensures)
     ∙ sym (split_count c.args.core.now k s.views c.args.seat o.view c.index-notes.result.now stands.keeps below o.at at_t c.args.block holds)
-    ∙ ap (λ n. span_count (superblock_at n c.args.block) o.view.large) (sym cap) in
+    ∙ ap (λ n. span_count (superblock_of n c.args.block) o.view.large) (sym cap) in
     let some = holds.held in
     let long : c.superblock_of-d.result < length c.give_range.new.owners.items =
     (let f = (split_fits c.args.core.now c.args.seat c.args.block c.index-notes.result.now
@@ -75,11 +75,11 @@ index_mut-requires c =
     let below = among core.stands.keeps c.requires.seat in
     let holds = (c.requires.held core.setup core.state.views o.view core.stands.keeps below o.at).0 refl in
     let cap = seat_capacity c.args.core.now core.setup core.state.views c.args.seat o.view core.stands.keeps below o.at in
-    let n_is : c.large_count-count.result ≡ span_count (superblock_at o.view.setup.capacity c.args.block) o.view.large =
+    let n_is : c.large_count-count.result ≡ span_count (superblock_of o.view.setup.capacity c.args.block) o.view.large =
     c.large_count-count.ensures ∙ ap count_in (c.usage.ensures ∙ ap
     (λ d. usage_for c.args.seat (get_or c.args.core.now.superblocks.items d no_superblock)) c.superblock_of-d.ensures)
     ∙ sym (split_count c.args.core.now core.setup core.state.views c.args.seat o.view c.index-notes.result.now core.stands.keeps below o.at at_t
-    c.args.block holds) ∙ ap (λ n. span_count (superblock_at n c.args.block) o.view.large) (sym cap) in
+    c.args.block holds) ∙ ap (λ n. span_count (superblock_of n c.args.block) o.view.large) (sym cap) in
     let some = holds.held in let f = (split_fits c.args.core.now c.args.seat c.args.block c.index-notes.result.now
     (core_of c.args.core.now c.requires.core) c.requires.seat (seat_is c.requires.seat (sym c.index-notes.ensures)) c.requires.held).range in
     let g = c.large_count-count.ensures ∙ ap count_in (c.usage.ensures

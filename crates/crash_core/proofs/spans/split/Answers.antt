@@ -1,6 +1,6 @@
 use Rattle.std.proofs.Common.{◌≡◌, get_or, refl, ap, sym, subst, ◌∙◌, arith}
 use Rattle.seat_state.specs.declared.superblocks.SuperblockUsage.TheVariants as usage
-use Rattle.core_model.specs.Cells.{superblock_at}
+use Rattle.heap_model.specs.Geometry.{superblock_of}
 use Rattle.core_model.specs.Effects.{cleared, span_count}
 use Rattle.seat_state.specs.Notes.{snapshot}
 use Rattle.seat_state.specs.Superblocks.{usage_for, no_superblock, count_in, IsRange}
@@ -19,7 +19,7 @@ returns c = λ k views v t keeps below at at_t.
     let same : c.index-notes.result.now ≡ t = c.index-notes.ensures
     ∙ entry_is c.args.core.now.seats.items c.args.seat c.index-notes.result.now t c.requires.seat ∙ at_t.at in
     let may = (c.requires.may k views v keeps below at).0 refl in
-    let count : c.large_count-count.result ≡ span_count (superblock_at c.args.core.now.geometry.capacity c.args.block) v.large =
+    let count : c.large_count-count.result ≡ span_count (superblock_of c.args.core.now.geometry.capacity c.args.block) v.large =
     c.large_count-count.ensures ∙ ap count_in (c.usage.ensures ∙ ap
     (λ d. usage_for c.args.seat (get_or c.args.core.now.superblocks.items d no_superblock)) c.superblock_of-d.ensures)
     ∙ sym (split_count c.args.core.now k views c.args.seat v c.index-notes.result.now keeps below at

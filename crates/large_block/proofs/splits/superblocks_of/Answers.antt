@@ -1,6 +1,5 @@
 use Rattle.std.proofs.Common.{ℕ, ◌*◌, ap, sym, ◌∙◌, arith}
-use Rattle.heap_model.specs.Geometry.{largest_capacity_fits}
-use Rattle.core_model.specs.Cells.{superblock_at}
+use Rattle.heap_model.specs.Geometry.{largest_capacity_fits, superblock_of}
 use Rattle.core_model.specs.Effects.{span_count}
 use Rattle.large_block.proofs.SplitLemmas.{block_small, counted, large, large_held, large_inside}
 use Rattle.large_block.proofs.splits.superblocks_of.Goals as goal
@@ -20,7 +19,7 @@ pub returns-clause-count : goal.returns-clause-count
 returns-clause-count c =
     counted c.args.seat.now.view c.recall_soundness.ensures c.args.block c.requires.held c.block-held.result c.block-held.ensures.only
     ∙ ap (λ (d : ℕ). span_count d c.args.seat.now.view.large)
-    (sym (c.superblock_of.ensures ∙ ap (λ (n : ℕ). superblock_at n c.args.block) (c.new-geometry.ensures ∙ c.capacity.ensures)))
+    (sym (c.superblock_of.ensures ∙ ap (λ (n : ℕ). superblock_of n c.args.block) (c.new-geometry.ensures ∙ c.capacity.ensures)))
 
 pub returns-clause-some : goal.returns-clause-some
 returns-clause-some c = let n = counted c.args.seat.now.view c.recall_soundness.ensures c.args.block c.requires.held c.block-held.result

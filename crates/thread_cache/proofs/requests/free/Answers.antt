@@ -1,6 +1,5 @@
 use Rattle.std.proofs.Common.{arith, refl}
-use Rattle.heap_model.specs.Geometry.{largest_capacity}
-use Rattle.core_model.specs.Cells.{superblock_at}
+use Rattle.heap_model.specs.Geometry.{largest_capacity, superblock_of}
 use Rattle.thread_cache.specs.Requests.{of_a_class, of_a_span}
 use Rattle.thread_cache.proofs.RequestLemmas.{free_class_light, free_class_row, free_span_light, free_span_row, freed_class, freed_span, large_span, may_split, short_block, small_block}
 use Rattle.thread_cache.proofs.requests.free.Goals as goal
@@ -42,7 +41,7 @@ returns-in-None-clause-freed g c = freed_span c.args.seat.now c.free_large.new.s
     (c.in-None.ensures.none.0 refl) c.free_large.result c.free_large.ensures.freed
 
 pub returns-in-None-clause-may : goal.returns-in-None-clause-may
-returns-in-None-clause-may g c = of_a_span (superblock_at c.args.seat.now.view.setup.capacity c.args.block.first_word)
+returns-in-None-clause-may g c = of_a_span (superblock_of c.args.seat.now.view.setup.capacity c.args.block.first_word)
     (large_span c.args.seat.now.view c.recall_soundness.ensures c.args.block c.requires.held (c.in-None.ensures.none.0 refl)) c.free_large.ensures.may
 
 pub returns-in-None-clause-light : goal.returns-in-None-clause-light

@@ -1,7 +1,6 @@
 use Rattle.std.proofs.Common.{◌≡◌, ◌-◌, ◌*◌, ◌/◌, get_or, refl, ap, sym, subst, ◌∙◌, arith}
-use Rattle.heap_model.specs.Geometry.{start_word, largest_capacity_fits}
+use Rattle.heap_model.specs.Geometry.{start_word, largest_capacity_fits, superblock_of}
 use Rattle.heap_model.specs.Sizes.{IsClass, words_of_class}
-use Rattle.core_model.specs.Cells.{superblock_at}
 use Rattle.core_model.specs.Held.{IsHeld}
 use Rattle.seat_state.proofs.WordLemmas.{entry_is}
 use Rattle.heap_rule.specs.declared.owned.Ownership.TheVariants as ownership
@@ -13,12 +12,12 @@ use Rattle.heap_rule.proofs.seat.Seat.block_words.Goals as goal
 
 pub superblock_of-d-requires : goal.superblock_of-d-requires
 superblock_of-d-requires c = let v = view_in c.self.inside.table_seat.me.0 in
-    let d = superblock_at v.setup.capacity c.args.first_word in
+    let d = superblock_of v.setup.capacity c.args.first_word in
     let h = block_there v c.self.invariant.seat.kept.has c.self.inside.owned c.self.invariant.own c.requires.0 d
     (count_in (get_or c.self.inside.owned.ownerships.items d ownership.Nothing))
     (get_or c.self.inside.owned.ownerships.items d ownership.Nothing)
     (subst (λ (s : SeatView). IsHeld s.view c.requires.0) (sym c.self.view_is) c.requires.1)
-    (ap (superblock_at v.setup.capacity) c.requires.2)
+    (ap (superblock_of v.setup.capacity) c.requires.2)
     (λ less. entry_is c.self.inside.owned.ownerships.items d ownership.Nothing (get_or c.self.inside.owned.ownerships.items d ownership.Nothing)
     (let l = c.self.invariant.own.ownerships_long in omega arith)) refl in
     let f = h.from in let k = c.self.invariant.seat.capacity_is in let a = c.requires.2 in omega arith
