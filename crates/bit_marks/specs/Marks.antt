@@ -10,10 +10,11 @@ is_one word bit = nat_eq (bit_at word bit) 1
 abbrev pub mark_in : List ℕ → ℕ → Bool
 mark_in words n = is_one (get_or words (n / 64) 0) (n % 64)
 
--- the marks of so many numbers from one on, and of all below a length
+-- the marks of so many numbers from one on
 abbrev pub marks_from : List ℕ → ℕ → ℕ → List Bool
 marks_from words from zero = []
 marks_from words from (suc n) = mark_in words from ∷ marks_from words (from + 1) n
 
+-- the marks of all numbers below a length
 abbrev pub marks_of : List ℕ → ℕ → List Bool
 marks_of words length = marks_from words 0 length

@@ -37,10 +37,11 @@ one_block capacity block = record {
   carries = 1;
 }
 
--- the seat without the block, and the carrier
+-- the seat without the block that it offered
 abbrev pub offered : View → ℕ → View
 offered v block = remaining (one_block v.setup.capacity block) (record v { ticket = None; offers = v.offers + 1 })
 
+-- the carrier of that block
 abbrev pub carrier_of : View → ℕ → View
 carrier_of v block = given_off (one_block v.setup.capacity block) v
 
@@ -55,6 +56,7 @@ abbrev pub either_known : Option ℕ → Option ℕ → Option ℕ
 either_known None y = y
 either_known (Some x) y = Some x
 
+-- the same word by word
 abbrev pub either_of : List (Option ℕ) → List (Option ℕ) → List (Option ℕ)
 either_of [] ys = ys
 either_of (x ∷ xs) [] = []

@@ -27,16 +27,18 @@ abbrev pub chain : (ℕ → ℕ) → ℕ → ℕ → List ℕ
 chain next from zero = []
 chain next from (suc n) = from ∷ chain next (next from) n
 
--- the first and the last of some blocks; 0 of none
+-- the first of some blocks; 0 of none
 abbrev pub first_of : List ℕ → ℕ
 first_of [] = 0
 first_of (b ∷ bs) = b
 
+-- the last of some blocks; 0 of none
 abbrev pub last_of : List ℕ → ℕ
 last_of [] = 0
 last_of (b ∷ []) = b
 last_of (b ∷ c ∷ bs) = last_of (c ∷ bs)
 
+-- the blocks behind the first
 abbrev pub rest_of : List ℕ → List ℕ
 rest_of [] = []
 rest_of (b ∷ bs) = bs
@@ -51,15 +53,17 @@ abbrev pub without_range : ℕ → ℕ → List ℕ → List ℕ
 without_range from n [] = []
 without_range from n (x ∷ xs) = cond (nat_le from x && nat_lt x (from + n)) (without_range from n xs) (x ∷ without_range from n xs)
 
--- what was seen, and of what; 0 of nothing
+-- what was seen; 0 of nothing
 abbrev pub seen : Option ℕ → ℕ
 seen None = 0
 seen (Some word) = word
 
+-- the word in a snapshot; 0 of none
 abbrev pub seen_word : Option Snapshot → ℕ
 seen_word None = 0
 seen_word (Some s) = s.word
 
+-- what a snapshot is of, a list or a descriptor; 0 of none
 abbrev pub seen_of : Option Snapshot → ℕ
 seen_of None = 0
 seen_of (Some s) = s.of
@@ -69,20 +73,22 @@ abbrev pub cleared : ℕ → ℕ → Option Snapshot → Option Snapshot
 cleared from n None = None
 cleared from n (Some s) = cond (nat_le from s.of && nat_lt s.of (from + n)) None (Some s)
 
--- the class of a claimed descriptor, and the claims without it
+-- the class of a claimed descriptor
 abbrev pub claim_class : ℕ → List Claim → ℕ
 claim_class d [] = 0
 claim_class d (claim ∷ claims) = cond (nat_eq claim.descriptor d) claim.class (claim_class d claims)
 
+-- the claims without that of the descriptor
 abbrev pub without_claim : ℕ → List Claim → List Claim
 without_claim d [] = []
 without_claim d (claim ∷ claims) = cond (nat_eq claim.descriptor d) claims (claim ∷ without_claim d claims)
 
--- how many superblocks the large block that begins in d takes, and the others
+-- how many superblocks the large block that begins in d takes; 0 of none
 abbrev pub span_count : ℕ → List Span → ℕ
 span_count d [] = 0
 span_count d (span ∷ spans) = cond (nat_eq span.first d) span.count (span_count d spans)
 
+-- the large blocks without the one that begins in d
 abbrev pub without_span : ℕ → List Span → List Span
 without_span d [] = []
 without_span d (span ∷ spans) = cond (nat_eq span.first d) spans (span ∷ without_span d spans)
@@ -101,13 +107,15 @@ only_own v index (value ∷ values) = cond (nat_lt 0 (times_own v (cell_at v.set
 abbrev pub trimmed : View → View
 trimmed v = record v { volatile = only_own v 0 v.volatile; durable = only_own v 0 v.durable }
 
--- an exchange was won, or lost to the word that it found; the ticket is used up
+-- the ticket in hand is used up
 abbrev pub used_up : View → View
 used_up v = record v { ticket = None }
 
+-- an exchange was won; the ticket is used up
 abbrev pub won : View → View
 won v = record v { ticket = None; wins = v.wins + 1 }
 
+-- an exchange was lost to the word that it found; the ticket is used up
 abbrev pub lost : View → ℕ → View
 lost v found = record v { ticket = None; lost_to = found; losses = v.losses + 1 }
 
@@ -121,7 +129,7 @@ learn_fresh values u zero = values
 learn_fresh values u (suc n) = learn_fresh (learn (learn (learn values (index_of (info_cell u)) 0) (index_of (anchor_cell u)) 0)
     (index_of (link_cell u)) 0) (u + 1) n
 
--- the views after the exchanges that are won
+-- the view after n fresh superblocks were taken
 abbrev pub taken_fresh : View → ℕ → View
 taken_fresh v n = record (won v) {
   raw = v.raw ++ steps (seen v.seen_used) 1 n;
@@ -137,6 +145,7 @@ abbrev pub claimed : View → ℕ → ℕ → View
 claimed v d zero = record v { raw = d ∷ v.raw; floor = max v.floor (d + 1) }
 claimed v d (suc class) = record v { classed = record { descriptor = d; class = suc class } ∷ v.classed; floor = max v.floor (d + 1) }
 
+-- after descriptor d was popped from a list
 abbrev pub popped : View → ℕ → View
 popped v d = claimed (record (won v) {
   seen_head = None;
@@ -144,6 +153,7 @@ popped v d = claimed (record (won v) {
   seen_anchor = cleared d 1 v.seen_anchor;
 }) d (seen_of v.seen_head)
 
+-- after descriptor d, claimed without a class, was pushed to a list
 abbrev pub pushed_raw : View → ℕ → View
 pushed_raw v d = trimmed (record (won v) {
   raw = without d v.raw;
@@ -161,6 +171,7 @@ pushed_classed v d = trimmed (record (won v) {
   moves = cond (nat_eq (seen_of v.seen_head) 0) (v.moves + 1) v.moves;
 })
 
+-- after descriptor d was pushed to a list, with a class or without one
 abbrev pub pushed : View → ℕ → View
 pushed v d = cond (nat_lt 0 (times d v.raw + times d v.split)) (pushed_raw v d) (pushed_classed v d)
 
@@ -169,6 +180,7 @@ abbrev pub anchored_blocks : Memory → ℕ → ℕ → ℕ → ℕ → List ℕ
 anchored_blocks m capacity class d word = chain (next m) (start_word capacity d + anchor_first word * words_of_class class)
     (anchor_count word)
 
+-- after all free blocks of superblock d went to the cache
 abbrev pub taken_all : Memory → View → ℕ → View
 taken_all m v d = trimmed (record (won v) {
   caches = set v.caches (claim_class d v.classed) (anchored_blocks m v.setup.capacity (claim_class d v.classed) d
@@ -183,10 +195,11 @@ given v d = trimmed (cond (nat_eq (seen_word v.seen_anchor) full_anchor)
     (claimed (record (won v) { batch = no_batch; seen_anchor = None; gives = v.gives + 1 }) d v.batch.class)
     (record (won v) { batch = no_batch; seen_anchor = None; gives = v.gives + 1 }))
 
--- the head after a pop, and after a push of d
+-- the head after a pop
 abbrev pub popped_head : View → ℕ
 popped_head v = head_of (head_first (seen v.seen_link)) (head_pops (seen_word v.seen_head) + 1)
 
+-- the head after a push of d
 abbrev pub pushed_head : View → ℕ → ℕ
 pushed_head v d = head_of (d + 1) (head_pops (seen_word v.seen_head))
 
@@ -195,6 +208,7 @@ abbrev pub given_anchor : ℕ → ℕ → ℕ → ℕ → ℕ
 given_anchor word first n all = anchor_of (cond (nat_eq (n + anchor_count word) all) empty_state partial_state) first
     (n + anchor_count word)
 
+-- the anchor of superblock d after the batch was given back to it
 abbrev pub batch_anchor : View → ℕ → ℕ
 batch_anchor v d = given_anchor (seen_word v.seen_anchor) ((first_of v.batch.blocks - start_word v.setup.capacity d) / words_of_class
     v.batch.class)
@@ -216,7 +230,7 @@ stored v (data_cell word) value = record v {
 }
 stored v cell value = v
 
--- the parts that a draw changes
+-- after superblock d was cut: its blocks are the cache of its class
 abbrev pub after_cut : Memory → View → ℕ → View
 after_cut m v d = trimmed (record v {
   caches = set v.caches (info m d) (class_blocks v.setup.capacity (info m d) d);
@@ -225,18 +239,21 @@ after_cut m v d = trimmed (record v {
   cuts = v.cuts + 1;
 })
 
+-- after the first cached block of the class was allocated
 abbrev pub after_alloc : View → ℕ → View
 after_alloc v class = record v {
   small = set v.small class (first_of (of_class v.caches class) ∷ of_class v.small class);
   caches = set v.caches class (rest_of (of_class v.caches class));
 }
 
+-- after the block was freed: it is the first of its cache
 abbrev pub after_free : View → ℕ → ℕ → View
 after_free v class block = record v {
   small = set v.small class (without block (of_class v.small class));
   caches = set v.caches class (block ∷ of_class v.caches class);
 }
 
+-- after the first cached block of the class went behind the batch
 abbrev pub after_lift : View → ℕ → View
 after_lift v class = record v {
   caches = set v.caches class (rest_of (of_class v.caches class));
@@ -248,6 +265,7 @@ after_lift v class = record v {
   };
 }
 
+-- after the n superblocks from d on became a large block
 abbrev pub after_large : View → ℕ → ℕ → View
 after_large v d n = trimmed (record v {
   large = record { first = d; count = n } ∷ v.large;
@@ -256,6 +274,7 @@ after_large v d n = trimmed (record v {
   seen_anchor = cleared d n v.seen_anchor;
 })
 
+-- after the large block that begins in d was split into superblocks of its own
 abbrev pub after_split : View → ℕ → View
 after_split v d = record v {
   large = without_span d v.large;
@@ -264,6 +283,7 @@ after_split v d = record v {
   floor = max v.floor (d + span_count d v.large);
 }
 
+-- the view after what a draw does besides
 abbrev pub shifted : Memory → View → Option Shift → View
 shifted m v None = v
 shifted m v (Some (Cut d)) = after_cut m v d
@@ -273,10 +293,11 @@ shifted m v (Some (Lift class)) = after_lift v class
 shifted m v (Some (Large d n)) = after_large v d n
 shifted m v (Some (Split block)) = after_split v (superblock_of v.setup.capacity block)
 
--- a ticket below the budget is in hand; at any other the seat stops
+-- a ticket below the budget is in hand
 abbrev pub drew : View → ℕ → View
 drew v ticket = record v { draws = v.draws + 1; ticket = Some ticket; last_ticket = Some ticket }
 
+-- at any other ticket the seat stops
 abbrev pub stopped : View → ℕ → View
 stopped v ticket = record v { draws = v.draws + 1; last_ticket = Some ticket; ticket = None; stopped = Some ticket }
 

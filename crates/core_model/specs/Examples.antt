@@ -35,9 +35,11 @@ at_nothing = refl
 pub at_block : cell_at 2 1080 ≡ data_cell 1080
 at_block = refl
 
+-- a heap of two superblocks, of which one has been taken
 abbrev setup : Setup
 setup = record { capacity = 2; budget = 10; seats = 2; used = 1; opened = [] }
 
+-- nothing was looked at yet
 abbrev unread : LastLook
 unread = record { word = 1; ticket = None; wins = 0; taken = 0 }
 
@@ -90,6 +92,7 @@ values (root_cell i) = 0
 values (data_cell word) = 0
 values no_cell = 0
 
+-- each word has these values, volatile and durable, and four tickets were drawn
 abbrev pub memory : Memory
 memory = record { volatile = values; durable = values; drawn = 4 }
 
@@ -450,6 +453,7 @@ stores_before_last = refl
 abbrev pub of_20 : Memory
 of_20 = write memory (volatile_at (info_cell 1)) 20
 
+-- it holds block 0 of superblock 1
 abbrev pub holding : View
 holding = record idle { small = set (replicate 21 []) 20 (9272 ∷ []) }
 

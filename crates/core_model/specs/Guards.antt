@@ -46,15 +46,18 @@ MayStore m v (link_cell d) value = times d v.cutting ≡ 0
 MayStore m v (data_cell word) value = MayChangeWord v word
 MayStore m v cell value = ⊤
 
+-- n fresh superblocks may be taken: the mark was seen, and the capacity has room for them
 pub record MayTake (v : View) (n : ℕ) : Type 0 where
   pub is_seen : IsThere v.seen_used
   pub some : 1 ≤ n
   pub room : seen v.seen_used + n ≤ v.setup.capacity
 
+-- the link behind a head may be read: the head was seen, and its list is not empty
 pub record MayLink (v : View) : Type 0 where
   pub is_seen : IsThere v.seen_head
   pub some : head_first (seen_word v.seen_head) ≢ 0
 
+-- a descriptor may be popped: the head and the link behind it were seen
 pub record MayPop (v : View) : Type 0 where
   pub is_seen : IsThere v.seen_head
   pub link : IsThere v.seen_link
@@ -65,15 +68,18 @@ pub data MayList (m : Memory) (v : View) (d : ℕ) : ℕ → Type 0 where
   of_its_class : (list : ℕ) → list ≢ 0 → 0 < times_classed d v.classed → info m d ≡ list
       → (anchor_state (anchor m d) ≡ partial_state) ⊎ (anchor_state (anchor m d) ≡ empty_state) → MayList m v d list
 
+-- descriptor d may be pushed to the list whose head was seen: its link leads to that list's first, and a crash remembers it
 pub record MayPush (m : Memory) (v : View) (d : ℕ) : Type 0 where
   pub is_seen : IsThere v.seen_head
   pub durable : d < durable_used m
   pub linked : link m d ≡ head_first (seen_word v.seen_head)
   pub listed : MayList m v d (seen_of v.seen_head)
 
+-- the anchor of superblock d may be read: d is claimed, or the batch is of it
 abbrev pub MayLookAt : View → ℕ → Type 0
 MayLookAt v d = IsFreelyClaimed v d ⊎ ((v.batch.descriptor ≡ d) × (1 ≤ length v.batch.blocks))
 
+-- all free blocks of superblock d may be taken: its anchor was seen partial, and the cache of its class is empty
 pub record MayTakeAll (v : View) (d : ℕ) : Type 0 where
   pub claimed : 0 < times_classed d v.classed
   pub is_seen : IsThere v.seen_anchor
@@ -81,6 +87,7 @@ pub record MayTakeAll (v : View) (d : ℕ) : Type 0 where
   pub partial : anchor_state (seen_word v.seen_anchor) ≡ partial_state
   pub uncached : of_class v.caches (claim_class d v.classed) ≡ []
 
+-- the batch may be given back to superblock d: its anchor was seen, and the last block leads to the first free one
 pub record MayGive (m : Memory) (v : View) (d : ℕ) : Type 0 where
   pub batch : v.batch.descriptor ≡ d
   pub some : 1 ≤ length v.batch.blocks
@@ -90,6 +97,7 @@ pub record MayGive (m : Memory) (v : View) (d : ℕ) : Type 0 where
       → next m (last_of v.batch.blocks) ≡ start_word v.setup.capacity d + anchor_first
       (seen_word v.seen_anchor) * words_of_class v.batch.class
 
+-- superblock d may be cut: its class is durable, its blocks are linked, and the cache of its class is empty
 pub record MayCut (m : Memory) (v : View) (d : ℕ) : Type 0 where
   pub cutting : 0 < times d v.cutting
   pub class : IsClass (info m d)
@@ -98,10 +106,12 @@ pub record MayCut (m : Memory) (v : View) (d : ℕ) : Type 0 where
   pub linked : Walks (next m) (start_word v.setup.capacity d) (class_blocks v.setup.capacity (info m d) d)
   pub uncached : of_class v.caches (info m d) ≡ []
 
+-- a block of the class may be allocated: one is cached
 pub record MayAlloc (v : View) (class : ℕ) : Type 0 where
   pub is_class : IsClass class
   pub cached : 1 ≤ length (of_class v.caches class)
 
+-- the block may be freed: it is held, and leads to the first cached block of its class
 pub record MayFree (m : Memory) (v : View) (block : ℕ) : Type 0 where
   pub is_class : IsClass (info m (superblock_of v.setup.capacity block))
   pub held : 0 < times block (of_class v.small (info m (superblock_of v.setup.capacity block)))
@@ -114,6 +124,7 @@ pub record IsBehind (m : Memory) (v : View) (block : ℕ) : Type 0 where
   pub unchanged : v.batch.linked ≡ true
   pub linked : next m (last_of v.batch.blocks) ≡ block
 
+-- the first cached block of the class may go behind the batch
 pub record MayLift (m : Memory) (v : View) (class : ℕ) : Type 0 where
   pub is_class : IsClass class
   pub cached : 1 ≤ length (of_class v.caches class)
@@ -129,10 +140,12 @@ pub record MayHoldLarge (m : Memory) (v : View) (d n : ℕ) : Type 0 where
   pub others : (e : ℕ) → d < e → e < d + n → info m e ≡ 0
   pub durable_infos : (e : ℕ) → d ≤ e → e < d + n → durable_info m e ≡ info m e
 
+-- the large block may be split: it is held, and begins there
 pub record MaySplit (v : View) (block : ℕ) : Type 0 where
   pub held : 1 ≤ span_count (superblock_of v.setup.capacity block) v.large
   pub first : block ≡ start_word v.setup.capacity (superblock_of v.setup.capacity block)
 
+-- what a draw does besides may be done
 abbrev pub MayShift : Memory → View → Option Shift → Type 0
 MayShift m v None = ⊤
 MayShift m v (Some (Cut d)) = MayCut m v d
@@ -180,6 +193,7 @@ pub record MayStep (m : Memory) (v : View) (event : Event) : Type 0 where
   pub ticket : HasTicketFor v event
   pub ready : IsReadyFor m v event
 
+-- the seat may take the step, and wins it where it compares
 pub record MayDo (m : Memory) (v : View) (event : Event) : Type 0 where
   pub may : MayStep m v event
   pub as_seen : IsAsSeen m v event

@@ -15,6 +15,7 @@ pub record HoldsAt (v : View) (word : ℕ) : Type 0 where
   pub holds : IsHeld v block
   pub at : block.first_word ≡ word
 
+-- the seat may offer the block that begins at the word: it holds it
 pub record MayOffer (v : View) (word : ℕ) : Type 0 where
   pub may : MayHand v
   pub held : HoldsAt v word
@@ -26,9 +27,11 @@ pub record MayAccept (views : List View) (v : View) (j : ℕ) (u : View) : Type 
   pub at : get_or views j u ≡ u
   pub carrier : IsCarrier u
 
+-- after seat i offered it: the carrier comes behind all views
 abbrev pub after_offer : TableState → ℕ → View → ℕ → TableState
 after_offer s i v word = record { words = s.words; views = set s.views i (offered v word) ++ carrier_of v word ∷ [] }
 
+-- after seat i accepted what the carrier at index j has
 abbrev pub after_accept : TableState → ℕ → ℕ → View → View → TableState
 after_accept s i j v u = record { words = s.words; views = set (set s.views i (accepted v u)) j (emptied u) }
 

@@ -40,10 +40,11 @@ pub record AreHeldOnce (capacity : ℕ) (views : List View) : Type 0 where
   pub by_any : (a b : Block) → IsHeldBy views a → IsHeldBy views b → AreOneOrApart a b
   pub inside : (b : Block) → IsHeldBy views b → (start_word capacity 0 ≤ b.first_word) × (b.first_word + b.words ≤ superblocks_end capacity)
 
--- the volatile words of the image, and the durable ones
+-- the volatile words of the image
 abbrev pub volatile_image : ℕ → List ℕ → Image
 volatile_image capacity words word = cond (nat_lt word (image_words capacity)) (get_or words word 0) 0
 
+-- the durable words of the image
 abbrev pub durable_image : ℕ → List ℕ → Image
 durable_image capacity words word = cond (nat_lt word (image_words capacity)) (get_or words (image_words capacity + word) 0) 0
 

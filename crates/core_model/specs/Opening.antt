@@ -18,15 +18,17 @@ abbrev pub tabulate : {A : Type 0} → (ℕ → A) → ℕ → ℕ → List A
 tabulate f from zero = []
 tabulate f from (suc n) = f from ∷ tabulate f (from + 1) n
 
--- the first words of the small blocks in superblocks of a class
+-- whether a block is small: less than a superblock
 abbrev pub is_small : Block → Bool
 is_small b = nat_lt b.words superblock_words
 
+-- the first words of the small blocks in superblocks of a class
 abbrev pub small_blocks : ℕ → (ℕ → ℕ) → ℕ → List Block → List ℕ
 small_blocks capacity info class [] = []
 small_blocks capacity info class (b ∷ bs) = cond (is_small b && nat_eq (info (superblock_of capacity b.first_word)) class)
     (b.first_word ∷ small_blocks capacity info class bs) (small_blocks capacity info class bs)
 
+-- the large blocks, by the superblocks that they take
 abbrev pub large_blocks : ℕ → List Block → List Span
 large_blocks capacity [] = []
 large_blocks capacity (b ∷ bs) = cond (is_small b) (large_blocks capacity bs) (record {
@@ -41,6 +43,7 @@ pub record AreOwners (held : List Block) (seats : ℕ) (block_owners root_owners
   pub block_seats : (owner : ℕ) → Contains block_owners owner → owner < seats
   pub root_seats : (owner : ℕ) → Contains root_owners owner → owner < seats
 
+-- the setup of a heap that is opened with these words
 abbrev pub setup_of : List ℕ → ℕ → ℕ → Setup
 setup_of words budget seats = record {
   capacity = slice_index words capacity_word;
@@ -54,6 +57,7 @@ setup_of words budget seats = record {
 abbrev pub unlooked : ℕ → LastLook
 unlooked word = record { word = word; ticket = None; wins = 0; taken = 0 }
 
+-- the view of a seat that opened the heap with these blocks and roots, before it forgets what is not its own
 abbrev pub plain_view : Setup → List Block → List ℕ → View
 plain_view k held owned_roots = record {
   setup = k;

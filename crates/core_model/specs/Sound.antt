@@ -22,6 +22,7 @@ pub record Tally : Type 0 where
   pub large : ℕ → ℕ
   pub blocks : ℕ → ℕ
 
+-- those of the views
 abbrev pub tally_of : List View → Tally
 tally_of views = record {
   raw = λ d. total (times_raw d) views;
@@ -40,6 +41,7 @@ pub record CoreShape : Type 0 where
 abbrev pub class_numbers : List ℕ
 class_numbers = range_with_len 1 last_class
 
+-- how often superblock d is in the list of a class
 abbrev pub times_in_lists : CoreShape → ℕ → ℕ
 times_in_lists g d = total (λ class. times d (g.lists class)) class_numbers
 
@@ -60,6 +62,7 @@ pub record IsBlank (m : Memory) (d : ℕ) : Type 0 where
   pub volatile : (info m d ≡ 0) × (anchor m d ≡ 0) × (link m d ≡ 0)
   pub durable : (durable_info m d ≡ 0) × (m.durable (anchor_cell d) ≡ 0) × (m.durable (link_cell d) ≡ 0)
 
+-- each superblock above the mark is such
 pub record AreUntaken (capacity : ℕ) (m : Memory) : Type 0 where
   pub blank : (d : ℕ) → used m ≤ d → d < capacity → IsBlank m d
 
@@ -143,6 +146,7 @@ pub record HasClaims (info anchor : ℕ → ℕ) (raw split cutting : List ℕ) 
   pub is_part : (d : ℕ) → 0 < times_large d large → anchor_state (anchor d) ≢ partial_state
   pub some : (span : Span) → Contains large span → 1 ≤ span.count
 
+-- of a memory and a view
 abbrev pub ClaimsOf : Memory → View → Type 0
 ClaimsOf m v = HasClaims (info m) (anchor m) v.raw v.split v.cutting v.classed v.large
 
@@ -154,6 +158,7 @@ pub record HasBlocks (capacity : ℕ) (info next : ℕ → ℕ) (small caches : 
   pub cache_linked : (class : ℕ) → Walks next (first_of (of_class caches class)) (of_class caches class)
   pub batch_linked : Walks next (first_of batch.blocks) batch.blocks
 
+-- of a memory and a view
 abbrev pub BlocksOf : Memory → View → Type 0
 BlocksOf m v = HasBlocks v.setup.capacity (info m) (next m) v.small v.caches v.batch
 
@@ -190,6 +195,7 @@ pub record IsTicketed (budget : ℕ) (ticket last stopped : Option ℕ) : Type 0
   pub in_hand : IsThere ticket → (last ≡ ticket) × (seen ticket < budget)
   pub going : stopped ≡ None → IsThere last → seen last < budget
 
+-- the tickets of a seat, with what it counted: no more wins and losses than draws, and no more gives and cuts than those
 pub record HasTickets (budget drawn : ℕ) (v : View) : Type 0 where
   pub ticket : IsTicketDrawn drawn v.ticket
   pub last : IsTicketDrawn drawn v.last_ticket
@@ -213,15 +219,17 @@ abbrev pub differs : Option ℕ → ℕ → ℕ
 differs None now = 0
 differs (Some word) now = one_if (not (nat_eq word now))
 
--- how many snapshots of shared words are stale: of the mark, of a head, and of an anchor whose descriptor is not claimed without a class
+-- 1 where the snapshot of a head is stale
 abbrev pub stale_head : Memory → Option Snapshot → ℕ
 stale_head m None = 0
 stale_head m (Some s) = one_if (not (nat_eq s.word (head m s.of)))
 
+-- 1 where the snapshot of an anchor is stale whose descriptor is not claimed without a class
 abbrev pub stale_anchor : Memory → View → Option Snapshot → ℕ
 stale_anchor m v None = 0
 stale_anchor m v (Some s) = one_if (nat_eq (times_raw s.of v) 0 && not (nat_eq s.word (anchor m s.of)))
 
+-- how many snapshots of shared words are stale: of the mark, of a head, and of an anchor
 abbrev pub stale : Memory → View → ℕ
 stale m v = differs v.seen_used (used m) + stale_head m v.seen_head + stale_anchor m v v.seen_anchor
 

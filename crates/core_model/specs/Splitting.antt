@@ -13,17 +13,21 @@ pub record Choice : Type 0 where
   -- 1 where the new seat is a carrier, else 0
   pub carries : ℕ
 
+-- what does not go
 abbrev pub others : Choice → Choice
 others c = record { blocks = λ b. not (c.blocks b); spans = λ d. not (c.spans d); roots = λ i. not (c.roots i); carries = c.carries }
 
+-- the numbers that go
 abbrev pub chosen : (ℕ → Bool) → List ℕ → List ℕ
 chosen test [] = []
 chosen test (x ∷ xs) = cond (test x) (x ∷ chosen test xs) (chosen test xs)
 
+-- the large blocks that go
 abbrev pub chosen_spans : (ℕ → Bool) → List Span → List Span
 chosen_spans test [] = []
 chosen_spans test (span ∷ spans) = cond (test span.first) (span ∷ chosen_spans test spans) (chosen_spans test spans)
 
+-- by class, the blocks that go
 abbrev pub chosen_lists : (ℕ → Bool) → List (List ℕ) → List (List ℕ)
 chosen_lists test [] = []
 chosen_lists test (xs ∷ lists) = chosen test xs ∷ chosen_lists test lists
@@ -74,5 +78,6 @@ new_seat c v = record {
   accepts = 0;
 }
 
+-- the same, which knows nothing of words that are not its own
 abbrev pub given_off : Choice → View → View
 given_off c v = trimmed (new_seat c v)

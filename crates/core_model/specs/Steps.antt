@@ -13,9 +13,11 @@ use Rattle.core_model.specs.Sound.{Good, Sound}
 abbrev pub found_by : Memory → View → Event → ℕ
 found_by m v event = read m (place_of v event)
 
+-- the memory after the step
 abbrev pub memory_after : Memory → View → Event → Memory
 memory_after m v event = write m (place_of v event) (left_there m v event (found_by m v event))
 
+-- the seat's view after the step
 abbrev pub seat_after : Memory → View → Event → View
 seat_after m v event = view_after m v event (found_by m v event)
 
@@ -28,14 +30,16 @@ pub record TableState : Type 0 where
   pub words : List ℕ
   pub views : List View
 
+-- they are sound
 abbrev pub IsSoundState : Setup → TableState → Type 0
 IsSoundState k s = Sound k s.words s.views
 
--- the words and views after the step of a seat
+-- the words after the step of a seat
 abbrev pub words_after : Setup → List ℕ → View → Event → List ℕ
 words_after k words v event = set words (table_index k.capacity (place_of v event))
     (left_there (memory_of k.capacity words) v event (found_by (memory_of k.capacity words) v event))
 
+-- the words and views after the step of seat i
 abbrev pub state_after : Setup → TableState → ℕ → View → Event → TableState
 state_after k s i v event = record {
   words = words_after k s.words v event;

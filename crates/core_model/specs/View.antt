@@ -99,6 +99,7 @@ pub record Role : Type 0 where
   pub offers : ℕ
   pub accepts : ℕ
 
+-- that of a view
 abbrev pub role : View → Role
 role v = record { carries = v.carries; offers = v.offers; accepts = v.accepts }
 
@@ -119,6 +120,7 @@ pub record Parts : Type 0 where
   pub cutting : List ℕ
   pub classed : List Claim
 
+-- those of a view
 abbrev pub parts : View → Parts
 parts v = record {
   setup = v.setup;
@@ -138,6 +140,7 @@ abbrev pub one_if_some : {A : Type 0} → Option A → ℕ
 one_if_some None = 0
 one_if_some (Some x) = 1
 
+-- a batch without blocks
 abbrev pub no_batch : Batch
 no_batch = record { descriptor = 0; class = 0; blocks = []; linked = false }
 
@@ -145,20 +148,23 @@ no_batch = record { descriptor = 0; class = 0; blocks = []; linked = false }
 abbrev pub of_class : List (List ℕ) → ℕ → List ℕ
 of_class lists class = get_or lists class []
 
--- how often a descriptor is claimed: without a class, being cut or not; with a class; at all
+-- how often a descriptor is claimed without a class, being cut or not
 abbrev pub times_raw : ℕ → View → ℕ
 times_raw d v = times d v.raw + times d v.split + times d v.cutting
 
+-- how often it is claimed with a class
 abbrev pub times_classed : ℕ → List Claim → ℕ
 times_classed d claims = total (λ (claim : Claim). one_if (nat_eq claim.descriptor d)) claims
 
+-- how often it is claimed at all
 abbrev pub times_claimed : ℕ → View → ℕ
 times_claimed d v = times_raw d v + times_classed d v.classed
 
--- whether the large block takes superblock d, and how many held ones do
+-- whether the large block takes superblock d
 abbrev pub takes : ℕ → Span → Bool
 takes d span = nat_le span.first d && nat_lt d (span.first + span.count)
 
+-- how many held large blocks take superblock d
 abbrev pub times_large : ℕ → List Span → ℕ
 times_large d spans = total (λ span. one_if (takes d span)) spans
 

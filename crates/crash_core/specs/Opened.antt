@@ -2,6 +2,7 @@
 use Rattle.std.specs.Prelude.{ℕ}
 use Rattle.crash_core.specs.declared.state.CoreState.{CoreState}
 
+-- a core, and the room that it has left
 pub record Opened : Type 0 where
   pub state : CoreState
   pub spare : ℕ

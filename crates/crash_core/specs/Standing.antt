@@ -32,15 +32,17 @@ use Rattle.seat_state.specs.Notes.{HasNotes, HasCaches, HasBatch}
 abbrev pub place_for : ℕ → BlockOwner → BlockPlace
 place_for i o = cond (nat_eq o.seat i) o.place place.Nowhere
 
--- how often a block that is there is held, in a cache, in the batch
+-- how often a block that is there is held
 abbrev pub held_in : BlockPlace → ℕ
 held_in place.Held = 1
 held_in p = 0
 
+-- how often it is in a cache
 abbrev pub cached_in : BlockPlace → ℕ
 cached_in place.Cached = 1
 cached_in p = 0
 
+-- how often it is in the batch
 abbrev pub batched_in : BlockPlace → ℕ
 batched_in place.Batched = 1
 batched_in p = 0
@@ -143,17 +145,20 @@ pub record HasNewOwner (old new : List BlockOwner) (blocks : List ℕ) (owner : 
 abbrev pub owner_after : ℕ → ℕ → ℕ → ℕ
 owner_after from to owner = cond (nat_eq owner from) to owner
 
+-- a small block, once the one gives all that it has to the other
 abbrev pub block_given : ℕ → ℕ → BlockOwner → BlockOwner
 block_given from to o = record o { seat = owner_after from to o.seat }
 
+-- a superblock, once it does
 abbrev pub superblock_given : ℕ → ℕ → SuperblockOwner → SuperblockOwner
 superblock_given from to o = record o { seat = owner_after from to o.seat }
 
--- a small block is held, and a large one
+-- a small block is held
 pub record OwnsSmall (c : CoreState) (j : ℕ) : Type 0 where
   pub block : ℕ
   pub held : 0 < held_in (place_for j (get_or c.blocks.items block no_block))
 
+-- a large block is held
 pub record OwnsLarge (c : CoreState) (j : ℕ) : Type 0 where
   pub first : ℕ
   pub some : 0 < count_in (usage_for j (get_or c.superblocks.items first no_superblock))
@@ -209,11 +214,12 @@ abbrev pub Follows : CoreState → ℕ → Event → StepAnswer → CoreState �
 Follows old i event answer new = (k : Setup) (s : TableState) → Represents old k s
     → (next : TableState) × StepsTo k s i event answer next × Represents new k next
 
--- the same of a block that a seat offers, and of a carrier that it accepts
+-- the same of a block that a seat offers
 abbrev pub Offers : CoreState → ℕ → ℕ → StepAnswer → CoreState → Type 0
 Offers old i block answer new = (k : Setup) (s : TableState) → Represents old k s
     → (next : TableState) × OffersTo s i block answer next × Represents new k next
 
+-- the same of a carrier that a seat accepts
 abbrev pub Accepts : CoreState → ℕ → ℕ → StepAnswer → CoreState → Type 0
 Accepts old i j answer new = (k : Setup) (s : TableState) → Represents old k s
     → (next : TableState) × AcceptsTo s i j answer next × Represents new k next
@@ -244,6 +250,7 @@ pub record IsMoved (old new : CoreState) (views : List View) (i : ℕ) (t : Seat
   pub others : (j : ℕ) (s : SeatNotes) (u : View) → j ≢ i → IsAmong views j u
       → IsKept old j s u → IsKept new j s u
 
+-- a seat's view becomes what the change makes of it, in each state that the core stands for
 abbrev pub Moves : CoreState → ℕ → (Memory → View → View) → CoreState → Type 0
 Moves old i change new = (k : Setup) (views : List View) (v : View) (t : SeatNotes) → KeepsViews old k views → i < length views
     → get_or views i v ≡ v → IsSeatAt old i t

@@ -171,6 +171,7 @@ no_chain (x ∷ y ∷ chain) is =
 unfoldable pub large_with : ℕ → ℕ → Image
 large_with head link = formatted 2 ((8, 2) ∷ (16, head) ∷ (1064, 767) ∷ (1066, link) ∷ [])
 
+-- that block
 abbrev pub the_large : Block
 the_large = record { first_word = 1080; words = 16384 }
 

@@ -13,6 +13,7 @@ pub record Layout : Type 0 where
   pub used : ℕ
   pub info : ℕ → ℕ
 
+-- the layout of an image: what its header and its infos say
 abbrev pub layout_of : Image → Layout
 layout_of image = record { capacity = capacity_of image; used = used_of image; info = λ d. image (info_word d) }
 
@@ -44,6 +45,7 @@ pub record NamesIn (l : Layout) (offset : ℕ) (b : Block) : Type 0 where
   pub begins_at : offset ≡ 8 * b.first_word
   pub block : IsBlock l b
 
+-- the same of an image
 abbrev pub Names : Image → ℕ → Block → Type 0
 Names image = NamesIn (layout_of image)
 

@@ -7,10 +7,11 @@ pub use Rattle.heap_model.specs.Sizes.{lists, superblock_words}
 abbrev pub magic : ℕ
 magic = 0x52414C4C4F433031
 
--- the version of the format, and the one before it, which has no kinds of roots
+-- the version of the format
 abbrev pub version : ℕ
 version = 2
 
+-- the version before it, which has no kinds of roots
 abbrev pub old_version : ℕ
 old_version = 1
 
@@ -18,6 +19,7 @@ old_version = 1
 unfoldable pub largest_capacity : ℕ
 largest_capacity = 4096
 
+-- the one bound on it from above
 pub largest_capacity_fits : largest_capacity ≤ 4096
 unfolding largest_capacity
 largest_capacity_fits = omega arith
@@ -26,27 +28,32 @@ largest_capacity_fits = omega arith
 abbrev pub largest_old_capacity : ℕ
 largest_old_capacity = 256
 
+-- the other bound: each capacity of the old version is one of the new
 pub old_capacities_fit : largest_old_capacity ≤ largest_capacity
 unfolding largest_capacity
 old_capacities_fit = omega arith
 
--- the state word of an image that was closed, and of one that was not
+-- the state word of an image that was closed
 abbrev pub clean : ℕ
 clean = 1
 
+-- the state word of an image that was not closed
 abbrev pub dirty : ℕ
 dirty = 2
 
--- the header's words
+-- the header's words: the magic number
 abbrev pub magic_word : ℕ
 magic_word = 0
 
+-- the version of the format
 abbrev pub version_word : ℕ
 version_word = 1
 
+-- how many superblocks the image has
 abbrev pub capacity_word : ℕ
 capacity_word = 2
 
+-- whether the image was closed
 abbrev pub state_word : ℕ
 state_word = 3
 
@@ -62,10 +69,11 @@ line_words = 8
 abbrev pub head_word : ℕ → ℕ
 head_word list = 16 + list
 
--- how many roots there are, and the word of root i
+-- how many roots there are
 abbrev pub roots : ℕ
 roots = 1024
 
+-- the word of root i
 abbrev pub root_word : ℕ → ℕ
 root_word i = 40 + i
 
@@ -73,13 +81,15 @@ root_word i = 40 + i
 abbrev pub fixed_words : ℕ
 fixed_words = 1064
 
--- the descriptor of superblock d, one line: what it holds, its anchor, and its link in a list
+-- the descriptor of superblock d is one line: its first word says what the superblock holds
 abbrev pub info_word : ℕ → ℕ
 info_word d = 1064 + 8 * d
 
+-- the second is its anchor
 abbrev pub anchor_word : ℕ → ℕ
 anchor_word d = 1065 + 8 * d
 
+-- the third is its link in a list
 abbrev pub link_word : ℕ → ℕ
 link_word d = 1066 + 8 * d
 

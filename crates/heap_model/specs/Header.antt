@@ -6,12 +6,15 @@ use Rattle.heap_model.specs.declared.header.BadHeader.TheVariants.{Short, Magic,
 use Rattle.heap_model.specs.Geometry.{magic, version, old_version, largest_capacity, largest_old_capacity, roots, kind_word, old_image_words, clean, dirty, magic_word, version_word, capacity_word, state_word, used_word, fixed_words, image_words}
 use Rattle.heap_model.specs.Image.{Image}
 
+-- how many superblocks the image has
 abbrev pub capacity_of : Image → ℕ
 capacity_of image = image capacity_word
 
+-- whether it was closed
 abbrev pub state_of : Image → ℕ
 state_of image = image state_word
 
+-- its high-water mark: how many superblocks have been taken
 abbrev pub used_of : Image → ℕ
 used_of image = image used_word
 
@@ -19,10 +22,11 @@ used_of image = image used_word
 abbrev pub is_old : Image → Bool
 is_old image = nat_eq (image version_word) old_version
 
--- the greatest capacity, and the words of a whole image, by its version
+-- the greatest capacity by the image's version
 abbrev pub most_superblocks : Image → ℕ
 most_superblocks image = cond (is_old image) largest_old_capacity largest_capacity
 
+-- the words of a whole image by its version
 abbrev pub whole_words : Image → ℕ
 whole_words image = cond (is_old image) (old_image_words (capacity_of image)) (image_words (capacity_of image))
 

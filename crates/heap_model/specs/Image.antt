@@ -3,6 +3,7 @@
 use Rattle.std.specs.Prelude.{ℕ, zero, suc, ◌+◌, ◌*◌, List, [], ◌∷◌, cond, nat_lt, drop, flat_map, slice_index}
 use Rattle.byteorder.specs.Endian.{little_number, little_bytes}
 
+-- the word at each index
 abbrev pub Image : Type 0
 Image = ℕ → ℕ
 

@@ -44,10 +44,11 @@ pub record LinkLeads (image : Image) (links : Links) (a : Block) (from : ℕ) (b
 abbrev pub ReachFrom : Image → (ℕ → Type 0) → (ℕ → ℕ) → Links → Block → ℕ → Type 0
 ReachFrom image chosen kinds links = Closure (RootLeads image chosen kinds) (LinkLeads image links)
 
--- all roots together do
+-- each root is chosen
 abbrev pub AnyRoot : ℕ → Type 0
 AnyRoot root = Unit {0}
 
+-- all roots together, and the links from there, reach the block as one of the kind
 abbrev pub Reach : Image → (ℕ → ℕ) → Links → Block → ℕ → Type 0
 Reach image = ReachFrom image AnyRoot
 
@@ -58,6 +59,7 @@ pub data IsTracedFrom (image : Image) (chosen : ℕ → Type 0) (kinds : ℕ →
       → Contains (links from (words_in image a)) (position, kind)
       → at ≡ a.first_word + position → IsTracedFrom image chosen kinds links at
 
+-- the same from all roots together
 abbrev pub IsTraced : Image → (ℕ → ℕ) → Links → ℕ → Type 0
 IsTraced image = IsTracedFrom image AnyRoot
 
@@ -89,8 +91,10 @@ pub record IsClosed (image : Image) (kinds : ℕ → ℕ) (links : Links) (has :
 abbrev pub ReachIn : Image → Links → Block → ℕ → Type 0
 ReachIn image links = Reach image (kinds_of image) links
 
+-- the same of a block that is reached as one of some kind
 abbrev pub IsReachedIn : Image → Links → Block → Type 0
 IsReachedIn image links = IsReached image (kinds_of image) links
 
+-- the same of a word that leads outside
 abbrev pub IsOutsideIn : Image → Links → ℕ → Type 0
 IsOutsideIn image links = IsOutside image (kinds_of image) links

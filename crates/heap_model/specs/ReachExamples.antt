@@ -54,9 +54,11 @@ table_and_node = formatted 2 ((8, 2) ∷ (1064, 12) ∷ (1072, 2) ∷ (40, 0x525
 abbrev pub table_links : Links
 table_links kind words = cond (nat_eq kind 1) ((0, 2) ∷ []) []
 
+-- the table: block 0 of superblock 0
 abbrev pub table : Block
 table = record { first_word = 1080; words = 128 }
 
+-- the node: block 0 of superblock 1
 abbrev pub node : Block
 node = record { first_word = 9272; words = 4 }
 

@@ -19,10 +19,11 @@ pub record IsClass (class : ℕ) : Type 0 where
   pub some : 1 ≤ class
   pub last : class ≤ last_class
 
--- the bytes, and the words, of a block of the class
+-- the bytes of a block of the class
 unfoldable pub size_of : ℕ → ℕ
 size_of class = slice_index class_sizes class
 
+-- the words of a block of the class
 unfoldable pub words_of_class : ℕ → ℕ
 words_of_class class = slice_index class_sizes class / 8
 

@@ -13,13 +13,15 @@ large_count info = info / 256
 abbrev pub is_large_info : ℕ → Bool
 is_large_info info = nat_le (large_info 1) info && (info % 256 == large_info 0)
 
--- the states of an anchor: all blocks of the superblock are free; some are; none is
+-- the states of an anchor: all blocks of the superblock are free
 abbrev pub empty_state : ℕ
 empty_state = 0
 
+-- some blocks of the superblock are free
 abbrev pub partial_state : ℕ
 partial_state = 1
 
+-- no block of the superblock is free
 abbrev pub full_state : ℕ
 full_state = 2
 
@@ -27,12 +29,15 @@ full_state = 2
 abbrev pub anchor_of : ℕ → ℕ → ℕ → ℕ
 anchor_of state first count = state + 4 * first + 8589934592 * count
 
+-- the state in an anchor
 abbrev pub anchor_state : ℕ → ℕ
 anchor_state word = word % 4
 
+-- the index of the first free block in an anchor
 abbrev pub anchor_first : ℕ → ℕ
 anchor_first word = word / 4 % 2147483648
 
+-- how many free blocks an anchor counts
 abbrev pub anchor_count : ℕ → ℕ
 anchor_count word = word / 8589934592
 
@@ -45,8 +50,10 @@ full_anchor = 2
 abbrev pub head_of : ℕ → ℕ → ℕ
 head_of first pops = first + 16777216 * pops
 
+-- the first descriptor of a list in its head: its index plus 1, or 0
 abbrev pub head_first : ℕ → ℕ
 head_first word = word % 16777216
 
+-- how often a list was popped, from its head
 abbrev pub head_pops : ℕ → ℕ
 head_pops word = word / 16777216

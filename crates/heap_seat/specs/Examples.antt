@@ -96,6 +96,7 @@ seat_with look next = record {
   head_look = λ list. record { seen = 0; ticket = None; taken = 0 };
 }
 
+-- a look by ticket 7
 abbrev pub look_with : ℕ → ℕ → Look
 look_with seen taken = record { seen = seen; ticket = Some 7; taken = taken }
 

@@ -9,13 +9,15 @@ use Rattle.heap_seat.specs.Handing.{Accepts, ComesWith, Contents, GoesWith, Offe
 use Rattle.heap_seat.specs.View.{View}
 use Rattle.heap_seat.specs.Words.{IsDurable, IsOwn, in_block, in_root}
 
--- a block of 2 words, which goes from seat to seat, its neighbour, which stays, and a third block
+-- a block of 2 words, which goes from seat to seat
 abbrev sent : Block
 sent = record { first_word = 1000; words = 2 }
 
+-- its neighbour, which stays
 abbrev other : Block
 other = record { first_word = 1002; words = 2 }
 
+-- a third block
 abbrev third : Block
 third = record { first_word = 1004; words = 2 }
 
@@ -29,9 +31,11 @@ holding held next = record (seat_with (look_with 0 0) next) {
   pending = 1002 ∷ [];
 }
 
+-- the seat with the block that is sent
 abbrev with_it : ℕ → View
 with_it next = holding (sent ∷ other ∷ []) next
 
+-- the seat without it
 abbrev without_it : ℕ → View
 without_it next = holding (other ∷ []) next
 
@@ -92,13 +96,15 @@ goes_not = (
   λ offers. let e : 2 ∷ [] ≡ 3 ∷ [] = offers.blocks.roots in absurd (cc),
 )
 
--- nor where a word that is left is stored to, or what is kept of it is none of the two, or a pending write-back of it is lost
+-- a word that is left is stored to
 abbrev stores_other : View
 stores_other = record (without_it 8) { volatile = λ word. cond (nat_eq word 1002) (Some 8) (Some 9) }
 
+-- what is kept of it is none of the two
 abbrev keeps_neither : View
 keeps_neither = record (without_it 8) { durable = λ word. cond (nat_eq word 1002) (Some 8) (Some 5) }
 
+-- neither is an offer, nor one that loses a pending write-back of it
 stores_not : (Offers sent (with_it 7) stores_other → ⊥) × (Offers sent (with_it 7) keeps_neither → ⊥)
     × (Offers sent (with_it 7) (record (without_it 8) { pending = [] }) → ⊥)
 stores_not = (

@@ -7,6 +7,7 @@ use Rattle.heap_seat.specs.declared.look.Look.{Look}
 use Rattle.heap_seat.specs.declared.spot.Spot.{Spot}
 use Rattle.heap_seat.specs.declared.spot.Spot.TheVariants.{InBlock, Root}
 
+-- a seat, as its caller sees it
 pub record View : Type 0 where
   -- the blocks that are allocated, and the numbers of the roots that belong to the seat
   pub held : List Block

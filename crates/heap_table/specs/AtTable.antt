@@ -31,21 +31,24 @@ pub record IsAt (shared : SharedView) (table : TableId) (me : Me ℕ SeatViews) 
   pub setup : v.setup ≡ setup_for shared.opening
   pub has : HasSoundState v
 
--- what the event leaves of the word that it finds: the word itself; the next ticket; the greater of it and a value; in
--- each state that has the view, a new word, where it is the one that was seen, and a value
+-- the event leaves the word that it finds
 abbrev pub IsLook : Event → Type 0
 IsLook event = (m : Memory) (v : View) (found : ℕ) → left_there m v event found ≡ found
 
+-- it draws a ticket: it leaves the next one
 abbrev pub IsDraw : Event → Type 0
 IsDraw event = (v : View) → (place_of v event ≡ tickets) × ((m : Memory) (found : ℕ) → left_there m v event found ≡ found + 1)
 
+-- it leaves the greater of the word and a value
 abbrev pub IsRaise : Event → View → ℕ → Type 0
 IsRaise event v value = (m : Memory) (found : ℕ) → left_there m v event found ≡ max found value
 
+-- in each state that has the view it leaves a new word where it finds the one that was seen
 abbrev pub IsExchange : Event → View → ℕ → ℕ → Type 0
 IsExchange event v seen new = (s : HasSoundState v) (found : ℕ) → found ≡ found_by (memory_of v.setup.capacity s.words) v event
     → left_there (memory_of v.setup.capacity s.words) v event found ≡ cond (nat_eq found seen) new found
 
+-- in each state that has the view it leaves the value
 abbrev pub IsStore : Event → View → ℕ → Type 0
 IsStore event v value = (s : HasSoundState v) (found : ℕ) → left_there (memory_of v.setup.capacity s.words) v event found ≡ value
 

@@ -25,10 +25,11 @@ pub record HasSoundState (v : View) : Type 0 where
   pub below : seat < length views
   pub at : get_or views seat v ≡ v
 
--- that state, and one with other words in which the seat has another view
+-- that state
 abbrev pub state_before : {v : View} → HasSoundState v → TableState
 state_before s = record { words = s.words; views = s.views }
 
+-- one with other words, in which the seat has another view
 abbrev pub state_with : {v : View} → HasSoundState v → List ℕ → View → TableState
 state_with s words w = record { words = words; views = set s.views s.seat w }
 

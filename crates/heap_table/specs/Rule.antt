@@ -21,6 +21,7 @@ pub record Opening : Type 0 where
   pub seats : ℕ
   pub budget : ℕ
 
+-- the heap, opened for these owners
 abbrev pub opening_of : Contents → OwnerLists → ℕ → ℕ → Opening
 opening_of heap owners seats budget = record {
   words = heap.words;
@@ -31,6 +32,7 @@ opening_of heap owners seats budget = record {
   budget = budget;
 }
 
+-- the setup that its seats have
 abbrev pub setup_for : Opening → Setup
 setup_for o = setup_of o.words o.budget o.seats
 

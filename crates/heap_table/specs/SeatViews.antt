@@ -26,11 +26,12 @@ nobody = plain_view (setup_of [] 0 0) [] []
 abbrev pub view_in : SeatViews → View
 view_in group = get_or group 0 nobody
 
--- what goes to a new seat of the table, and what stays
+-- what goes to a new seat of the table
 abbrev pub first_view : SeatViews → SeatViews
 first_view [] = []
 first_view (v ∷ group) = v ∷ []
 
+-- what stays
 abbrev pub other_views : SeatViews → SeatViews
 other_views [] = []
 other_views (v ∷ group) = group
@@ -39,12 +40,14 @@ other_views (v ∷ group) = group
 abbrev pub joined_views : SeatViews → SeatViews → SeatViews
 joined_views mine theirs = theirs ++ mine
 
--- a seat that offers a block, and the carrier of it
+-- a block without words
 abbrev pub no_block : Block
 no_block = record { first_word = 0; words = 0 }
 
+-- the seat once it offered the block
 abbrev pub left_by_offer : Block → SeatViews → SeatViews
 left_by_offer b group = offered (view_in group) b.first_word ∷ []
 
+-- the carrier of that block
 abbrev pub made_by_offer : Block → SeatViews → SeatViews
 made_by_offer b group = carrier_of (view_in group) b.first_word ∷ []

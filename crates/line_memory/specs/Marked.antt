@@ -69,5 +69,6 @@ marked_from-none from [] clear = refl
 marked_from-none from (true ∷ marks) clear = let e = clear 0 in absurd (cc)
 marked_from-none from (false ∷ marks) clear = marked_from-none (from + 1) marks (λ k. clear (suc k))
 
+-- nor has a list of marks without one
 pub marked_words-none : (marks : List Bool) → ((k : ℕ) → get_or marks k false ≡ false) → marked_words marks ≡ []
 marked_words-none marks clear = marked_from-none 0 marks clear

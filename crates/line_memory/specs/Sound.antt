@@ -21,6 +21,7 @@ one_more : (stopped : Option ℕ) (allowed t : ℕ) → allowed ≡ t → stoppe
 one_more None allowed t a e = absurd (cc)
 one_more (Some s) allowed t a e = omega arith
 
+-- each memory is sound
 pub lines_sound : (l : Lines) → IsSound (lines_view l)
 lines_sound l =
     record {

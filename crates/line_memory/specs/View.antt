@@ -1,6 +1,7 @@
 -- What contracts see of a memory: two values of each word, and what is still open.
 use Rattle.std.specs.Prelude.{◌≡◌, ℕ, ◌+◌, ◌*◌, ◌/◌, ◌<◌, ◌≤◌, List, [], length, slice_index, Contains, None, Some, Option}
 
+-- a memory, as its caller sees it
 pub record View : Type 0 where
   -- what loads see, one value a word
   pub volatile : List ℕ

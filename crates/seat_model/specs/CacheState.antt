@@ -24,6 +24,7 @@ IsBetweenCalls v = v.stopped ≡ None → IsIdle v × HasShortCaches v
 abbrev pub HasCounts : ℕ → ℕ → ℕ → View → Type 0
 HasCounts small large refusals v = (small + large ≤ next_of v) × (refusals ≤ large)
 
+-- a thread's cache: its seat of the table, pending write-backs, last stores and counts
 pub record CacheState : Type 0 where
   pub table : TableId
   pub view : View
@@ -44,15 +45,17 @@ pub record CacheValue (C : Type 0) : Type 0 where
   pub state : CacheState
   pub chance : C
 
--- the blocks of a class by their first words, and those of all classes from one on
+-- the blocks of so many words that begin at the words
 abbrev pub blocks_of_words : ℕ → List ℕ → List Block
 blocks_of_words words [] = []
 blocks_of_words words (b ∷ bs) = record { first_word = b; words = words } ∷ blocks_of_words words bs
 
+-- the blocks of all classes from one on
 abbrev pub small_blocks : ℕ → List (List ℕ) → List Block
 small_blocks class [] = []
 small_blocks class (bs ∷ lists) = blocks_of_words (words_of_class class) bs ++ small_blocks (class + 1) lists
 
+-- the large blocks, by the superblocks that they take
 abbrev pub large_blocks : ℕ → List Span → List Block
 large_blocks capacity [] = []
 large_blocks capacity (span ∷ spans) = record {
@@ -60,6 +63,7 @@ large_blocks capacity (span ∷ spans) = record {
   words = superblock_words * span.count;
 } ∷ large_blocks capacity spans
 
+-- all blocks that the view holds
 abbrev pub held_blocks : View → List Block
 held_blocks v = small_blocks 0 v.small ++ large_blocks v.setup.capacity v.large
 
@@ -67,6 +71,7 @@ held_blocks v = small_blocks 0 v.small ++ large_blocks v.setup.capacity v.large
 abbrev pub opened_kinds : Setup → List ℕ
 opened_kinds k = words_from (slice_index k.opened) (kind_word k.capacity 0) roots
 
+-- a look, as callers see it
 abbrev pub look_of : LastLook → Look
 look_of look = record { seen = look.word; ticket = look.ticket; taken = look.taken }
 
@@ -78,6 +83,7 @@ pub record CallCounts : Type 0 where
   pub refused_bytes : ℕ
   pub refused_looks : Looks
 
+-- what callers see of a seat with this view, these pending words and these counts
 abbrev pub heap_view_of : View → List Bool → CallCounts → HeapView
 heap_view_of v marks counts = record {
   held = held_blocks v;
@@ -100,6 +106,7 @@ heap_view_of v marks counts = record {
   head_look = λ list. look_of (get_or v.head_looks list v.used_look);
 }
 
+-- those of a cache
 abbrev pub counts_of : CacheState → CallCounts
 counts_of s = record {
   small_calls = s.small_calls;
@@ -109,6 +116,7 @@ counts_of s = record {
   refused_looks = s.refused_looks;
 }
 
+-- what callers see of a cache
 abbrev pub heap_view : CacheState → HeapView
 heap_view s = heap_view_of s.view s.marks (counts_of s)
 

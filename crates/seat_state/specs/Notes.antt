@@ -8,6 +8,7 @@ use Rattle.seat_state.specs.declared.notes.SeatNotes.{SeatNotes}
 use Rattle.core_model.specs.View.{View, Batch, Snapshot, of_class}
 use Rattle.core_model.specs.Effects.{first_of, last_of}
 
+-- a word that was seen, as the model has it
 abbrev pub snapshot : Option Seen → Option Snapshot
 snapshot None = None
 snapshot (Some s) = Some (record { of = s.of; word = s.word })
@@ -28,6 +29,7 @@ pub record HasCaches (kept : List Cache) (caches : List (List ℕ)) : Type 0 whe
       → first_of (of_class caches class) ≡ c.first
   pub count : (class : ℕ) (c : Cache) → get_or kept class c ≡ c → class < lists → length (of_class caches class) ≡ c.count
 
+-- what its batch is of, where it begins and ends, and how long it is
 pub record HasBatch (kept : BatchEnds) (batch : Batch) : Type 0 where
   pub descriptor : batch.descriptor ≡ kept.descriptor
   pub class : batch.class ≡ kept.class

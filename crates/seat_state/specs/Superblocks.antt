@@ -11,32 +11,37 @@ use Rattle.core_model.specs.Effects.{claim_class, span_count}
 abbrev pub usage_for : ℕ → SuperblockOwner → SuperblockUsage
 usage_for i o = cond (nat_eq o.seat i) o.usage usage.Nothing
 
--- how often a superblock of which a seat has this is claimed: without a class, since a split, being cut, and with a class; and with which class
+-- how often a superblock of which a seat has this is claimed without a class, and is no part of a split
 abbrev pub raw_in : SuperblockUsage → ℕ
 raw_in usage.Raw = 1
 raw_in x = 0
 
+-- how often it is claimed since a split
 abbrev pub split_in : SuperblockUsage → ℕ
 split_in usage.Split = 1
 split_in x = 0
 
+-- how often it is claimed and being cut
 abbrev pub cutting_in : SuperblockUsage → ℕ
 cutting_in usage.Cutting = 1
 cutting_in x = 0
 
+-- how often it is claimed with a class
 abbrev pub classed_in : SuperblockUsage → ℕ
 classed_in (usage.Classed class) = 1
 classed_in x = 0
 
+-- the class that it is claimed with; 0 of none
 abbrev pub class_in : SuperblockUsage → ℕ
 class_in (usage.Classed class) = class
 class_in x = 0
 
--- how often a large block takes it, and how many superblocks the one that begins there takes
+-- how often a large block takes it
 abbrev pub large_in : SuperblockUsage → ℕ
 large_in (usage.Large count) = 1
 large_in x = 0
 
+-- how many superblocks the large block takes that begins there
 abbrev pub count_in : SuperblockUsage → ℕ
 count_in (usage.Large count) = count
 count_in x = 0
@@ -51,6 +56,7 @@ abbrev pub anchored : ℕ → SuperblockUsage
 anchored zero = usage.Raw
 anchored (suc n) = usage.Cutting
 
+-- a superblock of which no seat has anything
 abbrev pub no_superblock : SuperblockOwner
 no_superblock = record { seat = 0; usage = usage.Nothing }
 
