@@ -58,10 +58,6 @@ one_out : (w s i : ℕ) → (s ≤ i → i < s + 8 → ⊥) → is_one (bit_or w
 one_out w s i out = ap (λ b. nat_eq b 1) (let e : bit_at (bit_or w (255 * 2 ^ s)) i ≡ bit_at w i =
     omega (arith, bit_at_or w (255 * 2 ^ s) i, mask_out s i out) in e)
 
--- a number that has a mark is below the length
-pub eight_below : (words : List ℕ) (below n : ℕ) (marks : List Bool) → marks_of words below ≡ marks → n < length marks → n < below
-eight_below words below n marks is less = number_below words below n marks is less
-
 pub eight_there : (words : List ℕ) (below eight : ℕ) (marks : List Bool) → marks_of words below ≡ marks → 8 * eight < length marks
     → below ≤ 64 * length words → eight / 8 < length words
 eight_there words below eight marks is less room = let b = number_below words below (8 * eight) marks is less in omega arith

@@ -54,6 +54,7 @@ none_marked words from (suc n) none = ap₂ (λ x l. x ∷ l) (ap (λ w. is_one 
 pub mark_of_at : (words : List ℕ) (length' n : ℕ) → n < length' → get_or (marks_of words length') n false ≡ mark_in words n
 mark_of_at words length' n less = mark_at words 0 length' n less ∙ ap (mark_in words) (let e : 0 + n ≡ n = omega arith in e)
 
+-- a number that has a mark is below the length
 pub number_below : (words : List ℕ) (length' n : ℕ) (marks : List Bool) → marks_of words length' ≡ marks → n < length marks → n < length'
 number_below words length' n marks is less = let l = length_marks words 0 length' in let k = ap length is in omega arith
 

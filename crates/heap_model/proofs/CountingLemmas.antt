@@ -1,5 +1,5 @@
 -- Facts on sums over a list, and on how often a number stands in one: nowhere, somewhere, or once in a list that ascends.
-use Rattle.std.proofs.Common.{◌≡◌, ℕ, ◌+◌, ◌<◌, inl, inr, Bool, true, false, nat_eq, List, [], ◌∷◌, get_or, Contains, refl, ap, sym, subst, ◌∙◌, arith}
+use Rattle.std.proofs.Common.{◌≡◌, ℕ, ◌+◌, ◌<◌, inl, inr, Bool, true, false, nat_eq, List, [], ◌∷◌, get_or, Contains, refl, ap, sym, subst, ◌∙◌, arith, ◌++◌}
 use Rattle.std.specs.Prelude.{AllPairs}
 use Rattle.std.proofs.lemmas.Bool.{cases_lt, eqb-true, eq-eqb, agree_below_at}
 use Rattle.std.proofs.lemmas.List.{get_or_default}
@@ -17,6 +17,11 @@ total_none of (x ∷ xs) none =
     omega arith
 
 -- a sum that is not 0 has a member that is not
+-- the sum over two lists
+pub total_append : {X : Type 0} (of : X → ℕ) (xs ys : List X) → total of (xs ++ ys) ≡ total of xs + total of ys
+total_append of [] ys = omega arith
+total_append of (x ∷ xs) ys = let rest = total_append of xs ys in omega arith
+
 pub total_some : {X : Type 0} (of : X → ℕ) (xs : List X) → 0 < total of xs → (x : X) × Contains xs x × (0 < of x)
 total_some of [] some = absurd (omega arith)
 total_some of (x ∷ xs) some = elim (cases_lt 0 (of x)) [

@@ -1,12 +1,13 @@
 -- What can be decided of a layout: whether a superblock begins blocks, and whether something is a block.
 use Rattle.std.proofs.Common.{◌≡◌, ℕ, zero, suc, ◌+◌, ◌-◌, ◌*◌, ◌/◌, ◌<◌, ◌≤◌, ◌⊎◌, inl, inr, refl, ap, sym, subst, ◌∙◌, arith}
 use Rattle.std.proofs.lemmas.Bool.{cases_eq, cases_lt}
+use Rattle.std.proofs.Math.Logic.{∥∥₁_elim}
 use Rattle.heap_model.specs.declared.block.Block.{Block}
 use Rattle.heap_model.specs.Geometry.{start_word, superblock_words}
 use Rattle.heap_model.specs.Sizes.{IsClass, words_of_class, blocks_of}
-use Rattle.heap_model.specs.Blocks.{Layout, Begins, of_class, as_large, IsBlock}
+use Rattle.heap_model.specs.Blocks.{Layout, Begins, of_class, as_large, IsBlock, AreOneOrApart}
 use Rattle.heap_model.proofs.BlockLemmas.{block_begins, block_inside, same_begins}
-use Rattle.heap_model.proofs.PartLemmas.{cases_class}
+use Rattle.heap_model.proofs.PartLemmas.{cases_class, same_fields}
 
 -- whether one number is at most the other
 pub at_most : (a b : ℕ) → (a ≤ b) ⊎ (a ≤ b → ⊥)
@@ -17,6 +18,26 @@ pub both : {A B : Type 0} → A ⊎ (A → ⊥) → B ⊎ (B → ⊥) → (A × 
 both (inl a) (inl b) = inl (a, b)
 both (inl a) (inr not) = inr (λ p. not p.1)
 both (inr not) b = inr (λ p. not p.0)
+
+pub either : {A B : Type 0} → A ⊎ (A → ⊥) → B ⊎ (B → ⊥) → (A ⊎ B) ⊎ (A ⊎ B → ⊥)
+either (inl a) b = inl (inl a)
+either (inr not) (inl b) = inl (inr b)
+either (inr not) (inr neither) = inr (λ p. elim p as (λ _. ⊥) [ inl a ↦ not a | inr b ↦ neither b ])
+
+-- a fact that can be decided follows from what there is some proof of
+pub decided : {A B : Type 0} → A ⊎ (A → ⊥) → (B → A) → ∥ B ∥₁ → A
+decided (inl is) gives lasts = is
+decided (inr not) gives lasts = absurd (∥∥₁_elim lasts (λ a b. absurd a) (λ b. not (gives b)))
+
+-- whether blocks are one or apart
+pub one_or_apart : (a b : Block) → AreOneOrApart a b ⊎ (AreOneOrApart a b → ⊥)
+one_or_apart a b = either same
+    (either (at_most (a.first_word + a.words) b.first_word) (at_most (b.first_word + b.words) a.first_word)) where
+      same : (a ≡ b) ⊎ (a ≡ b → ⊥)
+      same = elim (both (cases_eq a.first_word b.first_word) (cases_eq a.words b.words)) [
+        | inl fields ↦ inl (same_fields a b fields.0 fields.1)
+        | inr not ↦ inr (λ e. not (ap (λ (x : Block). x.first_word) e, ap (λ (x : Block). x.words) e))
+      ]
 
 -- whether a number is one of so many steps from a start
 is_step : (start words x count : ℕ) → ((i : ℕ) × (i < count) × (x ≡ start + i * words)) ⊎ ((i : ℕ) → i < count → x ≡ start + i * words → ⊥)

@@ -4,12 +4,7 @@ use Rattle.std.specs.Prelude.{◌≡◌, ℕ, ◌+◌, ◌*◌, ◌<◌, ◌≤�
 use Rattle.heap_model.specs.declared.block.Block.{Block}
 use Rattle.heap_model.specs.Geometry.{start_word}
 use Rattle.heap_model.specs.Sizes.{IsClass, words_of_class, blocks_of}
-use Rattle.heap_model.specs.Blocks.{Layout, IsBlock}
-
--- a block that is not kept
-pub record IsUnkept (l : Layout) (kept : Block → Type 0) (b : Block) : Type 0 where
-  pub block : IsBlock l b
-  pub unkept : kept b → ⊥
+use Rattle.heap_model.specs.Blocks.{Layout}
 
 -- the block has a word in superblock d
 pub record HasPartIn (capacity : ℕ) (b : Block) (d : ℕ) : Type 0 where

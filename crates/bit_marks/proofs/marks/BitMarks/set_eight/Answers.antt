@@ -1,6 +1,6 @@
 use Rattle.std.proofs.Common.{◌*◌, ◌/◌, ◌%◌, ◌^◌, List, Bool, length, get_or, false, ap, ◌∙◌, arith}
-use Rattle.bit_marks.proofs.MarkLemmas.{word_is}
-use Rattle.bit_marks.proofs.EightLemmas.{eight_there, eight_long, eight_inside, eight_others, eight_below, mask_fits}
+use Rattle.bit_marks.proofs.MarkLemmas.{number_below, word_is}
+use Rattle.bit_marks.proofs.EightLemmas.{eight_there, eight_long, eight_inside, eight_others, mask_fits}
 use Rattle.bit_marks.proofs.marks.BitMarks.set_eight.Goals as goal
 
 pub index-requires : goal.index-requires
@@ -25,7 +25,7 @@ returns-clause-inside c = λ n less here. eight_inside c.self.inside.words.items
     c.args.self.now c.self.view_is c.requires c.self.invariant) (mask_fits (c.args.eight % 8) (omega arith))
     (word_is c.self.inside.words.items (c.args.eight / 8) c.index.result.now
     (eight_there c.self.inside.words.items c.self.inside.below c.args.eight c.args.self.now c.self.view_is c.requires c.self.invariant)
-    c.index.ensures) n (eight_below c.self.inside.words.items c.self.inside.below n c.args.self.now c.self.view_is less) here
+    c.index.ensures) n (number_below c.self.inside.words.items c.self.inside.below n c.args.self.now c.self.view_is less) here
 
 pub returns-clause-others : goal.returns-clause-others
 returns-clause-others c = λ n other. eight_others c.self.inside.words.items c.self.inside.below c.args.eight c.index.result.now
