@@ -1,4 +1,5 @@
 pub mod Orderly
 pub mod Agreement
 pub mod OrderlyExamples
+pub mod AgreementExamples
 pub mod Draining
