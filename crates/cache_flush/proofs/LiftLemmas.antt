@@ -11,14 +11,15 @@ use Rattle.line_memory.specs.declared.memory.Stopped.{Stopped}
 use Rattle.core_model.specs.declared.event.Event.TheVariants.{Load, Tick}
 use Rattle.core_model.specs.declared.event.Shift.TheVariants.{Lift}
 use Rattle.core_model.specs.Cells.{Cell, cell_at, data_cell}
-use Rattle.core_model.specs.Effects.{after_lift, drew, first_of, last_of, learn, rest_of, used_up}
+use Rattle.core_model.specs.Effects.{drew, first_of, last_of, learn, rest_of, used_up}
+use Rattle.core_model.specs.ViewAfter.{after_lift}
 use Rattle.core_model.specs.Guards.{IsOwn}
 use Rattle.core_model.specs.Memory.{memory_of, next}
 use Rattle.core_model.specs.View.{Batch, View, Setup, no_batch, of_class, times_block}
 use Rattle.core_model.proofs.OwnerLemmas.{in_lists_total}
 use Rattle.core_model.proofs.PlaceLemmas.{cell_at_index}
 use Rattle.core_model.proofs.BlockLemmas.{first_there}
-use Rattle.core_model.proofs.ShiftLemmas.{first_rest}
+use Rattle.core_model.proofs.ClassListLemmas.{first_rest}
 use Rattle.seat_state.proofs.EndLemmas.{last_append, last_there, rest_first}
 use Rattle.seat_state.proofs.BlockRanges.{in_classes_word}
 use Rattle.heap_rule.specs.Fences.{Owns}

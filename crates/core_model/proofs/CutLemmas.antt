@@ -8,7 +8,8 @@ use Rattle.heap_model.specs.Chains.{Walks}
 use Rattle.heap_model.specs.Counting.{times, total, one_if, without}
 use Rattle.core_model.specs.Memory.{Memory, used, durable_used, durable_info, anchor, info, next}
 use Rattle.core_model.specs.View.{Setup, View, of_class, times_raw, times_classed, times_large, times_block}
-use Rattle.core_model.specs.Effects.{class_blocks, first_of, cleared, after_cut}
+use Rattle.core_model.specs.Effects.{class_blocks, first_of, cleared}
+use Rattle.core_model.specs.ViewAfter.{after_cut}
 use Rattle.core_model.specs.Guards.{MayCut}
 use Rattle.core_model.specs.Sound.{CoreShape, Tally, tally_of, IsInShape, IsCutBlock, IsAnchoredBy, AreChained, HasBlocks, times_parked, times_cut, empties, Good}
 use Rattle.core_model.proofs.TotalLemmas.{total_set, total_same, total_at, eq-eqb-one, ne-eqb-none}
@@ -20,6 +21,7 @@ use Rattle.heap_model.proofs.ListLemmas.{without_less, one_at_most}
 use Rattle.core_model.proofs.BlockLemmas.{superblock_is, walks_first, full_anchored, of_class_same, of_class_other, total_lists, at_one, at_other}
 use Rattle.core_model.proofs.ShiftLemmas.{shift_step}
 use Rattle.core_model.proofs.SpanLemmas as spans
+use Rattle.core_model.proofs.RangeLemmas
 
 module _ (k : Setup) (m : Memory) (views : List View) (i : ℕ) (v : View) (below_i : i < length views) (at : get_or views i v ≡ v)
     (good : Good k m views) (d : ℕ) (may : MayCut m v d) (more_draws : v.cuts < v.draws) where
@@ -51,7 +53,7 @@ module _ (k : Setup) (m : Memory) (views : List View) (i : ℕ) (v : View) (belo
   fits = let c = seat.set_up.caches in let last = may.class.last in omega arith
 
   in_block : (b : ℕ) → 0 < times b bs → IsCutBlock k.capacity class d b × (superblock_of k.capacity b ≡ d)
-  in_block b some = let c = spans.block_of k.capacity class d b (let e = ap (times b) same_blocks in omega arith) in
+  in_block b some = let c = RangeLemmas.block_of k.capacity class d b (let e = ap (times b) same_blocks in omega arith) in
       (c, superblock_is k.capacity class d b may.class c)
 
   is_full : anchor m d ≡ full_anchor

@@ -13,7 +13,7 @@ use Rattle.core_model.proofs.CarrierLemmas.{join_good, one_set}
 use Rattle.core_model.proofs.OpenCountLemmas.{empty_at}
 use Rattle.core_model.proofs.OwnLemmas.{length_only}
 use Rattle.core_model.proofs.SpanLemmas as spans
-use Rattle.core_model.proofs.SplittingLemmas.{each_behind, total_behind}
+use Rattle.core_model.proofs.ChosenLemmas.{each_behind, total_behind}
 use Rattle.core_model.proofs.EventStepLemmas.{IsSeat, seat_at}
 use Rattle.core_model.proofs.TotalLemmas.{total_set, total_same}
 

@@ -9,9 +9,10 @@ use Rattle.core_model.specs.Memory.{Memory, write, volatile_at, durable_at}
 use Rattle.core_model.specs.View.{Setup, View}
 use Rattle.core_model.specs.Guards.{MayCut, MayAnchor, as_empty, as_full, MayChangeWord}
 use Rattle.core_model.specs.Carriers.{IsCarrier, IsEmptied, MayHand, AreOneLess, AreSeatsAndCarriers, offered, carrier_of, accepted, emptied}
-use Rattle.core_model.specs.Examples.{idle, memory, cached, behind}
+use Rattle.core_model.specs.Examples.{idle, memory}
+use Rattle.core_model.specs.HeldExamples.{cached, behind}
 use Rattle.core_model.specs.CarrierExamples.{two}
-use Rattle.core_model.proofs.CarrierLemmas.{carries_block}
+use Rattle.core_model.proofs.OfferLemmas.{carries_block}
 use Rattle.core_model.proofs.EmptiedLemmas.{empties_carrier}
 
 -- superblock 0 is made ready for class 20, below the durable mark: its four blocks lead along one another

@@ -5,7 +5,7 @@ use Rattle.heap_model.specs.Sizes.{words_of_class}
 use Rattle.core_model.specs.declared.answer.StepAnswer.TheVariants.{Done, Stopped, NotNow}
 use Rattle.core_model.specs.Carriers.{IsCarrier, accepted, carrier_of, emptied, offered}
 use Rattle.core_model.specs.CarrierExamples.{two}
-use Rattle.core_model.specs.Examples.{large}
+use Rattle.core_model.specs.HeldExamples.{large}
 use Rattle.core_model.specs.Handing.{MayOffer, MayAccept, OffersTo, AcceptsTo, is_offered, offers_not, offers_stopped, is_accepted, accepts_not, accepts_stopped}
 use Rattle.core_model.specs.Held.{a_small, a_large}
 use Rattle.core_model.specs.Steps.{TableState}

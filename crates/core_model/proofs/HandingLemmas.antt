@@ -6,7 +6,7 @@ use Rattle.core_model.specs.Carriers.{AreSeatsAndCarriers, offered}
 use Rattle.core_model.specs.Handing.{OffersTo, is_offered, offers_not, offers_stopped, AcceptsTo, is_accepted, accepts_not, accepts_stopped}
 use Rattle.core_model.specs.Steps.{TableState, IsSoundState}
 use Rattle.core_model.specs.View.{Setup, View}
-use Rattle.core_model.proofs.CarrierLemmas.{offer_sound, offers_one}
+use Rattle.core_model.proofs.OfferLemmas.{offer_sound, offers_one}
 use Rattle.core_model.proofs.EmptiedLemmas.{accept_counted, accept_sound}
 
 -- one view stands at an index

@@ -5,7 +5,8 @@ use Rattle.core_model.specs.declared.event.Event.{Event}
 use Rattle.core_model.specs.declared.event.Event.TheVariants.{Tick, Load, Store, Settle, LookUsed, TakeFresh, KeepUsed, LookHead, LookLink, Pop, Push, LookAnchor, TakeAll, Give}
 use Rattle.core_model.specs.Memory.{Memory, StepPlace, tickets, used, head, anchor, info, read, write}
 use Rattle.core_model.specs.View.{Setup, View, one_if_some, times_raw, times_classed, times_block}
-use Rattle.core_model.specs.Effects.{seen, seen_word, seen_of, before, place_of, taken_fresh, lost, drew, stopped, shifted, after_cut, after_alloc, after_free, after_lift, after_large, after_split, popped, popped_head, pushed, pushed_head, taken_all, given, batch_anchor, first_of}
+use Rattle.core_model.specs.Effects.{seen, seen_word, seen_of, before, place_of, taken_fresh, lost, drew, stopped, popped, popped_head, pushed, pushed_head, taken_all, given, batch_anchor, first_of}
+use Rattle.core_model.specs.ViewAfter.{shifted, after_cut, after_alloc, after_free, after_lift, after_large, after_split}
 use Rattle.heap_model.specs.Words.{head_first, full_anchor}
 use Rattle.heap_model.specs.Geometry.{superblock_of}
 use Rattle.core_model.specs.Cells.{cell_at}
@@ -19,7 +20,9 @@ use Rattle.core_model.specs.Sound.{tally_of, times_cut, Good}
 use Rattle.core_model.specs.Steps.{Keeps}
 use Rattle.core_model.proofs.MemoryLemmas.{write_read}
 use Rattle.core_model.proofs.QuietLemmas as quiet
+use Rattle.core_model.proofs.LookLemmas
 use Rattle.core_model.proofs.FreshLemmas as fresh
+use Rattle.core_model.proofs.KeepUsedLemmas
 use Rattle.core_model.proofs.PopLemmas as pop
 use Rattle.core_model.proofs.PushLemmas as push
 use Rattle.core_model.proofs.TakeAllLemmas as take_all
@@ -28,7 +31,9 @@ use Rattle.core_model.proofs.OwnStepLemmas as own
 use Rattle.core_model.proofs.StoreAnchorLemmas as store
 use Rattle.core_model.proofs.DrawLemmas as draws
 use Rattle.core_model.proofs.ShiftLemmas as shifts
+use Rattle.core_model.proofs.LiftLemmas
 use Rattle.core_model.proofs.SpanLemmas as spans
+use Rattle.core_model.proofs.SplitLargeLemmas
 use Rattle.core_model.proofs.CutLemmas as cuts
 use Rattle.heap_model.proofs.ListLemmas.{one_at_most}
 use Rattle.core_model.proofs.TotalLemmas.{total_at}
@@ -47,13 +52,13 @@ module _ (k : Setup) (m : Memory) (views : List View) (i : ℕ) (v : View) (belo
   reads p w kept = subst (λ n. Good k n (set views i w)) (sym (write_read m p)) kept
 
   pub kept_look_used : MayStep m v LookUsed → Keeps k m views i v LookUsed
-  kept_look_used may = reads (place_of v LookUsed) _ (quiet.look_used k m views i v below at good may.ticket)
+  kept_look_used may = reads (place_of v LookUsed) _ (LookLemmas.look_used k m views i v below at good may.ticket)
 
   pub kept_look_head : (list : ℕ) → MayStep m v (LookHead list) → Keeps k m views i v (LookHead list)
-  kept_look_head list may = reads (place_of v (LookHead list)) _ (quiet.look_head k m views i v below at good may.ticket list may.ready)
+  kept_look_head list may = reads (place_of v (LookHead list)) _ (LookLemmas.look_head k m views i v below at good may.ticket list may.ready)
 
   pub kept_look_anchor : (d : ℕ) → MayStep m v (LookAnchor d) → Keeps k m views i v (LookAnchor d)
-  kept_look_anchor d may = reads (place_of v (LookAnchor d)) _ (quiet.look_anchor k m views i v below at good may.ticket d may.ready)
+  kept_look_anchor d may = reads (place_of v (LookAnchor d)) _ (LookLemmas.look_anchor k m views i v below at good may.ticket d may.ready)
 
   pub kept_take_fresh : (n : ℕ) → MayStep m v (TakeFresh n) → Keeps k m views i v (TakeFresh n)
   kept_take_fresh n may = exchange (used m) (seen v.seen_used)
@@ -63,10 +68,10 @@ module _ (k : Setup) (m : Memory) (views : List View) (i : ℕ) (v : View) (belo
       (λ other. reads (place_of v (TakeFresh n)) _ (quiet.lost_used k m views i v below at good may.ticket (used m) may.ready.is_seen other))
 
   pub kept_keep_used : MayStep m v KeepUsed → Keeps k m views i v KeepUsed
-  kept_keep_used may = fresh.keep_used k m views i v below at good may.ticket may.ready
+  kept_keep_used may = KeepUsedLemmas.keep_used k m views i v below at good may.ticket may.ready
 
   pub kept_look_link : MayStep m v LookLink → Keeps k m views i v LookLink
-  kept_look_link may = reads (place_of v LookLink) _ (quiet.look_link k m views i v below at good may.ticket may.ready)
+  kept_look_link may = reads (place_of v LookLink) _ (LookLemmas.look_link k m views i v below at good may.ticket may.ready)
 
   pub kept_pop : MayStep m v Pop → Keeps k m views i v Pop
   kept_pop may = exchange (head m (seen_of v.seen_head)) (seen_word v.seen_head)
@@ -162,7 +167,7 @@ module _ (k : Setup) (m : Memory) (views : List View) (i : ℕ) (v : View) (belo
         (shifts.alloc k m1 views1 i v1 below1 at1 good1 class (record { is_class = may.is_class; cached = may.cached }))
     shift_kept (Some (Free block)) may = twice (after_free v1 (info m (superblock_of v.setup.capacity block)) block)
         (shifts.free k m1 views1 i v1 below1 at1 good1 block (record { is_class = may.is_class; held = may.held; linked = may.linked }))
-    shift_kept (Some (Lift class)) may = twice (after_lift v1 class) (shifts.lift k m1 views1 i v1 below1 at1 good1 class (record {
+    shift_kept (Some (Lift class)) may = twice (after_lift v1 class) (LiftLemmas.lift k m1 views1 i v1 below1 at1 good1 class (record {
       is_class = may.is_class;
       cached = may.cached;
       behind = λ some. let b = may.behind some in record { same = b.same; unchanged = b.unchanged; linked = b.linked };
@@ -178,7 +183,7 @@ module _ (k : Setup) (m : Memory) (views : List View) (i : ℕ) (v : View) (belo
           durable_infos = may.durable_infos;
         }))
     shift_kept (Some (Split block)) may = twice (after_split v1 (superblock_of v.setup.capacity block))
-        (spans.split_large k m1 views1 i v1 below1 at1 good1 block (record { held = may.held; first = may.first }))
+        (SplitLargeLemmas.split_large k m1 views1 i v1 below1 at1 good1 block (record { held = may.held; first = may.first }))
 
   pub kept_tick : (shift : Option Shift) → MayStep m v (Tick shift) → Keeps k m views i v (Tick shift)
   kept_tick shift may = elim (cases_lt m.drawn v.setup.budget) [

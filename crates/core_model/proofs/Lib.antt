@@ -2,26 +2,39 @@ pub mod TotalLemmas
 pub mod MemoryLemmas
 pub mod EventStepLemmas
 pub mod QuietLemmas
+pub mod LookLemmas
 pub mod FrameLemmas
 pub mod PlaceLemmas
 pub mod OwnLemmas
 pub mod FreshLemmas
+pub mod KeepUsedLemmas
 pub mod ListLemmas
+pub mod PopFreeLemmas
 pub mod PopLemmas
 pub mod CountLemmas
+pub mod PushRawLemmas
 pub mod PushLemmas
 pub mod BlockLemmas
 pub mod AnchorLemmas
 pub mod TakeAllLemmas
+pub mod GivenLemmas
 pub mod GiveLemmas
+pub mod WithinLemmas
 pub mod OwnerLemmas
 pub mod OwnStepLemmas
 pub mod LinkFrameLemmas
 pub mod StoreLemmas
+pub mod StoreInfoLemmas
+pub mod StoreDataLemmas
+pub mod StoredAnchorLemmas
 pub mod StoreAnchorLemmas
 pub mod DrawLemmas
+pub mod ClassListLemmas
 pub mod ShiftLemmas
+pub mod LiftLemmas
+pub mod RangeLemmas
 pub mod SpanLemmas
+pub mod SplitLargeLemmas
 pub mod CutLemmas
 pub mod KeptLemmas
 pub mod TableLemmas
@@ -34,15 +47,21 @@ pub mod AlikeLemmas
 pub mod OpenLemmas
 pub mod OpenCountLemmas
 pub mod RootLemmas
+pub mod OpenedPartLemmas
+pub mod OpenedShapeLemmas
 pub mod OpenedLemmas
 pub mod OpenedHeldLemmas
+pub mod ChosenLemmas
 pub mod SplittingLemmas
 pub mod OrderLemmas
 mod ExampleLemmas
+mod HeldExampleLemmas
 mod GuardExampleLemmas
 mod HandingExampleLemmas
 pub mod RoleLemmas
+pub mod BothLemmas
 pub mod CarrierLemmas
+pub mod OfferLemmas
 pub mod EmptiedLemmas
 pub mod HandingLemmas
 pub mod OpenedSeats

@@ -18,6 +18,7 @@ use Rattle.core_model.proofs.PlaceLemmas.{and_is}
 use Rattle.core_model.proofs.OpenLemmas.{length_tabulate, picked_in, small_from, small_member, span_of_block}
 use Rattle.core_model.proofs.OpenCountLemmas.{beyond}
 use Rattle.core_model.proofs.OpenedLemmas as opened
+use Rattle.core_model.proofs.OpenedPartLemmas
 pub use Rattle.core_model.proofs.RootLemmas.{owns_root}
 
 -- what is picked for a seat stands where it is the owner, and all of that is picked
@@ -104,52 +105,54 @@ module _ (words : List ℕ) (held : List Block) (budget seats : ℕ) (block_owne
   all_held p there = picked_in i held block_owners p there
 
   -- what a seat holds is its own
-  holds_own : (b : Block) → IsHeld (opened.V words held budget seats block_owners root_owners ready owners i) b → Contains ps b
+  holds_own : (b : Block) → IsHeld (OpenedPartLemmas.V words held budget seats block_owners root_owners ready owners i) b → Contains ps b
   holds_own b (a_small class first some) = elim (cases_lt class lists) [
     | inl less ↦
         let e = ap (times first) (opened.small_at_class words held budget seats block_owners root_owners ready owners i class less) in
         let p = small_from c (λ d. image (info_word d)) class first ps (omega arith) in
         let infos = small_member c (λ d. image (info_word d)) class first ps (omega arith) in
-        let s = opened.small_of words held budget seats block_owners root_owners ready owners p.0 (all_held p.0 p.1) p.2 in
+        let s = OpenedPartLemmas.small_of words held budget seats block_owners root_owners ready owners p.0 (all_held p.0 p.1) p.2 in
         let same : s.class ≡ class = sym s.info_at ∙ ap (λ d. image (info_word d)) (sym s.here ∙ ap (superblock_of c) p.3) ∙ infos in
         subst (Contains ps) (same_fields p.0 (record { first_word = first; words = words_of_class class }) p.3 (s.size ∙ ap words_of_class same)) p.1
-    | inr past ↦ absurd (let n = beyond (opened.V words held budget seats block_owners root_owners ready owners i).small class first
+    | inr past ↦ absurd (let n = beyond (OpenedPartLemmas.V words held budget seats block_owners root_owners ready owners i).small class first
         (let e = length_tabulate (λ n. small_blocks c (λ d. image (info_word d)) n ps) 0 lists in omega arith) in omega arith)
   ]
   holds_own b (a_large d n some count) =
       let p = span_of_block c d ps (omega arith) in
-      let l = opened.large_of words held budget seats block_owners root_owners ready owners p.0 (all_held p.0 p.1) p.2 in
+      let l = OpenedPartLemmas.large_of words held budget seats block_owners root_owners ready owners p.0 (all_held p.0 p.1) p.2 in
       let same : l.d ≡ d = sym l.here ∙ p.3 in
       let words_are : p.0.words ≡ superblock_words * n = (let e = p.4 in let f = l.size in omega arith) in
       subst (Contains ps) (same_fields p.0 (record { first_word = start_word c d; words = superblock_words * n }) (l.first
       ∙ ap (start_word c) same) words_are) p.1
 
   -- and all of that is held
-  own_held : (b : Block) → Contains ps b → IsHeld (opened.V words held budget seats block_owners root_owners ready owners i) b
-  own_held b there = by_kind (opened.held_cases words held budget seats block_owners root_owners ready owners b (all_held b there)) where
-    by_kind : opened.IsSmall words held budget seats block_owners root_owners ready owners b ⊎ opened.IsLarge words held budget seats
-        block_owners root_owners ready owners b → IsHeld (opened.V words held budget seats block_owners root_owners ready owners i) b
+  own_held : (b : Block) → Contains ps b → IsHeld (OpenedPartLemmas.V words held budget seats block_owners root_owners ready owners i) b
+  own_held b there = by_kind (OpenedPartLemmas.held_cases words held budget seats block_owners root_owners ready owners b (all_held b there)) where
+    by_kind : OpenedPartLemmas.IsSmall words held budget seats block_owners root_owners ready owners b
+        ⊎ OpenedPartLemmas.IsLarge words held budget seats
+        block_owners root_owners ready owners b → IsHeld (OpenedPartLemmas.V words held budget seats block_owners root_owners ready owners i) b
     by_kind (inl s) =
         let at : image (info_word (superblock_of c b.first_word)) ≡ s.class = ap (λ d. image (info_word d)) s.here ∙ s.info_at in
         let e = ap (times b.first_word) (opened.small_at_class words held budget seats block_owners root_owners ready owners i s.class
         (let l = s.is_class.last in omega arith)) in
         let there_once = small_there c (λ d. image (info_word d)) s.class ps b there s.small at in
-        subst (IsHeld (opened.V words held budget seats block_owners root_owners ready owners i))
+        subst (IsHeld (OpenedPartLemmas.V words held budget seats block_owners root_owners ready owners i))
         (same_fields (record { first_word = b.first_word; words = words_of_class s.class }) b refl (sym s.size))
         (a_small s.class b.first_word (omega arith))
     by_kind (inr l) =
-        let some = span_there c l.d ps b (λ q m large. let k = opened.large_of words held budget seats block_owners root_owners ready owners q
+        let some = span_there c l.d ps b (λ q m large. let k = OpenedPartLemmas.large_of words held budget seats block_owners root_owners ready
+        owners q
         (all_held q m) large in let e = k.size in let s = k.some in omega arith) there l.large l.here in
         let q = span_of_block c l.d ps some in
-        let k = opened.large_of words held budget seats block_owners root_owners ready owners q.0 (all_held q.0 q.1) q.2 in
+        let k = OpenedPartLemmas.large_of words held budget seats block_owners root_owners ready owners q.0 (all_held q.0 q.1) q.2 in
         let first : q.0.first_word ≡ b.first_word = k.first ∙ ap (start_word c) (sym k.here ∙ q.3) ∙ sym l.first in
         let one : q.0 ≡ b = same_first (layout_of image) q.0 b (ready.blocks q.0 (all_held q.0 q.1)) (ready.blocks b (all_held b there)) first in
         let count : span_count l.d (large_blocks c ps) ≡ l.count = sym q.4 ∙ ap (λ (x : Block). x.words / superblock_words) one
         ∙ (let e = l.size in omega arith) in
-        subst (IsHeld (opened.V words held budget seats block_owners root_owners ready owners i))
+        subst (IsHeld (OpenedPartLemmas.V words held budget seats block_owners root_owners ready owners i))
         (same_fields (record { first_word = start_word c l.d; words = superblock_words * l.count }) b (sym l.first) (sym l.size))
         (a_large l.d l.count (let s = l.some in omega arith) count)
 
-  pub holds_exactly : (b : Block) → IsHeld (opened.V words held budget seats block_owners root_owners ready owners i)
+  pub holds_exactly : (b : Block) → IsHeld (OpenedPartLemmas.V words held budget seats block_owners root_owners ready owners i)
       b ↔ IsOwnerOf held block_owners i b
   holds_exactly b = (λ h. owner_of i held block_owners b (holds_own b h), λ o. own_held b (picked_for i held block_owners b o))

@@ -1,18 +1,15 @@
--- Steps that change no word and no part of a seat: looks, and exchanges that are lost.
-use Rattle.std.proofs.Common.{◌≡◌, ◌≢◌, ℕ, suc, ◌+◌, ◌<◌, ◌≤◌, inl, inr, Bool, true, false, not, nat_eq, ◌&&◌, List, [], ◌∷◌, get_or, set, length, Option, None, Some, refl, ap, ap₂, sym, subst, ◌∙◌, eqb-true, eq-eqb, length-set, arith}
-use Rattle.std.proofs.lemmas.Bool.{cases_eq}
-use Rattle.std.proofs.lemmas.List.{get_or-set_other, get_or_default}
+-- Exchanges that are lost, and what is so of each step that changes no word and no part of a seat.
+use Rattle.std.proofs.Common.{◌≡◌, ◌≢◌, ℕ, suc, ◌+◌, ◌<◌, ◌≤◌, Bool, true, false, not, nat_eq, ◌&&◌, List, [], ◌∷◌, get_or, set, length, Option, None, Some, refl, ap, ap₂, sym, subst, ◌∙◌, eqb-true, eq-eqb, arith}
 use Rattle.heap_model.specs.Geometry.{lists, superblock_of}
 use Rattle.heap_model.specs.Sizes.{words_of_class}
 use Rattle.heap_model.specs.Words.{head_first}
 use Rattle.heap_model.specs.Counting.{times, one_if}
-use Rattle.std.proofs.lemmas.Grind.{get_or-set_at}
 use Rattle.heap_model.specs.Chains.{Follows}
 use Rattle.core_model.specs.Cells.{Cell, used_cell, head_cell, info_cell, anchor_cell, link_cell, root_cell, data_cell, no_cell}
 use Rattle.core_model.specs.Memory.{Memory, used, head, anchor, link}
 use Rattle.core_model.specs.View.{Setup, View, Snapshot, LastLook, one_if_some, known, times_own, times_raw, times_classed, times_large, times_in_classes, times_within}
-use Rattle.core_model.specs.Effects.{seen, seen_word, seen_of, before, used_up, lost, look}
-use Rattle.core_model.specs.Guards.{IsThere, MayLink, MayLookAt}
+use Rattle.core_model.specs.Effects.{seen, seen_word, seen_of, before, lost}
+use Rattle.core_model.specs.Guards.{IsThere}
 use Rattle.core_model.specs.Sound.{CoreShape, Tally, tally_of, IsInShape, IsSetUp, HasClaims, HasBlocks, Knows, KnowsWords, IsTicketDrawn, IsTicketed, HasTickets, stale, differs, stale_head, stale_anchor, times_parked, empties, Good}
 use Rattle.core_model.proofs.TotalLemmas.{total_same}
 use Rattle.core_model.proofs.EventStepLemmas.{IsSeat, seat_at, good_step, Parts, parts, tally_same, adds_step}
@@ -139,46 +136,8 @@ first_listed k m g t shaped list is some = by_list (g.lists list) (head_first (h
 
 module _ (k : Setup) (m : Memory) (views : List View) (i : ℕ) (v : View) (below : i < length views) (at : get_or views i v ≡ v)
     (good : Good k m views) (ticket : IsThere v.ticket) where
-  seat : IsSeat k m good.shape v
+  pub seat : IsSeat k m good.shape v
   seat = seat_at k m views good i v below at
-
-  pub look_used : Good k m (set views i (record (used_up v) { seen_used = Some (used m); used_look = look v (used m) }))
-  look_used = quiet k m views i v (record (used_up v) { seen_used = Some (used m); used_look = look v (used m) }) below at good refl refl
-      (let s = seat.set_up in record {
-        setup = s.setup;
-        roots = s.roots;
-        small = s.small;
-        caches = s.caches;
-        looks = s.looks;
-        volatile = s.volatile;
-        durable = s.durable;
-      })
-      (let s = seat.knows in record {
-        seen_head = s.seen_head;
-        seen_used = λ _. omega arith;
-        looked = omega arith;
-        seen_anchor = s.seen_anchor;
-        seen_empty = s.seen_empty;
-        floor = s.floor;
-      })
-      (words_same k.capacity m v (record (used_up v) { seen_used = Some (used m); used_look = look v (used m) }) refl refl refl seat.words)
-      (let s = seat.tickets in record {
-        state = given_up k.budget v.ticket v.last_ticket v.stopped s.state;
-        looked_then = (omega arith, omega arith);
-        ticket = none_drawn m.drawn;
-        last = s.last;
-        used_look = s.ticket;
-        head_looks = λ list is. looks list is;
-        counts = let c = s.counts in omega arith;
-        gives = s.gives;
-        cuts = s.cuts;
-      })
-      (omega arith)
-      (let e = differs_none (used m) in omega arith) where
-        looks : (list : ℕ) → list < lists → IsTicketDrawn m.drawn (get_or v.head_looks list (look v (used m))).ticket
-        looks list is = subst (λ (l : LastLook). IsTicketDrawn m.drawn l.ticket)
-            (get_or_default v.head_looks list v.used_look (look v (used m)) (let e = seat.set_up.looks in omega arith))
-            (seat.tickets.head_looks list is)
 
   -- the ticket is used up
   pub done_tickets : (w : View) → w.ticket ≡ None → w.last_ticket ≡ v.last_ticket → w.used_look ≡ v.used_look → w.head_looks ≡ v.head_looks
@@ -200,128 +159,6 @@ module _ (k : Setup) (m : Memory) (views : List View) (i : ℕ) (v : View) (belo
         let n = ap (λ (c : Counts). c.moves) kept in omega arith;
     cuts = let c = s.cuts in let d = ap (λ (c : Counts). c.draws) kept in omega arith;
   }
-
-  pub look_head : (list : ℕ) → list < lists
-      → Good k m (set views i (record (used_up v) {
-        seen_head = Some (record { of = list; word = head m list });
-        seen_link = None;
-        head_looks = set v.head_looks list (look v (head m list));
-      }))
-  look_head list is = quiet k m views i v (record (used_up v) {
-    seen_head = Some (record { of = list; word = head m list });
-    seen_link = None;
-    head_looks = set v.head_looks list (look v (head m list));
-  })
-      below at good refl refl
-      (let s = seat.set_up in record {
-        setup = s.setup;
-        roots = s.roots;
-        small = s.small;
-        caches = s.caches;
-        looks = length-set v.head_looks list (look v (head m list)) ∙ s.looks;
-        volatile = s.volatile;
-        durable = s.durable;
-      })
-      (let s = seat.knows in record {
-        seen_head = λ _. record {
-          is_list = is;
-          small = first_small k m good.shape (tally_of views) good.shaped list is;
-          pops = omega arith;
-          listed = λ _ some. first_listed k m good.shape (tally_of views) good.shaped list is some;
-          linked = λ e. absurd (not_there e);
-        };
-        seen_used = s.seen_used;
-        looked = s.looked;
-        seen_anchor = s.seen_anchor;
-        seen_empty = s.seen_empty;
-        floor = s.floor;
-      })
-      (words_same k.capacity m v (record (used_up v) {
-        seen_head = Some (record { of = list; word = head m list });
-        seen_link = None;
-        head_looks = set v.head_looks list (look v (head m list));
-      }) refl refl refl seat.words)
-      (let s = seat.tickets in record {
-        state = given_up k.budget v.ticket v.last_ticket v.stopped s.state;
-        looked_then = s.looked_then;
-        ticket = none_drawn m.drawn;
-        last = s.last;
-        used_look = s.used_look;
-        head_looks = looks;
-        counts = let c = s.counts in omega arith;
-        gives = s.gives;
-        cuts = s.cuts;
-      })
-      (omega arith)
-      (let e : stale_head m (Some (record { of = list; word = head m list })) ≡ 0 =
-      ap (λ t. one_if (not t)) (eq-eqb (head m list) (head m list) refl) in omega arith) where
-        looks : (other : ℕ) → other < lists → IsTicketDrawn m.drawn (get_or (set v.head_looks list (look v (head m list))) other v.used_look).ticket
-        looks other below_lists = elim (cases_eq other list) [
-          | inl same ↦ subst (λ (l : LastLook). IsTicketDrawn m.drawn l.ticket)
-              (sym (get_or-set_at v.head_looks list other (look v (head m list)) v.used_look same (let e = seat.set_up.looks in omega arith)))
-              seat.tickets.ticket
-          | inr apart ↦ subst (λ (l : LastLook). IsTicketDrawn m.drawn l.ticket)
-              (sym (get_or-set_other v.head_looks list other (look v (head m list)) v.used_look apart)) (seat.tickets.head_looks other below_lists)
-        ]
-
-  pub look_link : MayLink v → Good k m (set views i (record (used_up v) { seen_link = Some (link m (before (head_first (seen_word v.seen_head)))) }))
-  look_link may = quiet k m views i v (record (used_up v) { seen_link = Some (link m (before (head_first (seen_word v.seen_head)))) })
-      below at good refl refl
-      (let s = seat.set_up in record {
-        setup = s.setup;
-        roots = s.roots;
-        small = s.small;
-        caches = s.caches;
-        looks = s.looks;
-        volatile = s.volatile;
-        durable = s.durable;
-      })
-      (let s = seat.knows in record {
-        seen_head = λ there. let h = s.seen_head there in record {
-          is_list = h.is_list;
-          small = h.small;
-          pops = h.pops;
-          listed = h.listed;
-          linked = λ _. (may.some, λ _. refl);
-        };
-        seen_used = s.seen_used;
-        looked = s.looked;
-        seen_anchor = s.seen_anchor;
-        seen_empty = s.seen_empty;
-        floor = s.floor;
-      })
-      (words_same k.capacity m v (record (used_up v) { seen_link = Some (link m (before (head_first (seen_word v.seen_head)))) })
-      refl refl refl seat.words)
-      (done_tickets (record (used_up v) { seen_link = Some (link m (before (head_first (seen_word v.seen_head)))) })
-      refl refl refl refl refl refl (omega arith))
-      (omega arith) (omega arith)
-
-  pub look_anchor : (d : ℕ) → MayLookAt v d → Good k m (set views i (record (used_up v) { seen_anchor = Some (record { of = d; word = anchor m d }) }))
-  look_anchor d may = quiet k m views i v (record (used_up v) { seen_anchor = Some (record { of = d; word = anchor m d }) }) below at good refl refl
-      (let s = seat.set_up in record {
-        setup = s.setup;
-        roots = s.roots;
-        small = s.small;
-        caches = s.caches;
-        looks = s.looks;
-        volatile = s.volatile;
-        durable = s.durable;
-      })
-      (let s = seat.knows in record {
-        seen_head = s.seen_head;
-        seen_used = s.seen_used;
-        looked = s.looked;
-        seen_anchor = λ _. elim may [ inl free ↦ inl free.claimed | inr batch ↦ inr batch ];
-        seen_empty = λ _ _ empty. empty;
-        floor = s.floor;
-      })
-      (words_same k.capacity m v (record (used_up v) { seen_anchor = Some (record { of = d; word = anchor m d }) }) refl refl refl seat.words)
-      (done_tickets (record (used_up v) { seen_anchor = Some (record { of = d; word = anchor m d }) }) refl refl refl refl refl refl (omega arith))
-      (omega arith)
-      (let e = fresh_anchor (nat_eq (times_raw d v) 0) (anchor m d) in omega arith) where
-        fresh_anchor : (test : Bool) (word : ℕ) → one_if (test && not (nat_eq word word)) ≡ 0
-        fresh_anchor true word = ap (λ t. one_if (not t)) (eq-eqb word word refl)
-        fresh_anchor false word = refl
 
   pub lost_used : (found : ℕ) → IsThere v.seen_used → used m ≢ seen v.seen_used → Good k m (set views i (record (lost v found) { seen_used = None }))
   lost_used found there other = quiet k m views i v (record (lost v found) { seen_used = None }) below at good refl refl

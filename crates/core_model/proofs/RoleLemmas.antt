@@ -10,7 +10,8 @@ use Rattle.core_model.specs.Cells.{Cell, used_cell, head_cell, info_cell, anchor
 use Rattle.core_model.specs.Memory.{Memory}
 pub use Rattle.core_model.specs.View.{Role, role}
 use Rattle.core_model.specs.View.{View, no_batch}
-use Rattle.core_model.specs.Effects.{seen, seen_of, seen_word, claimed, pushed, pushed_raw, pushed_classed, given, won, stored, shifted, drew, stopped, view_after}
+use Rattle.core_model.specs.Effects.{seen, seen_of, seen_word, claimed, pushed, pushed_raw, pushed_classed, given, won, stored, drew, stopped}
+use Rattle.core_model.specs.ViewAfter.{shifted, view_after}
 
 either_way : (test : Bool) (a b : View) (r : Role) → role a ≡ r → role b ≡ r → role (cond test a b) ≡ r
 either_way true a b r first second = first

@@ -4,7 +4,8 @@ use Rattle.heap_model.specs.Sizes.{class_sizes, words_of_class}
 use Rattle.core_model.specs.Cells.{data_cell}
 use Rattle.core_model.specs.View.{View, Span, of_class, known}
 use Rattle.core_model.specs.Carriers.{offered, carrier_of, accepted, emptied}
-use Rattle.core_model.specs.Examples.{idle, large}
+use Rattle.core_model.specs.Examples.{idle}
+use Rattle.core_model.specs.HeldExamples.{large}
 
 -- it knows the first word of each
 abbrev pub two : View

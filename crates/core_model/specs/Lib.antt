@@ -2,10 +2,13 @@ pub mod Cells
 pub mod Memory
 pub mod View
 pub mod Effects
+pub mod ViewAfter
 pub mod Guards
 pub mod Sound
 pub mod Steps
 pub mod Examples
+pub mod ExchangeExamples
+pub mod HeldExamples
 pub mod Held
 pub mod Opening
 pub mod Orders

@@ -5,7 +5,8 @@ use Rattle.core_model.specs.declared.answer.StepAnswer.TheVariants.{Done, Stoppe
 use Rattle.core_model.specs.declared.event.Event.{Event}
 use Rattle.core_model.specs.Memory.{Memory, read, write, table_index, memory_of}
 use Rattle.core_model.specs.View.{Setup, View}
-use Rattle.core_model.specs.Effects.{place_of, left_there, view_after}
+use Rattle.core_model.specs.Effects.{place_of, left_there}
+use Rattle.core_model.specs.ViewAfter.{view_after}
 use Rattle.core_model.specs.Guards.{MayDo}
 use Rattle.core_model.specs.Sound.{Good, Sound}
 

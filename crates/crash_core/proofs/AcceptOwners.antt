@@ -4,7 +4,7 @@ use Rattle.heap_model.specs.Counting.{times, total}
 use Rattle.core_model.specs.Carriers.{IsCarrier, accepted, both_lists, emptied}
 use Rattle.core_model.specs.Effects.{claim_class, span_count}
 use Rattle.core_model.specs.View.{Batch, Claim, Span, View, times_classed}
-use Rattle.core_model.proofs.CarrierLemmas.{both_times, count_append, large_append}
+use Rattle.core_model.proofs.BothLemmas.{both_times, count_append, large_append}
 use Rattle.core_model.proofs.PlaceLemmas.{not-eq, skip}
 use Rattle.seat_state.specs.declared.superblocks.SuperblockOwner.{SuperblockOwner}
 use Rattle.seat_state.specs.declared.superblocks.SuperblockUsage.{SuperblockUsage}

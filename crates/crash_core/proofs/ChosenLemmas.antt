@@ -7,8 +7,8 @@ use Rattle.core_model.specs.View.{Span, takes, times_large}
 use Rattle.core_model.specs.Effects.{span_count}
 use Rattle.core_model.specs.Splitting.{chosen_lists, chosen_spans}
 use Rattle.core_model.proofs.PlaceLemmas.{not-eq}
-use Rattle.core_model.proofs.SplittingLemmas.{all_of_it}
-use Rattle.core_model.proofs.SpanLemmas.{range_is}
+use Rattle.core_model.proofs.ChosenLemmas.{all_of_it}
+use Rattle.core_model.proofs.RangeLemmas.{range_is}
 
 -- the block itself goes
 pub class_goes : (b class : ℕ) (xss : List (List ℕ)) → times b (get_or (chosen_lists (λ x. nat_eq x b) xss) class []) ≡ times b (get_or xss class [])

@@ -19,7 +19,8 @@ use Rattle.seat_state.specs.declared.superblocks.SuperblockOwner.{SuperblockOwne
 use Rattle.crash_core.specs.declared.state.CoreState.{CoreState}
 use Rattle.core_model.specs.Memory.{used, durable_used, durable_info, info, next, memory_of}
 use Rattle.core_model.specs.View.{Setup, View, Claim, Span, of_class, times_block, times_raw}
-use Rattle.core_model.specs.Effects.{chain, steps, first_of, class_blocks, cleared, after_cut}
+use Rattle.core_model.specs.Effects.{chain, steps, first_of, class_blocks, cleared}
+use Rattle.core_model.specs.ViewAfter.{after_cut}
 use Rattle.core_model.specs.Guards.{MayCut}
 use Rattle.core_model.specs.Sound.{tally_of, times_cut, IsCutBlock, Good}
 use Rattle.seat_state.specs.Superblocks.{usage_for, no_superblock, cutting_in, IsUsage, HasSuperblocks}
@@ -29,7 +30,7 @@ use Rattle.core_model.proofs.TotalLemmas.{total_at}
 use Rattle.heap_model.proofs.ListLemmas.{one_at_most, without_at}
 use Rattle.core_model.proofs.CountLemmas.{length_steps, block_once}
 use Rattle.core_model.proofs.BlockLemmas.{superblock_is}
-use Rattle.core_model.proofs.SpanLemmas.{block_of}
+use Rattle.core_model.proofs.RangeLemmas.{block_of}
 use Rattle.crash_core.proofs.StandingLemmas.{among, memory_in}
 use Rattle.seat_state.proofs.UsageLemmas.{usages_mine, usages_theirs, usage_alone}
 use Rattle.seat_state.proofs.CountLemmas.{without_off}

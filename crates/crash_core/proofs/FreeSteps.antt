@@ -12,7 +12,8 @@ use Rattle.seat_state.specs.declared.notes.SeatNotes.{SeatNotes}
 use Rattle.crash_core.specs.declared.state.CoreState.{CoreState}
 use Rattle.core_model.specs.Memory.{next, info, memory_of}
 use Rattle.core_model.specs.View.{Setup, View, of_class, times_block}
-use Rattle.core_model.specs.Effects.{first_of, after_free}
+use Rattle.core_model.specs.Effects.{first_of}
+use Rattle.core_model.specs.ViewAfter.{after_free}
 use Rattle.core_model.specs.Guards.{MayFree}
 use Rattle.core_model.specs.Sound.{Good}
 use Rattle.crash_core.specs.Standing.{IsSeatAt, place_for, no_block, held_in, cached_in, batched_in, IsPlace, IsKept, KeepsViews, IsMoved, memory_at}

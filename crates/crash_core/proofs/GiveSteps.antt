@@ -41,7 +41,7 @@ use Rattle.crash_core.proofs.LiftSteps.{last_range}
 use Rattle.crash_core.proofs.GivenLemmas.{given_mine, given_theirs}
 use Rattle.crash_core.proofs.ChainSteps.{chain_is, block_fits}
 use Rattle.core_model.proofs.AnchorLemmas as on_anchor
-use Rattle.core_model.proofs.GiveLemmas as gives
+use Rattle.core_model.proofs.GivenLemmas
 use Rattle.seat_state.proofs.WordLemmas.{entry_there}
 use Rattle.seat_state.proofs.NewSeat.{empty_batch}
 
@@ -154,16 +154,16 @@ module _ (c : CoreState) (k : Setup) (views : List View) (i : ℕ) (v : View) (t
           class = v.batch.class
 
           is_class : IsClass class
-          is_class = gives.is_class k (memory_in c k) views i v below at good ticket d may as_seen
+          is_class = GivenLemmas.is_class k (memory_in c k) views i v below at good ticket d may as_seen
 
           d_less : d < k.capacity
           d_less = batched k (memory_in c k) views i v below at good d may.batch may.some
 
           cut_d : 0 < times_cut good.shape (tally_of views) d
-          cut_d = gives.cut_d k (memory_in c k) views i v below at good ticket d may as_seen
+          cut_d = GivenLemmas.cut_d k (memory_in c k) views i v below at good ticket d may as_seen
 
           in_batch : (b : ℕ) → 0 < times b bs → IsCutBlock k.capacity class d b
-          in_batch = gives.in_batch k (memory_in c k) views i v below at good ticket d may as_seen
+          in_batch = GivenLemmas.in_batch k (memory_in c k) views i v below at good ticket d may as_seen
 
           -- what the core gives up is the batch
           whole : chain (λ n. get_or c.words.items n 0) t.batch.first t.batch.count ≡ bs
@@ -175,15 +175,15 @@ module _ (c : CoreState) (k : Setup) (views : List View) (i : ℕ) (v : View) (t
           inside b there = block_fits c k views keeps class d b is_class d_less (in_batch b (subst (λ xs. 0 < times b xs) whole there))
 
           anchored_states : anchor_state (anchor (memory_in c k) d) < 3
-          anchored_states = gives.state_fits k (memory_in c k) views i v below at good ticket d may as_seen
+          anchored_states = GivenLemmas.state_fits k (memory_in c k) views i v below at good ticket d may as_seen
 
           no_more : length (bs ++ good.shape.chains d) ≤ blocks_of class
-          no_more = gives.count_fits k (memory_in c k) views i v below at good ticket d may as_seen
+          no_more = GivenLemmas.count_fits k (memory_in c k) views i v below at good ticket d may as_seen
 
           first_is : (first : ℕ) → first ≡ start_word c.geometry.capacity d → (first ≡ start_word v.setup.capacity d) × (first ≤ t.batch.first)
           first_is first is = (
             is ∙ ap (λ n. start_word n d) (sym keeps.capacity ∙ sym cap),
-            (let b = (gives.first_block k (memory_in c k) views i v below at good ticket d may as_seen).at in let e = kept.batch.first in
+            (let b = (GivenLemmas.first_block k (memory_in c k) views i v below at good ticket d may as_seen).at in let e = kept.batch.first in
                 let g = keeps.capacity in omega arith),
           )
 
@@ -198,8 +198,8 @@ module _ (c : CoreState) (k : Setup) (views : List View) (i : ℕ) (v : View) (t
 
           pub index_small : (t.batch.first - start_word c.geometry.capacity d) / words_of_class t.batch.class < 2147483648
           index_small = let e = index_of_first (first_is (start_word c.geometry.capacity d) refl).0 in
-              let x = gives.index_is k (memory_in c k) views i v below at good ticket d may as_seen in
-              let l = (gives.first_block k (memory_in c k) views i v below at good ticket d may as_seen).below in
+              let x = GivenLemmas.index_is k (memory_in c k) views i v below at good ticket d may as_seen in
+              let l = (GivenLemmas.first_block k (memory_in c k) views i v below at good ticket d may as_seen).below in
               let few = few_blocks class is_class in omega arith
 
           pub state_fits : anchor_state found ≢ 3
@@ -207,7 +207,7 @@ module _ (c : CoreState) (k : Setup) (views : List View) (i : ℕ) (v : View) (t
 
           pub count_fits : t.batch.count + anchor_count found ≤ blocks_of t.batch.class
           count_fits = let n = kept.batch.count in let e = ap anchor_count as_seen in let z = ap anchor_count now in
-              let all = gives.count_is k (memory_in c k) views i v below at good ticket d may as_seen in let m = no_more in
+              let all = GivenLemmas.count_is k (memory_in c k) views i v below at good ticket d may as_seen in let m = no_more in
               let b = ap blocks_of kept.batch.class in omega arith
 
           module _ (blocks : Vec BlockOwner Global) (given_chain : HasNewOwner c.blocks.items blocks.items

@@ -12,8 +12,8 @@ use Rattle.core_model.specs.Sound.{Sound}
 use Rattle.core_model.specs.Splitting.{chosen}
 use Rattle.core_model.specs.Steps.{TableState}
 use Rattle.core_model.specs.View.{Setup, View, one_if_some}
-use Rattle.core_model.proofs.CarrierLemmas.{carries_block, offer_sound, offers_one, stopped_few}
-use Rattle.core_model.proofs.SplittingLemmas.{total_behind}
+use Rattle.core_model.proofs.OfferLemmas.{carries_block, offer_sound, offers_one, stopped_few}
+use Rattle.core_model.proofs.ChosenLemmas.{total_behind}
 use Rattle.core_model.proofs.TotalLemmas.{total_at, total_set}
 use Rattle.seat_state.specs.declared.notes.SeatNotes.{SeatNotes}
 use Rattle.seat_state.specs.declared.notes.TheConstants.{NEW_SEAT}

@@ -17,8 +17,8 @@ use Rattle.core_model.specs.Sound.{Good}
 use Rattle.core_model.specs.Steps.{TableState}
 use Rattle.core_model.specs.View.{Setup, View, Span, times_large}
 use Rattle.core_model.proofs.PlaceLemmas.{pick, skip, not-eq}
-use Rattle.core_model.proofs.SpanLemmas.{range_is, range_not, cases_range}
-use Rattle.core_model.proofs.SplittingLemmas.{lists_both, spans_both}
+use Rattle.core_model.proofs.RangeLemmas.{range_is, range_not, cases_range}
+use Rattle.core_model.proofs.ChosenLemmas.{lists_both, spans_both}
 use Rattle.core_model.proofs.TotalLemmas.{total_at}
 use Rattle.seat_state.specs.declared.notes.SeatNotes.{SeatNotes}
 use Rattle.seat_state.specs.declared.superblocks.SuperblockOwner.{SuperblockOwner}
@@ -29,7 +29,7 @@ use Rattle.seat_state.proofs.RangeLemmas.{range_theirs}
 use Rattle.seat_state.proofs.UsageLemmas.{usage_alone, usage_own, usage_theirs, usages_mine, usages_theirs}
 use Rattle.crash_core.specs.declared.state.CoreState.{CoreState}
 use Rattle.crash_core.specs.Standing.{HasBlocksOf, IsKept, IsSeatAt, KeepsViews, nobody, Represents}
-use Rattle.core_model.proofs.SplittingLemmas.{lists_all, lists_only}
+use Rattle.core_model.proofs.ChosenLemmas.{lists_all, lists_only}
 use Rattle.crash_core.proofs.ChosenLemmas.{count_left, one_span}
 use Rattle.crash_core.proofs.HandSteps.{HasOwn, IsHanded, offer_stands}
 use Rattle.crash_core.proofs.SplitSteps.{covered, large_only}

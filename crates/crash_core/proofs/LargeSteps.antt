@@ -10,14 +10,15 @@ use Rattle.seat_state.specs.declared.superblocks.SuperblockUsage.TheVariants as 
 use Rattle.seat_state.specs.declared.superblocks.SuperblockOwner.{SuperblockOwner}
 use Rattle.crash_core.specs.declared.state.CoreState.{CoreState}
 use Rattle.core_model.specs.View.{Setup, View, Span}
-use Rattle.core_model.specs.Effects.{cleared, span_count, without_range, after_large}
+use Rattle.core_model.specs.Effects.{cleared, span_count, without_range}
+use Rattle.core_model.specs.ViewAfter.{after_large}
 use Rattle.core_model.specs.Guards.{MayHoldLarge}
 use Rattle.core_model.specs.Sound.{Good}
 use Rattle.seat_state.specs.Superblocks.{usage_for, no_superblock, raw_in, split_in, cutting_in, classed_in, class_in, large_in, count_in, IsUsage, IsRange}
 use Rattle.crash_core.specs.Standing.{IsSeatAt, IsKept, IsCore, KeepsViews, IsMoved, Decides}
 use Rattle.seat_state.specs.Notes.{snapshot}
 use Rattle.core_model.proofs.PlaceLemmas.{pick, skip, not-eq}
-use Rattle.core_model.proofs.SpanLemmas.{range_is, range_not, without_range_in, without_range_out, cases_range}
+use Rattle.core_model.proofs.RangeLemmas.{range_is, range_not, without_range_in, without_range_out, cases_range}
 use Rattle.crash_core.proofs.StandingLemmas.{among, memory_in}
 use Rattle.seat_state.proofs.UsageLemmas.{usage_own, usage_theirs, usage_alone, usages_mine, usages_theirs}
 use Rattle.seat_state.proofs.RangeLemmas.{range_theirs}

@@ -8,7 +8,8 @@ use Rattle.seat_state.specs.declared.notes.SeatNotes.{SeatNotes}
 use Rattle.crash_core.specs.declared.state.CoreState.{CoreState}
 use Rattle.core_model.specs.Memory.{next, memory_of}
 use Rattle.core_model.specs.View.{Setup, View, of_class}
-use Rattle.core_model.specs.Effects.{first_of, last_of, rest_of, after_lift}
+use Rattle.core_model.specs.Effects.{first_of, last_of, rest_of}
+use Rattle.core_model.specs.ViewAfter.{after_lift}
 use Rattle.core_model.specs.Guards.{MayAlloc, MayLift}
 use Rattle.core_model.specs.Sound.{Good}
 use Rattle.crash_core.specs.Standing.{IsSeatAt, no_block, IsPlace, IsKept, KeepsViews, IsMoved, Decides, memory_at}

@@ -12,7 +12,8 @@ use Rattle.seat_state.specs.declared.notes.SeatNotes.{SeatNotes}
 use Rattle.crash_core.specs.declared.state.CoreState.{CoreState}
 use Rattle.core_model.specs.Memory.{next, info, memory_of}
 use Rattle.core_model.specs.View.{Setup, View, of_class, times_block}
-use Rattle.core_model.specs.Effects.{first_of, rest_of, after_alloc}
+use Rattle.core_model.specs.Effects.{first_of, rest_of}
+use Rattle.core_model.specs.ViewAfter.{after_alloc}
 use Rattle.core_model.specs.Guards.{MayAlloc}
 use Rattle.core_model.specs.Sound.{Good}
 use Rattle.seat_state.specs.Notes.{HasCaches}
@@ -20,7 +21,7 @@ use Rattle.crash_core.specs.Standing.{IsSeatAt, place_for, no_block, held_in, ca
 use Rattle.core_model.proofs.TotalLemmas.{total_at, eq-eqb-one, ne-eqb-none}
 use Rattle.core_model.proofs.BlockLemmas.{inside_of, first_there, total_lists}
 use Rattle.core_model.proofs.OwnerLemmas.{in_lists_total}
-use Rattle.core_model.proofs.ShiftLemmas.{first_rest}
+use Rattle.core_model.proofs.ClassListLemmas.{first_rest}
 use Rattle.crash_core.proofs.StandingLemmas.{among, memory_in}
 use Rattle.seat_state.proofs.CacheLemmas.{cache_set}
 use Rattle.crash_core.proofs.BlockPlaces.{places_mine, places_theirs, place_alone}

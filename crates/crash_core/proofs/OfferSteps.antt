@@ -15,7 +15,7 @@ use Rattle.core_model.specs.Sound.{Good}
 use Rattle.core_model.specs.Steps.{TableState}
 use Rattle.core_model.specs.View.{Setup, View, times_block, times_large}
 use Rattle.heap_model.proofs.ListLemmas.{one_at_most}
-use Rattle.core_model.proofs.SplittingLemmas.{lists_both}
+use Rattle.core_model.proofs.ChosenLemmas.{lists_both}
 use Rattle.core_model.proofs.TotalLemmas.{total_at}
 use Rattle.seat_state.specs.declared.notes.SeatNotes.{SeatNotes}
 use Rattle.seat_state.specs.Superblocks.{usage_for, no_superblock, IsUsage}
@@ -24,7 +24,7 @@ use Rattle.crash_core.specs.declared.owners.BlockPlace.TheVariants as place
 use Rattle.crash_core.specs.declared.state.CoreState.{CoreState}
 use Rattle.crash_core.specs.Standing.{batched_in, cached_in, held_in, HasBlocksOf, IsKept, IsPlace, IsSeatAt, KeepsViews, no_block, nobody, place_for, Represents}
 use Rattle.crash_core.proofs.BlockPlaces.{place_alone, place_theirs, places_mine, places_theirs}
-use Rattle.core_model.proofs.SplittingLemmas.{lists_all, lists_only}
+use Rattle.core_model.proofs.ChosenLemmas.{lists_all, lists_only}
 use Rattle.crash_core.proofs.ChosenLemmas.{class_goes, in_some, no_spans}
 use Rattle.crash_core.proofs.HandSteps.{IsHanded, offer_stands}
 use Rattle.crash_core.proofs.StandingLemmas.{among, memory_in}

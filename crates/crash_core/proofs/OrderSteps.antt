@@ -9,7 +9,7 @@ use Rattle.core_model.specs.Memory.{Memory, memory_of}
 use Rattle.core_model.specs.Sound.{Sound}
 use Rattle.core_model.specs.Steps.{found_by, seat_after, words_after}
 use Rattle.core_model.specs.View.{Setup, View, Role, one_if_some, role}
-use Rattle.core_model.proofs.CarrierLemmas.{same_roles}
+use Rattle.core_model.proofs.OfferLemmas.{same_roles}
 use Rattle.core_model.proofs.RoleLemmas.{role_after}
 use Rattle.core_model.proofs.SoundLemmas.{in_table}
 use Rattle.core_model.proofs.TableLemmas.{memory_set}

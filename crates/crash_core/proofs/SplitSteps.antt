@@ -13,7 +13,8 @@ use Rattle.seat_state.specs.declared.superblocks.SuperblockOwner.{SuperblockOwne
 use Rattle.crash_core.specs.declared.state.CoreState.{CoreState}
 use Rattle.core_model.specs.Memory.{used}
 use Rattle.core_model.specs.View.{Setup, View, times_large}
-use Rattle.core_model.specs.Effects.{steps, cleared, span_count, without_span, after_split}
+use Rattle.core_model.specs.Effects.{steps, cleared, span_count, without_span}
+use Rattle.core_model.specs.ViewAfter.{after_split}
 use Rattle.core_model.specs.Guards.{MaySplit}
 use Rattle.core_model.specs.Sound.{Good}
 use Rattle.seat_state.specs.Superblocks.{usage_for, no_superblock, raw_in, split_in, cutting_in, classed_in, class_in, large_in, count_in, IsUsage, IsRange}
@@ -23,7 +24,7 @@ use Rattle.core_model.proofs.TotalLemmas.{total_at}
 use Rattle.core_model.proofs.FrameLemmas.{below_not}
 use Rattle.heap_model.proofs.ListLemmas.{times_append}
 use Rattle.core_model.proofs.LinkFrameLemmas.{span_covers}
-use Rattle.core_model.proofs.SpanLemmas.{range_is, range_not, times_range, without_span_is, span_other}
+use Rattle.core_model.proofs.RangeLemmas.{range_is, range_not, times_range, without_span_is, span_other}
 use Rattle.crash_core.proofs.StandingLemmas.{among, memory_in, seat_capacity}
 use Rattle.seat_state.proofs.UsageLemmas.{usage_alone}
 use Rattle.seat_state.proofs.RangeLemmas.{range_mine, range_theirs}

@@ -14,7 +14,8 @@ use Rattle.seat_state.specs.declared.notes.SeatNotes.{SeatNotes}
 use Rattle.crash_core.specs.declared.state.CoreState.{CoreState}
 use Rattle.core_model.specs.Memory.{Memory, info}
 use Rattle.core_model.specs.View.{Setup, View}
-use Rattle.core_model.specs.Effects.{drew, stopped, shifted}
+use Rattle.core_model.specs.Effects.{drew, stopped}
+use Rattle.core_model.specs.ViewAfter.{shifted}
 use Rattle.core_model.specs.Guards.{MayShift, MayFree}
 use Rattle.core_model.specs.Steps.{seat_after}
 use Rattle.crash_core.specs.Standing.{IsSeatAt, held_in, place_for, no_block, HasBlocksOf, HasRoots, IsKept, IsCore, KeepsViews, IsMoved, Moves, Decides, Steps, steps_stopped}

@@ -4,7 +4,8 @@ ghost use Rattle.std.specs.Prelude.{◌≡◌, ◌<◌, ◌↔◌, length, true}
 ghost use Rattle.heap_model.specs.Chains.{Walks};
 ghost use Rattle.heap_model.specs.Geometry.{start_word};
 ghost use Rattle.core_model.specs.Memory.{next};
-ghost use Rattle.core_model.specs.Effects.{class_blocks, after_cut};
+ghost use Rattle.core_model.specs.Effects.{class_blocks};
+ghost use Rattle.core_model.specs.ViewAfter.{after_cut};
 ghost use Rattle.core_model.specs.Guards.{MayCut};
 ghost use Rattle.crash_core.specs.Standing.{IsCore, Decides, Moves, memory_at};
 

@@ -3,7 +3,7 @@
 ghost use Rattle.std.specs.Prelude.{◌≡◌, ◌<◌, ◌≤◌, length, get_or, true};
 ghost use Rattle.heap_model.specs.Geometry.{start_word, superblocks_end, superblock_of};
 ghost use Rattle.core_model.specs.Memory.{info};
-ghost use Rattle.core_model.specs.Effects.{after_alloc, after_free, after_lift};
+ghost use Rattle.core_model.specs.ViewAfter.{after_alloc, after_free, after_lift};
 ghost use Rattle.core_model.specs.Guards.{MayAlloc, MayFree, MayLift};
 ghost use Rattle.crash_core.specs.Standing.{IsCore, Decides, Moves, memory_at, held_in, place_for, no_block};
 

@@ -2,7 +2,7 @@
 
 ghost use Rattle.std.specs.Prelude.{◌≡◌, ◌<◌, ◌≤◌, length, true};
 ghost use Rattle.heap_model.specs.Geometry.{superblock_of};
-ghost use Rattle.core_model.specs.Effects.{after_large, after_split};
+ghost use Rattle.core_model.specs.ViewAfter.{after_large, after_split};
 ghost use Rattle.core_model.specs.Guards.{MayHoldLarge, MaySplit};
 ghost use Rattle.crash_core.specs.Standing.{IsCore, Decides, Moves, MayJoin};
 

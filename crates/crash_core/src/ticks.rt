@@ -2,7 +2,7 @@
 
 ghost use Rattle.std.specs.Prelude.{◌<◌, length, true, Some};
 ghost use Rattle.core_model.specs.declared.event.Event.TheVariants.{Tick};
-ghost use Rattle.core_model.specs.Effects.{shifted};
+ghost use Rattle.core_model.specs.ViewAfter.{shifted};
 ghost use Rattle.core_model.specs.Guards.{MayShift};
 ghost use Rattle.crash_core.specs.Standing.{IsCore, Takes, Decides, Moves};
 

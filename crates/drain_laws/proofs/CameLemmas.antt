@@ -14,7 +14,8 @@ use Rattle.core_model.specs.declared.event.Event.TheVariants.{Tick, Load, Store,
 use Rattle.core_model.specs.declared.event.Shift.{Shift}
 use Rattle.core_model.specs.declared.event.Shift.TheVariants.{Cut, Alloc, Free, Lift, Large, Split}
 use Rattle.core_model.specs.Cells.{Cell, used_cell, head_cell, info_cell, anchor_cell, link_cell, root_cell, data_cell, no_cell, cell_at}
-use Rattle.core_model.specs.Effects.{batch_anchor, before, claim_class, claimed, cleared, drew, given, lost, place_of, popped, popped_head, pushed, pushed_head, pushed_raw, pushed_classed, seen, seen_of, seen_word, shifted, stopped, stored, taken_all, taken_fresh, trimmed, used_up, learn, without_claim, won}
+use Rattle.core_model.specs.Effects.{batch_anchor, before, claim_class, claimed, cleared, drew, given, lost, place_of, popped, popped_head, pushed, pushed_head, pushed_raw, pushed_classed, seen, seen_of, seen_word, stopped, stored, taken_all, taken_fresh, trimmed, used_up, learn, without_claim, won}
+use Rattle.core_model.specs.ViewAfter.{shifted}
 use Rattle.core_model.specs.Guards.{IsOwn, MayStep, MayPop, MayPush, MayList, as_free, of_its_class}
 use Rattle.core_model.specs.Memory.{Memory, StepPlace, used, head, link, memory_of, read, write, volatile_at}
 use Rattle.core_model.specs.Orders.{AreReordered}

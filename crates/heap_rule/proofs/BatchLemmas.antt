@@ -13,7 +13,7 @@ use Rattle.core_model.specs.Effects.{seen_word, first_of, batch_anchor, given_an
 use Rattle.core_model.specs.Guards.{IsThere}
 use Rattle.core_model.specs.Sound.{IsCutBlock}
 use Rattle.core_model.proofs.BlockLemmas.{first_there}
-use Rattle.core_model.proofs.GiveLemmas as gives
+use Rattle.core_model.proofs.GivenLemmas
 use Rattle.core_model.proofs.SoundLemmas.{batched}
 use Rattle.seat_state.specs.declared.notes.SeatNotes.{SeatNotes}
 use Rattle.seat_state.proofs.NewSeat.{empty_batch}
@@ -81,9 +81,9 @@ give_exchange notes v d word new kept can ticket is new_is s found found_is = by
 
   becomes : anchor m d ≡ seen_word v.seen_anchor → new ≡ batch_anchor v d
   becomes as_seen =
-      let state = gives.state_fits v.setup m s.views s.seat v s.below s.at s.sound.good ticket d (give_may v s d can) as_seen in
-      let room = gives.count_fits v.setup m s.views s.seat v s.below s.at s.sound.good ticket d (give_may v s d can) as_seen in
-      let all = gives.count_is v.setup m s.views s.seat v s.below s.at s.sound.good ticket d (give_may v s d can) as_seen in
+      let state = GivenLemmas.state_fits v.setup m s.views s.seat v s.below s.at s.sound.good ticket d (give_may v s d can) as_seen in
+      let room = GivenLemmas.count_fits v.setup m s.views s.seat v s.below s.at s.sound.good ticket d (give_may v s d can) as_seen in
+      let all = GivenLemmas.count_is v.setup m s.views s.seat v s.below s.at s.sound.good ticket d (give_may v s d can) as_seen in
       let state_is = ap anchor_state (as_seen ∙ is) in let count_is = ap anchor_count is in let blocks_is = ap blocks_of kept.batch.class in
       let n = kept.batch.count in
       new_is (λ three. omega (arith, three)) (omega arith)

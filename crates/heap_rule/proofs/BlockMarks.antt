@@ -9,7 +9,7 @@ use Rattle.core_model.specs.Effects.{first_of, rest_of}
 use Rattle.core_model.proofs.BlockLemmas.{of_class_same, of_class_other, total_lists}
 use Rattle.core_model.proofs.FrameLemmas.{times_append, times_without}
 use Rattle.core_model.proofs.OwnerLemmas.{in_lists_total}
-use Rattle.core_model.proofs.ShiftLemmas.{first_rest}
+use Rattle.core_model.proofs.ClassListLemmas.{first_rest}
 use Rattle.core_model.proofs.TotalLemmas.{ne-eqb-none}
 use Rattle.heap_rule.specs.Owned.{OwnedParts, IsMarking, AreMarked, AreClasses, times_had}
 

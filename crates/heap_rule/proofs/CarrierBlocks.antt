@@ -10,7 +10,7 @@ use Rattle.core_model.specs.Carriers.{accepted}
 use Rattle.core_model.specs.Effects.{span_count}
 use Rattle.core_model.specs.Held.{IsHeld, a_small, a_large}
 use Rattle.core_model.specs.View.{Setup, Span, View, of_class}
-use Rattle.core_model.proofs.CarrierLemmas.{both_class}
+use Rattle.core_model.proofs.BothLemmas.{both_class}
 use Rattle.core_model.proofs.OwnerLemmas.{in_lists_total}
 use Rattle.core_model.proofs.PlaceLemmas.{pick}
 use Rattle.core_model.proofs.TotalLemmas.{total_where, eq-eqb-one, ne-eqb-none}

@@ -18,7 +18,7 @@ use Rattle.core_model.proofs.BlockLemmas.{first_there}
 use Rattle.core_model.proofs.CountLemmas.{chain_short}
 use Rattle.core_model.proofs.LinkFrameLemmas.{span_covers}
 use Rattle.core_model.proofs.OwnerLemmas.{in_lists_total}
-use Rattle.core_model.proofs.SpanLemmas.{block_of}
+use Rattle.core_model.proofs.RangeLemmas.{block_of}
 use Rattle.core_model.proofs.TotalLemmas.{eq-eqb-one, ne-eqb-none}
 use Rattle.seat_state.proofs.BlockRanges.{cut_range}
 use Rattle.heap_rule.specs.declared.owned.Change.{Change}

@@ -11,7 +11,7 @@ use Rattle.core_model.specs.View.{View}
 use Rattle.core_model.specs.Effects.{learn, last_of, class_blocks}
 use Rattle.core_model.proofs.OwnerLemmas.{in_lists_total}
 use Rattle.core_model.proofs.PlaceLemmas.{cell_at_index}
-use Rattle.core_model.proofs.SpanLemmas.{block_of}
+use Rattle.core_model.proofs.RangeLemmas.{block_of}
 use Rattle.core_model.proofs.TotalLemmas.{eq-eqb-one}
 use Rattle.heap_model.specs.Counting.{times}
 use Rattle.heap_rule.specs.Fences.{SettlesOwn, is_own, not_own, SettlesEarly, no_store, a_store}

@@ -10,7 +10,7 @@ use Rattle.core_model.specs.Effects.{only_own, span_count}
 use Rattle.core_model.specs.Held.{IsHeld, a_small, a_large}
 use Rattle.core_model.specs.Memory.{table_length}
 use Rattle.core_model.specs.View.{View, times_own}
-use Rattle.core_model.proofs.CarrierLemmas.{carries_block}
+use Rattle.core_model.proofs.OfferLemmas.{carries_block}
 use Rattle.core_model.proofs.OwnLemmas.{only_at}
 use Rattle.atomic_table.specs.Seated.{TableId}
 use Rattle.atomic_table.specs.Table.{Me}

@@ -11,11 +11,11 @@ use Rattle.core_model.specs.Memory.{Memory, memory_of, used}
 use Rattle.core_model.specs.Sound.{Good}
 use Rattle.core_model.specs.Splitting.{chosen, chosen_lists, chosen_spans}
 use Rattle.core_model.specs.View.{View, Span, of_class, takes, times_raw, times_classed, times_large}
-use Rattle.core_model.proofs.CarrierLemmas.{both_class, both_times}
+use Rattle.core_model.proofs.BothLemmas.{both_class, both_times}
 use Rattle.core_model.proofs.LinkFrameLemmas.{span_covers}
 use Rattle.core_model.proofs.OwnLemmas.{one_at_most}
 use Rattle.core_model.proofs.OwnerLemmas.{in_lists_total}
-use Rattle.core_model.proofs.SpanLemmas.{range_is}
+use Rattle.core_model.proofs.RangeLemmas.{range_is}
 use Rattle.core_model.proofs.TotalLemmas.{total_at}
 use Rattle.heap_table.specs.Plays.{HasSoundState}
 use Rattle.heap_rule.specs.declared.owned.Ownership.TheVariants as ownership
@@ -24,7 +24,7 @@ use Rattle.heap_rule.specs.Changed.{IsLargeIn}
 use Rattle.heap_rule.specs.Holdings.{HoldsLarge, HoldsOneLarge, IsLost}
 use Rattle.heap_rule.specs.Owned.{HasOwned, IsOwnership, OwnedParts, parts_of, times_had}
 use Rattle.heap_rule.proofs.BlockMarks.{marked_alike}
-use Rattle.core_model.proofs.SplittingLemmas.{lists_all, lists_only}
+use Rattle.core_model.proofs.ChosenLemmas.{lists_all, lists_only}
 use Rattle.heap_rule.proofs.OwnedCarriers.{all_roots, all_spans, no_spans, span_takes}
 use Rattle.heap_rule.proofs.OwnedLemmas.{gained_ownerships, lost_ownerships}
 use Rattle.heap_rule.proofs.OwnedSteps.{taken_below, with_ownerships}

@@ -11,12 +11,12 @@ use Rattle.core_model.specs.Memory.{Memory, memory_of, info, used}
 use Rattle.core_model.specs.Sound.{Good}
 use Rattle.core_model.specs.Splitting.{chosen, chosen_lists, chosen_spans}
 use Rattle.core_model.specs.View.{View, Span, of_class, takes, times_block, times_large}
-use Rattle.core_model.proofs.CarrierLemmas.{both_class, both_times}
+use Rattle.core_model.proofs.BothLemmas.{both_class, both_times}
 use Rattle.core_model.proofs.HeldOnceLemmas.{held_once}
-use Rattle.core_model.proofs.SpanLemmas.{range_is}
+use Rattle.core_model.proofs.RangeLemmas.{range_is}
 use Rattle.core_model.proofs.OwnLemmas.{one_at_most}
 use Rattle.core_model.proofs.OwnerLemmas.{in_lists_total}
-use Rattle.core_model.proofs.SplittingLemmas.{lists_all, lists_less, lists_only}
+use Rattle.core_model.proofs.ChosenLemmas.{lists_all, lists_less, lists_only}
 use Rattle.core_model.proofs.TotalLemmas.{total_at, total_where, eq-eqb-one, ne-eqb-none}
 use Rattle.heap_table.specs.Plays.{HasSoundState}
 use Rattle.heap_rule.proofs.ViewLemmas.{block_below, block_range}

@@ -9,7 +9,7 @@ use Rattle.core_model.proofs.CountLemmas.{times_without_claim, class_without}
 use Rattle.core_model.proofs.FrameLemmas.{times_append}
 use Rattle.core_model.proofs.LinkFrameLemmas.{span_covers}
 use Rattle.core_model.proofs.PlaceLemmas.{pick, skip, not-eq}
-use Rattle.core_model.proofs.SpanLemmas.{range_is, range_not, times_range, without_range_in, without_range_out, without_span_is, span_other, cases_range, in_range}
+use Rattle.core_model.proofs.RangeLemmas.{range_is, range_not, times_range, without_range_in, without_range_out, without_span_is, span_other, cases_range, in_range}
 use Rattle.core_model.proofs.TotalLemmas.{eq-eqb-one, ne-eqb-none}
 use Rattle.heap_model.proofs.ListLemmas.{without_at}
 use Rattle.seat_state.proofs.CountLemmas.{without_off, class_absent, no_span}

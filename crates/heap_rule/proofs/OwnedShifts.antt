@@ -7,12 +7,13 @@ use Rattle.core_model.specs.declared.event.Shift.TheVariants.{Cut, Alloc, Free, 
 use Rattle.heap_model.specs.Geometry.{superblock_of}
 use Rattle.core_model.specs.Memory.{Memory, memory_of, used, info}
 use Rattle.core_model.specs.View.{View, of_class, times_raw}
-use Rattle.core_model.specs.Effects.{steps, drew, shifted, class_blocks, first_of, rest_of, span_count, without_range, without_span}
+use Rattle.core_model.specs.Effects.{steps, drew, class_blocks, first_of, rest_of, span_count, without_range, without_span}
+use Rattle.core_model.specs.ViewAfter.{shifted}
 use Rattle.core_model.specs.Guards.{MayAlloc, MaySplit}
 use Rattle.core_model.specs.Sound.{Good}
 use Rattle.core_model.proofs.BlockLemmas.{superblock_is, first_there}
 use Rattle.core_model.proofs.OwnLemmas.{one_at_most}
-use Rattle.core_model.proofs.SpanLemmas.{block_of}
+use Rattle.core_model.proofs.RangeLemmas.{block_of}
 use Rattle.core_model.proofs.TotalLemmas.{total_at}
 use Rattle.heap_rule.specs.declared.owned.Ownership.{Ownership}
 use Rattle.heap_rule.specs.declared.owned.Ownership.TheVariants as ownership

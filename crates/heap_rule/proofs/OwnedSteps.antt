@@ -17,7 +17,7 @@ use Rattle.core_model.proofs.AnchorLemmas as on_anchor
 use Rattle.core_model.proofs.BlockLemmas.{walks_chain, superblock_is, of_class_same}
 use Rattle.core_model.proofs.CountLemmas.{chain_short}
 use Rattle.core_model.proofs.FrameLemmas.{below_not}
-use Rattle.core_model.proofs.GiveLemmas as gives
+use Rattle.core_model.proofs.GivenLemmas
 use Rattle.core_model.proofs.ListLemmas.{in_lists_at}
 use Rattle.core_model.proofs.OwnLemmas.{one_at_most}
 use Rattle.core_model.proofs.OwnerLemmas.{which_class}
@@ -451,7 +451,7 @@ module _ (v w : View) (d found : ℕ) (event : IsEvent (Give d) v found w) (same
       (batched v.setup m1 event.before.views event.before.seat v event.before.below event.before.at good1 d event.may.ready.batch
       event.may.ready.some) alone) where
         cut_d1 : 0 < times_cut good1.shape (tally_of event.before.views) d
-        cut_d1 = gives.cut_d v.setup m1 event.before.views event.before.seat v event.before.below event.before.at good1 event.may.ticket d
+        cut_d1 = GivenLemmas.cut_d v.setup m1 event.before.views event.before.seat v event.before.below event.before.at good1 event.may.ticket d
             event.may.ready (sym event.found_is ∙ same)
 
         not_here : (times_raw d v ≡ 0) × (times_large d v.large ≡ 0)

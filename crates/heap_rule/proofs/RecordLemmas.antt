@@ -8,7 +8,8 @@ use Rattle.core_model.specs.declared.event.Event.TheVariants.{Tick, Load, Store,
 use Rattle.core_model.specs.declared.event.Shift.{Shift}
 use Rattle.core_model.specs.declared.event.Shift.TheVariants.{Cut, Alloc, Free, Lift, Large, Split}
 use Rattle.core_model.specs.Cells.{Cell, info_cell, anchor_cell, link_cell, cell_at, index_of, is_cell}
-use Rattle.core_model.specs.Effects.{before, claimed, drew, given, learn, learn_fresh, lost, only_own, popped, pushed, pushed_classed, pushed_raw, seen, seen_of, seen_word, shifted, stopped, taken_all, taken_fresh, trimmed, won}
+use Rattle.core_model.specs.Effects.{before, claimed, drew, given, learn, learn_fresh, lost, only_own, popped, pushed, pushed_classed, pushed_raw, seen, seen_of, seen_word, stopped, taken_all, taken_fresh, trimmed, won}
+use Rattle.core_model.specs.ViewAfter.{shifted}
 use Rattle.core_model.specs.Guards.{IsOwn}
 use Rattle.core_model.specs.Memory.{Memory, memory_of, used}
 use Rattle.core_model.specs.View.{Setup, View, known, no_batch, times_claimed, times_classed, times_own, times_raw}

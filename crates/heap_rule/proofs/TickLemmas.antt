@@ -4,7 +4,8 @@ use Rattle.core_model.specs.declared.event.Event.TheVariants.{Tick}
 use Rattle.core_model.specs.declared.event.Shift.{Shift}
 use Rattle.core_model.specs.Memory.{Memory, memory_of}
 use Rattle.core_model.specs.View.{View}
-use Rattle.core_model.specs.Effects.{drew, stopped, shifted}
+use Rattle.core_model.specs.Effects.{drew, stopped}
+use Rattle.core_model.specs.ViewAfter.{shifted}
 use Rattle.core_model.proofs.PlaceLemmas.{pick, skip, not-lt}
 use Rattle.seat_state.proofs.DecisionLemmas.{going_on}
 use Rattle.seat_state.specs.declared.notes.SeatNotes.{SeatNotes}

@@ -3,7 +3,8 @@ use Rattle.std.proofs.Common.{◌≡◌, ◌<◌, ◌≤◌, ◌+◌, ℕ, Bool,
 use Rattle.core_model.specs.declared.event.Event.TheVariants.{LookUsed, Tick}
 use Rattle.core_model.specs.declared.event.Shift.{Shift}
 use Rattle.core_model.specs.declared.event.Shift.TheVariants.{Cut, Alloc, Free, Lift, Large, Split}
-use Rattle.core_model.specs.Effects.{drew, seen, shifted, stopped}
+use Rattle.core_model.specs.Effects.{drew, seen, stopped}
+use Rattle.core_model.specs.ViewAfter.{shifted}
 use Rattle.core_model.specs.Memory.{Memory, memory_of}
 use Rattle.core_model.specs.View.{View, one_if_some}
 use Rattle.heap_table.specs.Plays.{HasSoundState, IsEvent}

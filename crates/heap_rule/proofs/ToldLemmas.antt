@@ -7,7 +7,8 @@ use Rattle.core_model.specs.declared.event.Shift.TheVariants.{Cut, Alloc, Free, 
 use Rattle.core_model.specs.Cells.{cell_at}
 use Rattle.core_model.specs.Memory.{Memory, memory_of}
 use Rattle.core_model.specs.View.{View, one_if_some}
-use Rattle.core_model.specs.Effects.{shifted, drew, stopped}
+use Rattle.core_model.specs.Effects.{drew, stopped}
+use Rattle.core_model.specs.ViewAfter.{shifted}
 use Rattle.core_model.proofs.TotalLemmas.{total_at}
 use Rattle.heap_table.specs.Plays.{IsEvent}
 use Rattle.heap_rule.specs.Shown.{Shows}

@@ -15,7 +15,7 @@ use Rattle.core_model.specs.Sound.{Good, IsCutBlock, tally_of, times_cut}
 use Rattle.core_model.proofs.TotalLemmas.{total_at, eq-eqb-one}
 use Rattle.core_model.proofs.PlaceLemmas.{and_is}
 use Rattle.core_model.proofs.BlockLemmas.{inside_of}
-use Rattle.core_model.proofs.SpanLemmas.{block_of}
+use Rattle.core_model.proofs.RangeLemmas.{block_of}
 use Rattle.core_model.proofs.SoundLemmas.{taken}
 use Rattle.core_model.proofs.OwnerLemmas.{in_lists_total}
 use Rattle.seat_state.proofs.BlockRanges.{cut_range}

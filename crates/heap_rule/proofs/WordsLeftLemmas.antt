@@ -6,7 +6,8 @@ use Rattle.core_model.specs.declared.event.Event.{Event}
 use Rattle.core_model.specs.declared.event.Event.TheVariants.{Tick, LookUsed, TakeFresh, Pop, Push, TakeAll, Give}
 use Rattle.core_model.specs.declared.event.Shift.{Shift}
 use Rattle.core_model.specs.declared.event.Shift.TheVariants.{Cut, Free}
-use Rattle.core_model.specs.Effects.{after_free, before, drew, given, lost, popped, pushed, seen, seen_word, shifted, stopped, taken_all, taken_fresh, view_after}
+use Rattle.core_model.specs.Effects.{before, drew, given, lost, popped, pushed, seen, seen_word, stopped, taken_all, taken_fresh}
+use Rattle.core_model.specs.ViewAfter.{after_free, shifted, view_after}
 use Rattle.core_model.specs.Guards.{IsAsSeen}
 use Rattle.core_model.specs.Steps.{StepsTo, is_done, stops, seat_after, words_after}
 use Rattle.core_model.specs.Memory.{memory_of}

@@ -9,7 +9,8 @@ use Rattle.core_model.specs.declared.event.Event.TheVariants.{TakeFresh, Pop, Pu
 use Rattle.core_model.specs.declared.event.Shift.{Shift}
 use Rattle.core_model.specs.Memory.{memory_of}
 use Rattle.core_model.specs.View.{View}
-use Rattle.core_model.specs.Effects.{class_blocks, cleared, rest_of, shifted, drew}
+use Rattle.core_model.specs.Effects.{class_blocks, cleared, rest_of, drew}
+use Rattle.core_model.specs.ViewAfter.{shifted}
 use Rattle.seat_state.specs.declared.notes.Cache.{Cache}
 use Rattle.seat_state.specs.declared.notes.SeatNotes.{SeatNotes}
 use Rattle.seat_state.specs.Notes.{snapshot}

@@ -6,7 +6,8 @@ use Rattle.atomic_table.specs.Table.{Me}
 use Rattle.core_model.specs.declared.event.Event.{Event}
 use Rattle.core_model.specs.declared.event.Shift.{Shift}
 use Rattle.line_memory.specs.declared.memory.Stopped.{Stopped}
-use Rattle.core_model.specs.Effects.{shifted, drew}
+use Rattle.core_model.specs.Effects.{drew}
+use Rattle.core_model.specs.ViewAfter.{shifted}
 use Rattle.core_model.specs.Memory.{memory_of}
 use Rattle.core_model.specs.View.{View}
 use Rattle.core_model.specs.Steps.{found_by}

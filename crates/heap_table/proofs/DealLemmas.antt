@@ -9,7 +9,7 @@ use Rattle.heap_model.specs.Counting.{total}
 use Rattle.heap_model.proofs.MemberLemmas.{in_none}
 use Rattle.core_model.specs.View.{View}
 use Rattle.core_model.specs.Orders.{AreReordered}
-use Rattle.core_model.proofs.CarrierLemmas.{same_seats}
+use Rattle.core_model.proofs.OfferLemmas.{same_seats}
 use Rattle.core_model.proofs.OrderLemmas.{reordered}
 use Rattle.heap_table.specs.Reached.{in_another_order}
 use Rattle.heap_table.specs.SeatViews.{SeatViews, all_views}

@@ -13,7 +13,8 @@ use Rattle.core_model.specs.Carriers.{accepted, AreOneLess, AreSeatsAndCarriers,
 use Rattle.core_model.specs.Held.{IsHeld}
 use Rattle.core_model.specs.Sound.{Sound}
 use Rattle.core_model.specs.View.{View}
-use Rattle.core_model.proofs.CarrierLemmas.{accepts_one, join_sound, offer_sound, offers_one}
+use Rattle.core_model.proofs.CarrierLemmas.{join_sound}
+use Rattle.core_model.proofs.OfferLemmas.{accepts_one, offer_sound, offers_one}
 use Rattle.heap_table.specs.AtTable.{IsAt, SharedView}
 use Rattle.heap_table.specs.Plays.{AreInOneState, DidAccept, DidReadBoth, HasSoundState}
 use Rattle.heap_table.specs.Reached.{IsReached, by_offer, by_accept}

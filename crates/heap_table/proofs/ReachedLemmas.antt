@@ -11,7 +11,8 @@ use Rattle.core_model.specs.View.{Setup, View, times_own}
 use Rattle.core_model.proofs.OpenedLemmas.{opened}
 use Rattle.core_model.specs.Carriers.{AreSeatsAndCarriers, carrier_of, IsCarrier, IsEmptied, offered, one_if_carrier}
 use Rattle.core_model.specs.Opening.{tabulate}
-use Rattle.core_model.proofs.CarrierLemmas.{accepts_one, join_sound, offer_sound, offers_one, one_set, same_roles, same_seats}
+use Rattle.core_model.proofs.CarrierLemmas.{join_sound, one_set}
+use Rattle.core_model.proofs.OfferLemmas.{accepts_one, offer_sound, offers_one, same_roles, same_seats}
 use Rattle.core_model.proofs.RoleLemmas.{Role, role_after}
 use Rattle.core_model.proofs.TotalLemmas.{total_same}
 use Rattle.heap_model.proofs.MemberLemmas.{head_or_rest, in_none}

@@ -10,13 +10,14 @@ use Rattle.core_model.specs.declared.event.Event.{Event}
 use Rattle.core_model.specs.Cells.{cell_at}
 use Rattle.core_model.specs.Memory.{memory_of}
 use Rattle.core_model.specs.View.{Setup, View, times_own}
-use Rattle.core_model.specs.Effects.{place_of, left_there, view_after}
+use Rattle.core_model.specs.Effects.{place_of, left_there}
+use Rattle.core_model.specs.ViewAfter.{view_after}
 use Rattle.core_model.specs.Guards.{IsOwn, MayStep}
 use Rattle.core_model.specs.Sound.{Sound}
 use Rattle.core_model.specs.Steps.{found_by, words_after, seat_after}
 use Rattle.core_model.proofs.SoundLemmas.{in_table, sound_step}
 use Rattle.core_model.specs.Carriers.{AreSeatsAndCarriers}
-use Rattle.core_model.proofs.CarrierLemmas.{same_roles}
+use Rattle.core_model.proofs.OfferLemmas.{same_roles}
 use Rattle.core_model.proofs.RoleLemmas.{role_after}
 use Rattle.seat_state.proofs.WordLemmas.{read_is}
 use Rattle.heap_table.specs.SeatViews.{SeatViews, IsSingle, all_views}

@@ -22,7 +22,7 @@ use Rattle.seat_state.proofs.WordLemmas.{read_is}
 use Rattle.core_model.specs.Carriers.{AreSeatsAndCarriers}
 use Rattle.core_model.specs.Cells.{cell_at}
 use Rattle.core_model.specs.Guards.{IsOwn}
-use Rattle.core_model.proofs.CarrierLemmas.{same_roles, stopped_few}
+use Rattle.core_model.proofs.OfferLemmas.{same_roles, stopped_few}
 use Rattle.core_model.proofs.RoleLemmas.{Role, role, role_after}
 use Rattle.heap_table.specs.AtTable.{SharedView, IsAt, IsLook, IsDraw, IsRaise, IsExchange, IsStore, MayPut, may_put, DoesIfMay, does, does_not, LearnsOwn, is_own, not_own}
 use Rattle.heap_table.specs.AtTable as at_table

@@ -5,7 +5,8 @@ use Rattle.core_model.specs.declared.event.Event.{Event}
 use Rattle.core_model.specs.Memory.{memory_of, table_index}
 use Rattle.core_model.specs.View.{View}
 use Rattle.core_model.specs.Carriers.{accepted, AreSeatsAndCarriers}
-use Rattle.core_model.specs.Effects.{place_of, left_there, view_after}
+use Rattle.core_model.specs.Effects.{place_of, left_there}
+use Rattle.core_model.specs.ViewAfter.{view_after}
 use Rattle.core_model.specs.Cells.{cell_at}
 use Rattle.core_model.specs.Guards.{IsOwn, MayStep}
 use Rattle.core_model.specs.Sound.{Sound}

@@ -6,7 +6,8 @@ use Rattle.core_model.specs.declared.event.Event.{Event}
 use Rattle.core_model.specs.declared.event.Event.TheVariants.{Tick, Load, Store, Settle, LookUsed, TakeFresh, KeepUsed, LookHead, LookLink, Pop, Push, LookAnchor, TakeAll, Give}
 use Rattle.core_model.specs.declared.event.Shift.{Shift}
 use Rattle.core_model.specs.Cells.{Cell, used_cell, head_cell, info_cell, anchor_cell, link_cell, root_cell, data_cell, no_cell, cell_at}
-use Rattle.core_model.specs.Effects.{before, claimed, drew, given, learn, lost, popped, pushed, seen, seen_of, seen_word, stored, stopped, taken_all, taken_fresh, used_up, view_after, won}
+use Rattle.core_model.specs.Effects.{before, claimed, drew, given, learn, lost, popped, pushed, seen, seen_of, seen_word, stored, stopped, taken_all, taken_fresh, used_up, won}
+use Rattle.core_model.specs.ViewAfter.{view_after}
 use Rattle.core_model.specs.Memory.{Memory, memory_of}
 use Rattle.core_model.specs.View.{View, no_batch}
 use Rattle.heap_table.specs.Plays.{IsEvent}

@@ -4,7 +4,8 @@ use Rattle.std.specs.Bool.{⊤}
 use Rattle.core_model.specs.declared.event.Event.TheVariants.{Tick}
 use Rattle.core_model.specs.declared.event.Shift.{Shift}
 use Rattle.core_model.specs.declared.event.Shift.TheVariants.{Alloc, Cut, Free, Large, Lift, Split}
-use Rattle.core_model.specs.Effects.{drew, shifted, stopped}
+use Rattle.core_model.specs.Effects.{drew, stopped}
+use Rattle.core_model.specs.ViewAfter.{shifted}
 use Rattle.core_model.specs.Memory.{Memory, memory_of}
 use Rattle.core_model.specs.View.{View}
 use Rattle.line_memory.specs.declared.memory.Stopped.{Stopped}

@@ -5,7 +5,8 @@ use Rattle.core_model.specs.declared.event.Event.TheVariants.{Tick}
 use Rattle.core_model.specs.declared.event.Shift.{Shift}
 use Rattle.core_model.specs.declared.event.Shift.TheVariants.{Alloc, Cut, Free, Large, Lift, Split}
 use Rattle.heap_model.specs.Geometry.{superblock_of}
-use Rattle.core_model.specs.Effects.{class_blocks, cleared, drew, shifted, span_count, without_range}
+use Rattle.core_model.specs.Effects.{class_blocks, cleared, drew, span_count, without_range}
+use Rattle.core_model.specs.ViewAfter.{shifted}
 use Rattle.core_model.specs.Memory.{Memory, info, memory_of}
 use Rattle.core_model.specs.View.{View}
 use Rattle.heap_model.specs.Counting.{without}

@@ -21,8 +21,8 @@ use Rattle.core_model.specs.Held.{IsHeld, a_small}
 use Rattle.core_model.specs.View.{Setup, Span, View, of_class, takes, times_in_classes, times_large, times_within}
 use Rattle.core_model.proofs.FrameLemmas.{times_without}
 use Rattle.core_model.proofs.PlaceLemmas.{and_is}
-use Rattle.core_model.proofs.ShiftLemmas.{in_classes_set, within_without}
-use Rattle.core_model.proofs.SpanLemmas.{in_range, without_span_is}
+use Rattle.core_model.proofs.ClassListLemmas.{in_classes_set, within_without}
+use Rattle.core_model.proofs.RangeLemmas.{in_range, without_span_is}
 use Rattle.core_model.proofs.TotalLemmas.{eq-eqb-one, ne-eqb-none}
 use Rattle.heap_table.specs.Plays.{HasSoundState}
 use Rattle.seat_costs.specs.Words.{IsHeldWord, times_held}

@@ -16,7 +16,7 @@ use Rattle.core_model.specs.Effects.{span_count}
 use Rattle.core_model.specs.Held.{IsHeld, a_small, a_large}
 use Rattle.core_model.specs.Splitting.{chosen, chosen_lists, chosen_spans}
 use Rattle.core_model.specs.View.{Setup, Span, View, of_class, times_large}
-use Rattle.core_model.proofs.CarrierLemmas.{both_class, both_within, large_append}
+use Rattle.core_model.proofs.BothLemmas.{both_class, both_within, large_append}
 use Rattle.core_model.proofs.OwnerLemmas.{in_lists_total, which_class}
 use Rattle.core_model.proofs.TotalLemmas.{eq-eqb-one, ne-eqb-none}
 use Rattle.heap_table.specs.Plays.{HasSoundState}

@@ -3,7 +3,8 @@ use Rattle.std.proofs.Common.{◌≡◌, ℕ, ◌<◌, ◌↔◌, Bool, true, fa
 use Rattle.heap_model.specs.Counting.{one_if}
 use Rattle.core_model.specs.Memory.{Memory}
 use Rattle.core_model.specs.View.{View}
-use Rattle.core_model.specs.Effects.{drew, shifted}
+use Rattle.core_model.specs.Effects.{drew}
+use Rattle.core_model.specs.ViewAfter.{shifted}
 use Rattle.core_model.specs.declared.event.Shift.{Shift}
 use Rattle.core_model.specs.declared.event.Shift.TheVariants.{Cut, Alloc, Free, Lift, Large, Split}
 

@@ -14,7 +14,7 @@ use Rattle.core_model.specs.Opening.{picked, is_small, small_blocks, tabulate, A
 use Rattle.core_model.proofs.BlockLemmas.{inside_of}
 use Rattle.core_model.proofs.PlaceLemmas.{pick, skip, not-eq, and_both, and_is}
 use Rattle.core_model.proofs.OpenLemmas.{picked_in, tabulate_sum, small_at, small_sum}
-use Rattle.core_model.proofs.OpenedLemmas as opened
+use Rattle.core_model.proofs.OpenedPartLemmas
 use Rattle.seat_state.proofs.PickedLemmas.{picked_more, total_append, none_before, small_once}
 
 -- empty caches have no blocks
@@ -52,8 +52,8 @@ module _ (words : List ℕ) (held : List Block) (owners : List ℕ) (ready : IsR
       | inr later ↦ only_one n owner later
     ]
 
-  pub small_of : (p : Block) → Contains held p → is_small p ≡ true → opened.IsSmall words held 0 1 alone (replicate roots 0) ready for_one p
-  small_of p there small = opened.small_of words held 0 1 alone (replicate roots 0) ready for_one p there small
+  pub small_of : (p : Block) → Contains held p → is_small p ≡ true → OpenedPartLemmas.IsSmall words held 0 1 alone (replicate roots 0) ready for_one p
+  small_of p there small = OpenedPartLemmas.small_of words held 0 1 alone (replicate roots 0) ready for_one p there small
 
   pub within : (p : Block) → Contains held p → is_small p ≡ true → p.first_word < image_words c
   within p there small = let s = small_of p there small in let at = inside_of c s.class s.d p.first_word s.is_class s.is in

@@ -12,9 +12,9 @@ use Rattle.core_model.specs.Opening.{picked, is_small, large_blocks}
 use Rattle.core_model.specs.View.{Span, takes, times_large}
 use Rattle.heap_model.proofs.ListLemmas.{one_at_most}
 use Rattle.core_model.proofs.PlaceLemmas.{pick, skip, not-eq}
-use Rattle.core_model.proofs.SpanLemmas.{range_is, range_not, cases_range}
+use Rattle.core_model.proofs.RangeLemmas.{range_is, range_not, cases_range}
 use Rattle.core_model.proofs.OpenLemmas.{picked_in, large_sum, span_from}
-use Rattle.core_model.proofs.OpenedLemmas as opened
+use Rattle.core_model.proofs.OpenedPartLemmas
 use Rattle.seat_state.specs.declared.superblocks.SuperblockUsage.{SuperblockUsage}
 use Rattle.seat_state.specs.declared.superblocks.SuperblockUsage.TheVariants as usage
 use Rattle.seat_state.specs.declared.superblocks.SuperblockOwner.{SuperblockOwner}
@@ -91,20 +91,20 @@ module _ (words : List ℕ) (held : List Block) (owners : List ℕ) (ready : IsR
   c = slice_index words 2
 
   abbrev IsLarge : Block → Type 0
-  IsLarge p = opened.IsLarge words held 0 1 (alone words held owners ready long) (replicate roots 0) ready (for_one words held owners ready long) p
+  IsLarge p = OpenedPartLemmas.IsLarge words held 0 1 (alone words held owners ready long) (replicate roots 0) ready (for_one words held owners ready long) p
 
   -- where a large block lies, as its superblocks are counted
   pub large_at : (p : Block) → Contains held p → is_small p ≡ false → (start_word c 0 ≤ p.first_word) × (1 ≤ p.words / superblock_words)
       × (superblock_of c p.first_word + p.words / superblock_words ≤ c)
-  large_at p there large = let l = opened.large_of words held 0 1 (alone words held owners ready long) (replicate roots 0) ready
+  large_at p there large = let l = OpenedPartLemmas.large_of words held 0 1 (alone words held owners ready long) (replicate roots 0) ready
       (for_one words held owners ready long) p there large in let f = l.first in let s = l.size in let o = l.some in let h = l.here in
       let t = l.fits in let u = ready.formed.used in
       (omega arith, omega arith, omega arith)
 
   part_takes : (e : ℕ) (p : Block) → Contains held p → is_small p ≡ false
       → one_if (takes e (record { first = superblock_of c p.first_word; count = p.words / superblock_words })) ≡ large_part c e p
-  part_takes e p there large = opened.part_takes words held 0 1 (alone words held owners ready long) (replicate roots 0) ready
-      (for_one words held owners ready long) e p (opened.large_of words held 0 1 (alone words held owners ready long) (replicate roots 0) ready
+  part_takes e p there large = OpenedPartLemmas.part_takes words held 0 1 (alone words held owners ready long) (replicate roots 0) ready
+      (for_one words held owners ready long) e p (OpenedPartLemmas.large_of words held 0 1 (alone words held owners ready long) (replicate roots 0) ready
       (for_one words held owners ready long) p there large)
 
   part_once : (e : ℕ) → total (large_part c e) held ≤ 1
@@ -168,7 +168,7 @@ module _ (words : List ℕ) (held : List Block) (owners : List ℕ) (ready : IsR
           let part : large_part c e p ≡ 1 = sym (part_takes e p there large) ∙ range_is d n e low high in
           large_sum c e (picked j (take i held) (take i owners)) (λ q m l. part_takes e q
           (in_taken held i q (picked_in j (take i held) (take i owners) q m)) l)
-          (λ q m s. opened.small_part words held 0 1 (alone words held owners ready long) (replicate roots 0) ready
+          (λ q m s. OpenedPartLemmas.small_part words held 0 1 (alone words held owners ready long) (replicate roots 0) ready
           (for_one words held owners ready long) e q s)
           ∙ none_before (large_part c e) j held (take i owners) i p below at (part_once e) part
 

@@ -5,7 +5,7 @@ use Rattle.seat_state.specs.declared.superblocks.SuperblockUsage.TheVariants as 
 use Rattle.seat_state.specs.declared.superblocks.SuperblockOwner.{SuperblockOwner}
 use Rattle.seat_state.specs.Superblocks.{usage_for, no_superblock, IsRange}
 use Rattle.seat_state.proofs.UsageLemmas.{usage_own, usage_theirs}
-use Rattle.core_model.proofs.SpanLemmas.{cases_range}
+use Rattle.core_model.proofs.RangeLemmas.{cases_range}
 
 pub range_mine : (old new : List SuperblockOwner) (i from n : ℕ) (x : SuperblockUsage) (P : ℕ → SuperblockUsage → Type 0)
     → IsRange old new from n (record { seat = i; usage = x })

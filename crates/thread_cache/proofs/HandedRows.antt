@@ -10,9 +10,9 @@ use Rattle.core_model.specs.Cells.{Cell, used_cell, head_cell, info_cell, anchor
 use Rattle.core_model.specs.Memory.{memory_of}
 use Rattle.core_model.specs.Splitting.{chosen, chosen_lists}
 use Rattle.core_model.specs.View.{Batch, Role, View, times_classed, times_in_classes, times_large, times_own, times_raw, times_within}
-use Rattle.core_model.proofs.CarrierLemmas.{both_within, large_append}
+use Rattle.core_model.proofs.BothLemmas.{both_within, large_append}
 use Rattle.core_model.proofs.HeldOnceLemmas as once
-use Rattle.core_model.proofs.SplittingLemmas.{chosen_less, spans_less}
+use Rattle.core_model.proofs.ChosenLemmas.{chosen_less, spans_less}
 use Rattle.heap_table.specs.Plays.{HasSoundState}
 use Rattle.heap_rule.specs.Carried.{Carries, KnowsItsOwn}
 use Rattle.heap_rule.specs.Fences.{Owns}

@@ -20,7 +20,7 @@ use Rattle.core_model.specs.View.{View, of_class, times_large}
 use Rattle.core_model.proofs.OwnerLemmas.{in_lists_total}
 use Rattle.heap_model.proofs.PartLemmas.{same_fields}
 use Rattle.core_model.proofs.PlaceLemmas.{and_both}
-use Rattle.core_model.proofs.SpanLemmas.{in_range, range_is, range_not, without_span_is}
+use Rattle.core_model.proofs.RangeLemmas.{in_range, range_is, range_not, without_span_is}
 use Rattle.heap_table.specs.Plays.{HasSoundState}
 use Rattle.heap_rule.specs.Seated.{SeatView}
 use Rattle.heap_rule.proofs.HeldLemmas.{held_placed}

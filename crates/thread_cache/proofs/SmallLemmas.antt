@@ -13,12 +13,13 @@ use Rattle.line_memory.specs.declared.memory.Stopped.{Stopped}
 use Rattle.core_model.specs.declared.event.Event.TheVariants.{Store, Tick}
 use Rattle.core_model.specs.declared.event.Shift.TheVariants.{Alloc, Free}
 use Rattle.core_model.specs.Cells.{Cell, used_cell, head_cell, info_cell, anchor_cell, link_cell, root_cell, data_cell, no_cell, cell_at, index_of}
-use Rattle.core_model.specs.Effects.{after_free, drew, first_of, last_of, learn, rest_of, stored, used_up}
+use Rattle.core_model.specs.Effects.{drew, first_of, last_of, learn, rest_of, stored, used_up}
+use Rattle.core_model.specs.ViewAfter.{after_free}
 use Rattle.core_model.specs.Guards.{IsOwn}
 use Rattle.core_model.specs.View.{Batch, View, of_class, times_block, no_batch}
 use Rattle.core_model.proofs.OwnerLemmas.{in_lists_total}
 use Rattle.core_model.proofs.PlaceLemmas.{and_both, and_is, cell_at_index, not-eq, skip}
-use Rattle.core_model.proofs.ShiftLemmas.{first_rest, in_classes_set, within_without}
+use Rattle.core_model.proofs.ClassListLemmas.{first_rest, in_classes_set, within_without}
 use Rattle.seat_state.proofs.EndLemmas.{last_there}
 use Rattle.seat_state.proofs.BlockRanges.{in_classes_word}
 use Rattle.heap_rule.specs.Fences.{Owns}

@@ -1,7 +1,8 @@
 use Rattle.std.proofs.Common.{refl, arith}
 use Rattle.core_model.specs.Carriers.{offered}
 use Rattle.core_model.specs.Steps.{found_by, seat_after}
-use Rattle.core_model.proofs.CarrierLemmas.{offer_sound, carries_block, join_sound, offers_one, accepts_one, same_roles}
+use Rattle.core_model.proofs.CarrierLemmas.{join_sound}
+use Rattle.core_model.proofs.OfferLemmas.{offer_sound, carries_block, offers_one, accepts_one, same_roles}
 use Rattle.core_model.proofs.EmptiedLemmas.{accept_counted, accept_sound, empties_carrier}
 use Rattle.core_model.proofs.HeldOnceLemmas.{held_once}
 use Rattle.core_model.proofs.RoleLemmas.{role_after}

@@ -1,7 +1,7 @@
 use Rattle.std.proofs.Common.{◌≡◌, ◌*◌, Some, refl, sym, true≢false, arith}
 use Rattle.heap_model.specs.Geometry.{image_words}
 use Rattle.core_model.specs.declared.event.Event.TheVariants.{Tick}
-use Rattle.core_model.specs.Effects.{shifted}
+use Rattle.core_model.specs.ViewAfter.{shifted}
 use Rattle.crash_core.proofs.StandingLemmas.{step_not, seat_is}
 use Rattle.crash_core.proofs.ReadLemmas.{lengths}
 use Rattle.crash_core.proofs.WordSteps.{ticket_fits}

@@ -1,5 +1,5 @@
 use Rattle.std.proofs.Common.{true, Some, sym, subst}
-use Rattle.core_model.specs.Effects.{shifted}
+use Rattle.core_model.specs.ViewAfter.{shifted}
 use Rattle.core_model.specs.Guards.{MayShift}
 use Rattle.crash_core.specs.Standing.{Decides, Moves}
 use Rattle.crash_core.proofs.TickSteps.{free_held}
