@@ -1,8 +1,5 @@
 -- A directory that grows by one superblock, and what it keeps.
-use Rattle.std.proofs.Common.{◌≡◌, ℕ, ◌+◌, ◌*◌, ◌<◌, ◌≤◌, inl, inr, List, [], ◌∷◌, ◌++◌, length, slice_index_or, Option, Some, None, IfSome, refl, ap, sym, subst, ◌∙◌, arith, length-append}
-use Rattle.std.proofs.Math.ListN.{get_or-append}
-use Rattle.std.proofs.Math.Seq.{get_or-append_seam}
-use Rattle.std.proofs.lemmas.Bool.{cases_lt}
+use Rattle.std.proofs.Common.{ℕ, ◌*◌, ◌<◌, ◌≤◌, List, length, slice_index_or, Option, Some, None, IfSome, subst, arith}
 use Rattle.heap_model.specs.declared.block.Block.{Block}
 use Rattle.heap_model.specs.Blocks.{Layout, Begins, of_class, as_large, NamesIn}
 use Rattle.heap_model.proofs.BlockLemmas.{some_words}
@@ -11,23 +8,6 @@ use Rattle.super_block.specs.declared.division.Division.{Division}
 use Rattle.super_block.specs.Division.{Divisions, Describes, DividesAs, DividesTaken, DividesFirst, FitsIn, IsPlaceOf}
 use Rattle.super_block.specs.declared.naming.Place.{Place}
 use Rattle.super_block.proofs.NamingLemmas.{placed_block}
-
--- no superblock yet
-pub divides_none : (l : Layout) → DividesFirst l [] 0
-divides_none l = record { long = refl; each = λ d below. absurd (omega arith) }
-
--- one superblock more
-pub divides_more : (l : Layout) (of : List (Option Division)) (found : Option Division) (count : ℕ) → DividesFirst l of count → DividesAs l count found
-    → DividesFirst l (of ++ found ∷ []) (count + 1)
-divides_more l of found count first next = record { long = length-append of (found ∷ []) ∙ ap (λ n. n + 1) first.long; each = each } where
-  each : (d : ℕ) → d < count + 1 → DividesAs l d (slice_index_or (of ++ found ∷ []) d None)
-  each d below = elim (cases_lt d count) as (λ _. DividesAs l d (slice_index_or (of ++ found ∷ []) d None)) [
-    | inl before ↦ rw (get_or-append of (found ∷ []) None d (let long = first.long in omega arith)) (first.each d before)
-    | inr last ↦ let same : count ≡ d = omega arith in
-        let seam : slice_index_or (of ++ found ∷ []) d None ≡ found =
-        subst (λ i. slice_index_or (of ++ found ∷ []) i None ≡ found) (first.long ∙ same) (get_or-append_seam of found [] None) in
-        subst (λ o. DividesAs l d o) (sym seam) (subst (λ i. DividesAs l i found) same next)
-  ]
 
 -- the blocks that are begun have no more words than all superblocks
 few_words : (l : Layout) (d w n : ℕ) → l.used ≤ l.capacity → d < l.used → Begins l d w n → n * w ≤ 8192 * l.capacity

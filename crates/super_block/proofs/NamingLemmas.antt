@@ -1,6 +1,6 @@
 -- Which block an offset names, from the superblock that it lies in and how that is divided.
-use Rattle.std.proofs.Common.{◌≡◌, ℕ, ◌+◌, ◌*◌, ◌/◌, ◌%◌, ◌<◌, ◌≤◌, None, ap, sym, subst, ◌∙◌, arith}
-use Rattle.std.proofs.Math.Nat.{mul-mod_left, mul-div_cancel, div-add-mod, mul_comm}
+use Rattle.std.proofs.Common.{◌≡◌, ℕ, ◌+◌, ◌*◌, ◌/◌, ◌%◌, ◌<◌, ◌≤◌, None, ap, subst, ◌∙◌, arith}
+use Rattle.std.proofs.Math.Nat.{mul-mod_left, mul-div_cancel}
 use Rattle.heap_model.specs.declared.block.Block.{Block}
 use Rattle.heap_model.specs.Geometry.{start_word}
 use Rattle.heap_model.specs.Sizes.{IsClass, words_of_class, blocks_of}
@@ -14,25 +14,6 @@ use Rattle.super_block.specs.Division.{IsPlaceOf, IsFound, DividesAs}
 -- a block of a class begins inside its superblock
 pub block_offset : (c index : ℕ) → IsClass c → index < blocks_of c → index * words_of_class c < 8192
 block_offset c index is below = omega (arith, block_step index (blocks_of c) (words_of_class c) below, blocks_fit c is, two_words c is)
-
--- a multiple below the count of blocks is the place of a block
-pub found_block : (l : Layout) (offset capacity : ℕ) (place : Place) (division : Division) (b : Block) → IsFound l offset capacity place division
-    → place.within % division.words ≡ 0 → place.within / division.words < division.count
-    → b.first_word ≡ start_word capacity place.superblock + place.within → b.words ≡ division.words → NamesIn l offset b
-found_block l offset capacity place division b found whole below first size = record {
-  begins_at = found.lies.at ∙ ap (λ x. 8 * x) (sym first);
-  block = record {
-    superblock = place.superblock;
-    index = place.within / division.words;
-    words = division.words;
-    count = division.count;
-    is_of = record { taken = found.taken; begins = found.divided; below = below; at = at; size = size };
-  };
-} where
-  at : b.first_word ≡ start_word l.capacity place.superblock + place.within / division.words * division.words
-  at = let sum : division.words * (place.within / division.words) + place.within % division.words ≡ place.within =
-      div-add-mod place.within division.words in
-      let same = found.capacity_is in omega (arith, mul_comm (place.within / division.words) division.words)
 
 -- a named block lies in the superblock of the offset, and begins at its place there
 pub record IsPlacedAt (l : Layout) (place : Place) (b : Block) : Type 0 where
