@@ -7,7 +7,7 @@ use Rattle.heap_model.specs.declared.block.Block.{Block}
 use Rattle.heap_model.specs.Geometry.{lists, roots, info_word, image_words, superblock_of}
 use Rattle.heap_model.specs.Counting.{times, total, one_if}
 use Rattle.heap_model.specs.Rest.{IsReady}
-use Rattle.heap_model.proofs.CountingLemmas.{one_if_true, one_if_false}
+use Rattle.heap_model.proofs.CountingLemmas.{one_if_true, one_if_false, total_append}
 use Rattle.heap_model.proofs.MemberLemmas.{in_none, head_or_rest}
 use Rattle.heap_model.proofs.SizeLemmas.{two_words}
 use Rattle.core_model.specs.Opening.{picked, is_small, small_blocks, tabulate, AreOwners}
@@ -15,7 +15,7 @@ use Rattle.core_model.proofs.BlockLemmas.{inside_of}
 use Rattle.core_model.proofs.PlaceLemmas.{pick, skip, not-eq, and_both, and_is}
 use Rattle.core_model.proofs.OpenLemmas.{picked_in, tabulate_sum, small_at, small_sum}
 use Rattle.core_model.proofs.OpenedPartLemmas
-use Rattle.seat_state.proofs.PickedLemmas.{picked_more, total_append, none_before, small_once}
+use Rattle.seat_state.proofs.PickedLemmas.{picked_more, none_before, small_once}
 
 -- empty caches have no blocks
 pub none_cached : (n b : ℕ) → total (times b) (replicate n []) ≡ 0

@@ -11,6 +11,7 @@ use Rattle.core_model.specs.Effects.{span_count}
 use Rattle.core_model.specs.Opening.{picked, is_small, large_blocks}
 use Rattle.core_model.specs.View.{Span, takes, times_large}
 use Rattle.heap_model.proofs.ListLemmas.{one_at_most}
+use Rattle.heap_model.proofs.CountingLemmas.{total_append}
 use Rattle.core_model.proofs.PlaceLemmas.{pick, skip, not-eq}
 use Rattle.core_model.proofs.RangeLemmas.{range_is, range_not, cases_range}
 use Rattle.core_model.proofs.OpenLemmas.{picked_in, large_sum, span_from}
@@ -21,7 +22,7 @@ use Rattle.seat_state.specs.declared.superblocks.SuperblockOwner.{SuperblockOwne
 use Rattle.seat_state.specs.OpenedSuperblocks.{AreSuperblockOwners, IsLargeGiven}
 use Rattle.seat_state.specs.Superblocks.{usage_for, no_superblock, count_in, IsUsage, HasSuperblocks, IsRange}
 use Rattle.seat_state.proofs.HeldSoFar.{alone, for_one, block_there}
-use Rattle.seat_state.proofs.PickedLemmas.{picked_more, total_append, none_before, in_taken}
+use Rattle.seat_state.proofs.PickedLemmas.{picked_more, none_before, in_taken}
 use Rattle.seat_state.proofs.RangeLemmas.{range_theirs}
 use Rattle.seat_state.proofs.UsageLemmas.{usage_own, usage_theirs, usages_mine, usages_theirs, no_usage}
 

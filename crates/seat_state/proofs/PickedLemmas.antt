@@ -31,10 +31,6 @@ picked_more {A} j (y ∷ xs) (p ∷ os) (suc i) x o below at below_o at_o =
       by_test true m n e = ap (λ l. y ∷ l) e
       by_test false m n e = e
 
-pub total_append : {A : Type 0} (f : A → ℕ) (xs ys : List A) → total f (xs ++ ys) ≡ total f xs + total f ys
-total_append f [] ys = omega arith
-total_append f (x ∷ xs) ys = let rest = total_append f xs ys in omega arith
-
 -- what is picked is a part of all, and what is taken too
 pub picked_most : {A : Type 0} (f : A → ℕ) (j : ℕ) (xs : List A) (os : List ℕ) → total f (picked j xs os) ≤ total f xs
 picked_most f j [] os = omega arith
