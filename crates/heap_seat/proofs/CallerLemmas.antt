@@ -1,7 +1,7 @@
 -- How what one call leaves and what the next one leaves go together, for callers of a seat.
-use Rattle.std.proofs.Common.{◌≡◌, ◌≢◌, ℕ, ◌+◌, ◌≤◌, ◌⊎◌, List, Contains, refl, sym, ◌∙◌, subst, arith, inl, inr, None, Some, Option}
+use Rattle.std.proofs.Common.{◌≡◌, ◌≢◌, ℕ, ◌+◌, ◌⊎◌, List, Contains, refl, sym, ◌∙◌, subst, arith, inl, inr, None, Some, Option}
 use Rattle.heap_model.specs.declared.block.Block.{Block}
-use Rattle.heap_model.specs.Blocks.{IsIn, AreOneOrApart}
+use Rattle.heap_model.specs.Blocks.{IsIn}
 use Rattle.heap_model.specs.Geometry.{root_word}
 use Rattle.heap_seat.specs.declared.spot.Spot.{Spot}
 use Rattle.heap_seat.specs.declared.spot.Spot.TheVariants.{InBlock, Root}
@@ -60,21 +60,6 @@ store_then word value v u w owns a b =
       stored = λ read may. a.stored read (read_before u w word read (b.words word (own_same v u word a.held a.roots owns)) may);
     }
 
--- a call that stores nothing, and then a store
-pub then_store : (word value : ℕ) (v u w : View) → IsOwn v.held v.roots word → KeepsOwn v u → MayHaveStored word value u w
-    → MayHaveStored word value v w
-then_store word value v u w owns a b =
-    record {
-      held = b.held ∙ a.held;
-      roots = b.roots ∙ a.roots;
-      others = λ other own differs. keeps_word_then v u w other (a.words other own) (b.others other (own_same v u other a.held a.roots own) differs);
-      stored = λ read may.
-          elim (b.stored read may) [
-            | inl e ↦ inl e
-            | inr before ↦ inr (read_before v u word read (a.words word owns) before)
-          ];
-    }
-
 -- a held block is held in a view that holds the same
 pub held_in : (v w : View) (b : Block) → w.held ≡ v.held → Contains v.held b → Contains w.held b
 held_in v w b e h = subst (λ (held : List Block). Contains held b) (sym e) h
@@ -122,7 +107,7 @@ one_value None x all = absurd (two_numbers x (all 0 tt) (all 1 tt))
 one_value (Some y) x all = let e = all y refl in cc
 
 -- what may be read of a word that is known
-may_be_known : (known : Option ℕ) (x value : ℕ) → known ≡ Some x → MayBe known value → value ≡ x
+pub may_be_known : (known : Option ℕ) (x value : ℕ) → known ≡ Some x → MayBe known value → value ≡ x
 may_be_known None x value e may = absurd (cc)
 may_be_known (Some y) x value e may = let s : y ≡ x = cc in may ∙ s
 
@@ -135,17 +120,6 @@ stays_durable v w word x keeps seen left =
       | inl m ↦ may_be_known (v.volatile word) x value seen m
       | inr m ↦ may_be_known (v.durable word) x value left m
     ])
-
--- the first word of one held block is no word of another
-pub first_outside : (a b : Block) → 1 ≤ a.words → AreOneOrApart a b → a ≢ b → IsIn b a.first_word → ⊥
-first_outside a b some apart differ inside =
-    elim apart [
-      | inl e ↦ differ e
-      | inr far ↦
-          let from = inside.from in
-          let until = inside.until in
-          elim far [ inl l ↦ omega arith | inr l ↦ omega arith ]
-    ]
 
 -- a block that is held isn't one that isn't
 pub not_new : (v : View) (a b : Block) → Contains v.held a → (Contains v.held b → ⊥) → a ≢ b
@@ -178,12 +152,6 @@ pending_then v u w word a keeps b = λ was. elim (a was) as (λ _. Contains w.pe
   | inl still ↦ b still
   | inr durable ↦ inr (durable_then u w word keeps durable)
 ]
-
--- an image of the later views is one of the earlier view, where no call between stores to an own word
-pub mixes_before : (v w : View) (image : Image) → KeepsOwn v w → MixesOwn w image → MixesOwn v image
-mixes_before v w image keeps mixes = record {
-  each = λ word own. read_before v w word (image word) (keeps.words word own) (mixes.each word (own_same v w word keeps.held keeps.roots own));
-}
 
 -- what is durable as loads see it has that value in every image
 pub durable_in : (v : View) (word value : ℕ) (image : Image) → IsOwn v.held v.roots word → v.volatile word ≡ Some value

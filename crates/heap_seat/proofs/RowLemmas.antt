@@ -146,10 +146,6 @@ stops_then ticket v u w a b = record {
   before = λ at stopped. absurd (let ran = a.ran in cc);
 }
 
--- a call of a seat that had stopped was not done
-pub not_idle : {A : Type 0} (ticket : ℕ) (v w : View) → Runs v w → v.stopped ≡ Some ticket → A
-not_idle ticket v w runs stopped = absurd (let ran = runs.ran in cc)
-
 -- refusals over two calls
 pub same_refusals_then : (v u w : View) → SameRefusals v u → SameRefusals u w → SameRefusals v w
 same_refusals_then v u w a b = record { count = b.count ∙ a.count; bytes = b.bytes ∙ a.bytes; looks = b.looks ∙ a.looks }
