@@ -10,6 +10,7 @@ pub record IsSteady (v : View) (look : LastLook) (now : ℕ) : Type 0 where
   pub least : look.wins ≤ v.wins
   pub same : IsThere look.ticket → look.wins ≡ v.wins → now ≡ look.word
 
+-- so are the mark and the head of each list
 pub record Steady (m : Memory) (v : View) : Type 0 where
   pub used_is : IsSteady v v.used_look (used m)
   pub heads : (list : ℕ) → list < lists → IsSteady v (get_or v.head_looks list v.used_look) (head m list)

@@ -20,23 +20,27 @@ pub record Costs : Type 0 where
 abbrev pub no_costs : Costs
 no_costs = record { draws = 0; credit = 0; wins = 0; refund = 0; gives = 0; cuts = 0; taken = 0; moves = 0 }
 
--- a ticket; an exchange that is lost, or won; one that may put a superblock on a list, or moves one of a class to the
--- list of the free ones, or gives a batch
+-- a ticket
 abbrev pub one_draw : Costs
 one_draw = record no_costs { draws = 1 }
 
+-- an exchange that is lost
 abbrev pub one_loss : Costs
 one_loss = record no_costs { credit = 4 }
 
+-- one that is won
 abbrev pub one_win : Costs
 one_win = record no_costs { wins = 1 }
 
+-- one that may put a superblock on a list
 abbrev pub one_push : Costs
 one_push = record one_win { moves = 1 }
 
+-- one that gives a batch
 abbrev pub one_give : Costs
 one_give = record no_costs { wins = 1; gives = 1 }
 
+-- one that moves a superblock of a class to the list of the free ones
 abbrev pub one_move : Costs
 one_move = record no_costs { credit = 16; wins = 1; refund = 2; moves = 1 }
 

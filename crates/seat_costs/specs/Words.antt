@@ -9,10 +9,11 @@ abbrev pub MayBe : Option ℕ → ℕ → Type 0
 MayBe None value = ⊤
 MayBe (Some known) value = value ≡ known
 
--- what the view has recorded of a word: what loads see, and what a crash leaves
+-- what the view has recorded that loads see of a word
 abbrev pub seen_at : View → ℕ → Option ℕ
 seen_at v word = get_or v.volatile word None
 
+-- what it has recorded that a crash leaves of the word
 abbrev pub left_at : View → ℕ → Option ℕ
 left_at v word = get_or v.durable word None
 
