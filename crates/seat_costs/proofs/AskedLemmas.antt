@@ -5,8 +5,8 @@ use Rattle.heap_model.specs.Words.{full_anchor, head_first}
 use Rattle.core_model.specs.declared.event.Event.{Event}
 use Rattle.core_model.specs.declared.event.Event.TheVariants.{Tick, Load, Store, Settle, LookUsed, TakeFresh, KeepUsed, LookHead, LookLink, Pop, Push, LookAnchor, TakeAll, Give}
 use Rattle.core_model.specs.declared.event.Shift.{Shift}
-use Rattle.core_model.specs.Cells.{Cell, used_cell, head_cell, info_cell, anchor_cell, link_cell, root_cell, data_cell, no_cell, cell_at}
-use Rattle.core_model.specs.Effects.{before, claimed, drew, given, learn, lost, popped, pushed, seen, seen_of, seen_word, stored, stopped, taken_all, taken_fresh, used_up, won}
+use Rattle.core_model.specs.Cells.{cell_at}
+use Rattle.core_model.specs.Effects.{before, claimed, drew, given, learn, lost, popped, pushed, seen, seen_of, seen_word, stopped, taken_all, taken_fresh, used_up, won}
 use Rattle.core_model.specs.ViewAfter.{view_after}
 use Rattle.core_model.specs.Memory.{Memory, memory_of}
 use Rattle.core_model.specs.View.{View, no_batch}
@@ -17,6 +17,7 @@ use Rattle.heap_rule.proofs.TicketLemmas.{draws_most}
 use Rattle.seat_costs.specs.Asked.{AsksFor, HasAsked}
 use Rattle.seat_costs.specs.Draws.{LeavesAsSettled}
 use Rattle.seat_costs.proofs.DrawLemmas.{by_chance, early_rest}
+use Rattle.seat_costs.proofs.StoredLemmas.{stored_only}
 
 asks_then : {C : Type 0} (gives : C → ℕ → C → Type 0) (m n all : ℕ) (a b c : C) → all ≡ m + n → AsksFor gives m a b → AsksFor gives n b c
     → AsksFor gives all a c
@@ -51,17 +52,6 @@ abbrev pub IsNoDraw : Event → Type 0
 IsNoDraw (Tick shift) = ⊥
 IsNoDraw event = ⊤
 
-stored_draws : (v : View) (cell : Cell) (value : ℕ) → (stored v cell value).draws ≡ v.draws
-stored_draws v used_cell value = refl
-stored_draws v (head_cell list) value = refl
-stored_draws v (info_cell d) value = refl
-stored_draws v (anchor_cell d) zero = refl
-stored_draws v (anchor_cell d) (suc n) = refl
-stored_draws v (link_cell d) value = refl
-stored_draws v (root_cell i) value = refl
-stored_draws v (data_cell word) value = refl
-stored_draws v no_cell value = refl
-
 claimed_draws : (v : View) (d list : ℕ) → (claimed v d list).draws ≡ v.draws
 claimed_draws v d zero = refl
 claimed_draws v d (suc class) = refl
@@ -82,8 +72,8 @@ given_draws v d = either_draws (nat_eq (seen_word v.seen_anchor) full_anchor)
 step_draws : (m : Memory) (v : View) (event : Event) (found : ℕ) → IsNoDraw event → (view_after m v event found).draws ≡ v.draws
 step_draws m v (Tick shift) found none = absurd none
 step_draws m v (Load word) found none = refl
-step_draws m v (Store word value) found none = stored_draws (record (used_up v) { volatile = learn v.volatile word value })
-    (cell_at v.setup.capacity word) value
+step_draws m v (Store word value) found none = ap (λ (x : View). x.draws)
+    (stored_only (record (used_up v) { volatile = learn v.volatile word value }) (cell_at v.setup.capacity word) value)
 step_draws m v (Settle word) found none = refl
 step_draws m v LookUsed found none = refl
 step_draws m v (TakeFresh n) found none = either_draws (nat_eq found (seen v.seen_used)) (taken_fresh v n)

@@ -1,12 +1,15 @@
+pub mod ResultLemmas
 pub mod WordLemmas
 pub mod RowLemmas
 pub mod AlikeLemmas
 pub mod DrawLemmas
 pub mod EventLemmas
+pub mod StoredLemmas
 pub mod StoreLemmas
 pub mod FreshLemmas
 pub mod ShiftLemmas
 pub mod OnceLemmas
+pub mod SteadyLemmas
 pub mod AloneLemmas
 pub mod ChanceLemmas
 pub mod IdleLemmas

@@ -1,12 +1,11 @@
 -- Rows of steps on own words: loads, stores, settling, write-backs and fences.
-use Rattle.std.proofs.Common.{◌≡◌, ◌≢◌, ℕ, zero, suc, ◌/◌, inl, inr, Bool, true, false, get_or, Option, None, Some, refl, ap, sym, subst, ◌∙◌, arith}
+use Rattle.std.proofs.Common.{◌≡◌, ◌≢◌, ℕ, ◌/◌, inl, inr, Bool, true, false, get_or, Option, None, Some, refl, ap, sym, subst, ◌∙◌}
 use Rattle.std.proofs.lemmas.Bool.{cases_eq}
 use Rattle.std.proofs.lemmas.List.{get_or-set_other}
-use Rattle.heap_model.specs.Counting.{one_if}
 use Rattle.line_memory.specs.Marks.{IsMarked, mark_at}
 use Rattle.core_model.specs.declared.event.Event.TheVariants.{Load, Settle, Store}
-use Rattle.core_model.specs.Cells.{Cell, used_cell, head_cell, info_cell, anchor_cell, link_cell, root_cell, data_cell, no_cell, cell_at}
-use Rattle.core_model.specs.Effects.{learn, stored, used_up}
+use Rattle.core_model.specs.Cells.{cell_at}
+use Rattle.core_model.specs.Effects.{learn, used_up}
 use Rattle.core_model.specs.View.{View, known}
 use Rattle.heap_rule.specs.Fences.{IsLineMarked, IsSeatFence, Owns}
 use Rattle.heap_table.specs.Plays.{IsEvent}
@@ -17,6 +16,7 @@ use Rattle.seat_costs.specs.Rows.{Row, StoringRow, ViewRow}
 use Rattle.seat_costs.specs.Words.{IsDurableAt, IsHeldWord, KeepsWord, MayBe, seen_at}
 use Rattle.seat_costs.proofs.AlikeLemmas.{holding, passes_alike, recording, row_as, row_words}
 use Rattle.seat_costs.proofs.RowLemmas.{passes_none, view_row_none}
+use Rattle.seat_costs.proofs.StoredLemmas.{stored_only}
 use Rattle.seat_costs.proofs.WordLemmas.{at_cell, learned_word, owns_held, settled_word, stored_other, word_same, word_then}
 
 pub load_row : (word : ℕ) (v w : View) (found : ℕ) → IsEvent (Load word) v found w → ViewRow no_costs v w
@@ -28,24 +28,12 @@ load_row word v w found e = row_words v v w (ap holding e.after)
 pub settle_row : (word : ℕ) (v w : View) (found : ℕ) → IsEvent (Settle word) v found w → ViewRow no_costs v w
 settle_row word v w found e = row_words v v w (ap holding e.after) (λ k held. settled_word v w word found e k (owns_held v k held)) (view_row_none v)
 
--- what a store makes of the parts is nothing that rows speak of
-stored_alike : (u : View) (cell : Cell) (value : ℕ) → recording (stored u cell value) ≡ recording u
-stored_alike u used_cell value = refl
-stored_alike u (head_cell list) value = refl
-stored_alike u (info_cell d) value = refl
-stored_alike u (anchor_cell d) zero = refl
-stored_alike u (anchor_cell d) (suc n) = refl
-stored_alike u (link_cell d) value = refl
-stored_alike u (root_cell i) value = refl
-stored_alike u (data_cell word) value = refl
-stored_alike u no_cell value = refl
-
 module _ (word value : ℕ) (v w : View) (found : ℕ) (e : IsEvent (Store word value) v found w) where
   abbrev x : View
   x = record (used_up v) { volatile = learn v.volatile word value }
 
   same : recording w ≡ recording x
-  same = ap recording e.after ∙ stored_alike x (cell_at v.setup.capacity word) value
+  same = ap recording e.after ∙ ap recording (stored_only x (cell_at v.setup.capacity word) value)
 
   other_word : (k : ℕ) → k ≢ word → KeepsWord v w k
   other_word k other = word_then v x w k (let p = stored_other v word value k other in record { volatile = p.volatile; durable = p.durable })
@@ -89,15 +77,6 @@ write_back_row word v w line = record {
   ]);
 }
 
-one : {x y : ℕ} → Some x ≡ Some y → x ≡ y
-one same = ap (λ (o : Option ℕ). get_some o) same where
-  get_some : Option ℕ → ℕ
-  get_some None = 0
-  get_some (Some n) = n
-
-two : false ≡ true → ⊥
-two same = let e = ap one_if same in omega arith
-
 -- a fence
 module _ (v w : SeatView) (fence : IsSeatFence v w) where
   pub fenced : (k : ℕ) → Owns v.view k → IsMarked v.marks k → IsDurableAt w.view k
@@ -121,8 +100,8 @@ module _ (v w : SeatView) (fence : IsSeatFence v w) where
     } where
       by_seen : (o : Option ℕ) → seen_at v.view k ≡ o → (value : ℕ) (d : IsDurableAt w.view k) → value ≡ d.value → MayBe o value
       by_seen None none value d is = tt
-      by_seen (Some y) some value d is = is ∙ one (sym d.seen ∙ seen y some)
-    by_mark false unmarked = let r = fence.others k own (λ marked. two (sym unmarked ∙ marked)) in
+      by_seen (Some y) some value d is = let e : Some d.value ≡ Some y = sym d.seen ∙ seen y some in is ∙ cc
+    by_mark false unmarked = let r = fence.others k own (λ marked. let e : false ≡ true = sym unmarked ∙ marked in absurd (cc)) in
         word_same v.view w.view k (sym (at_cell v.view k own w.view.volatile) ∙ r.volatile ∙ at_cell v.view k own v.view.volatile)
         (sym (at_cell v.view k own w.view.durable) ∙ r.durable ∙ at_cell v.view k own v.view.durable)
 

@@ -1,12 +1,13 @@
 -- What is recorded of words, from step to step.
-use Rattle.std.proofs.Common.{◌≡◌, ◌≢◌, ◌<◌, ◌≤◌, ℕ, ◌+◌, inl, inr, get_or, List, Option, None, Some, refl, ap, sym, subst, ◌∙◌, arith}
+use Rattle.std.proofs.Common.{◌≡◌, ◌≢◌, ◌<◌, ◌≤◌, ℕ, ◌+◌, inl, inr, get_or, List, Option, None, Some, refl, ap, sym, subst, ◌∙◌, lt-ltb, arith}
 use Rattle.std.proofs.lemmas.Bool.{cases_eq}
 use Rattle.std.proofs.lemmas.List.{get_or-set_same, get_or-set_other}
 use Rattle.heap_model.specs.Counting.{times}
 use Rattle.core_model.specs.declared.event.Event.TheVariants.{Settle}
-use Rattle.heap_model.specs.Geometry.{superblock_of}
 use Rattle.core_model.specs.Cells.{Cell, used_cell, head_cell, info_cell, anchor_cell, link_cell, root_cell, data_cell, no_cell, cell_at}
 use Rattle.core_model.specs.Effects.{learn, trimmed}
+use Rattle.core_model.proofs.PlaceLemmas.{cell_at_index}
+use Rattle.heap_model.specs.Geometry.{anchor_word, info_word, link_word, superblock_of}
 use Rattle.core_model.specs.Memory.{memory_of}
 use Rattle.core_model.specs.View.{Setup, View, known, times_own, times_in_classes, times_large}
 use Rattle.heap_rule.specs.Fences.{Owns}
@@ -150,3 +151,14 @@ learned_word v s word value own is k = elim (cases_eq k word) as (λ _. KeepsWor
 pub stored_other : (v : View) (word value k : ℕ) → k ≢ word → KeepsWord v (record v { volatile = learn v.volatile word value }) k
 stored_other v word value k other = word_same v (record v { volatile = learn v.volatile word value }) k
     (get_or-set_other v.volatile word k (Some value) None other) refl
+
+-- the words of a descriptor by what they are
+module _ (capacity d : ℕ) (inside : d < capacity) where
+  pub info_at : cell_at capacity (info_word d) ≡ info_cell d
+  info_at = cell_at_index capacity (info_cell d) (lt-ltb d capacity inside)
+
+  pub anchor_at : cell_at capacity (anchor_word d) ≡ anchor_cell d
+  anchor_at = cell_at_index capacity (anchor_cell d) (lt-ltb d capacity inside)
+
+  pub link_at : cell_at capacity (link_word d) ≡ link_cell d
+  link_at = cell_at_index capacity (link_cell d) (lt-ltb d capacity inside)

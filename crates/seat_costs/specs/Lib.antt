@@ -3,6 +3,7 @@ pub mod Asked
 pub mod Words
 pub mod Costs
 pub mod Rows
+pub mod Stores
 pub mod Alone
 pub mod Idle
 pub mod Examples

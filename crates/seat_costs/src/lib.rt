@@ -4,6 +4,7 @@
 mod draws;
 mod laws;
 mod rows;
+mod stores;
 
 pub use draws::{draw, draw_with};
 pub use laws::{
@@ -14,3 +15,4 @@ pub use rows::{
     a_draw_is_a_row, a_look_is_a_row, a_lost_exchange_is_a_row, a_row_bounds_its_draws,
     a_step_on_an_own_word_is_a_row, an_exchange_is_a_row, rows_add_up,
 };
+pub use stores::draw_and_store;
