@@ -10,7 +10,8 @@ use Rattle.heap_table.specs.AtTable.{SharedView}
 use Rattle.heap_rule.specs.Seats.{AreOpenedSeats}
 use Rattle.seat_costs.specs.Idle.{HasShortCaches, IsIdle}
 
-none_cached : (n class : ℕ) → of_class (replicate n []) class ≡ []
+-- no cache has a block
+pub none_cached : (n class : ℕ) → of_class (replicate n []) class ≡ []
 none_cached zero class = refl
 none_cached (suc n) zero = refl
 none_cached (suc n) (suc class) = none_cached n class

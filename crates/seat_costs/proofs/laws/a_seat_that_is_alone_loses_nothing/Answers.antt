@@ -1,5 +1,6 @@
 use Rattle.core_model.specs.Memory.{memory_of}
-use Rattle.seat_costs.proofs.AloneLemmas.{event_won, left_steady, looks_say, none_lost, opened_steady}
+use Rattle.seat_costs.proofs.AloneLemmas.{event_won, left_steady, none_lost, opened_steady}
+use Rattle.seat_costs.proofs.SteadyLemmas.{looks_say}
 use Rattle.seat_costs.proofs.laws.a_seat_that_is_alone_loses_nothing.Goals as goal
 
 pub returns-clause-losses : goal.returns-clause-losses
