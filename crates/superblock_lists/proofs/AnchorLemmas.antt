@@ -15,7 +15,7 @@ use Rattle.heap_table.specs.Plays.{HasSoundState, IsEvent}
 use Rattle.superblock_lists.specs.Anchors.{HasSeenAnchor, anchor_seen}
 use Rattle.superblock_lists.specs.Pops.{with_claim}
 use Rattle.superblock_lists.specs.Pushes.{HasPushed, IsClaimOf, without_claim_of}
-use Rattle.superblock_lists.proofs.PopLemmas.{drawn_as}
+use Rattle.seat_costs.proofs.StoredLemmas.{drawn_as}
 use Rattle.seat_costs.specs.Rows.{HasDrawn, Parts, parts}
 
 pub anchor_looked : (v u w : View) (d anchor : ℕ) → HasDrawn v u → IsEvent (LookAnchor d) u anchor w → HasSeenAnchor d anchor v w

@@ -1,4 +1,5 @@
 pub mod PopLemmas
+pub mod TryLemmas
 pub mod PushLemmas
 pub mod AnchorLemmas
 pub mod HandLemmas

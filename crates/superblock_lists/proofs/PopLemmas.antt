@@ -1,5 +1,5 @@
 -- What a look at a list, and a pop from it, leave.
-use Rattle.std.proofs.Common.{◌≡◌, ◌≢◌, ◌<◌, ℕ, zero, suc, ◌+◌, ◌-◌, ◌⊎◌, inl, inr, Bool, get_or, length, set, Option, None, Some, refl, ap, sym, subst, ◌∙◌, arith}
+use Rattle.std.proofs.Common.{◌≡◌, ◌≢◌, ◌<◌, ℕ, zero, suc, ◌+◌, ◌-◌, Bool, get_or, length, set, Option, None, Some, refl, ap, sym, subst, ◌∙◌, arith}
 use Rattle.std.specs.Bool.{⊤}
 use Rattle.std.specs.Prelude.{Result, Ok, Err}
 use Rattle.std.specs.Result.{is_ok}
@@ -17,14 +17,13 @@ use Rattle.heap_rule.specs.Fences.{Owns}
 use Rattle.heap_table.specs.Plays.{IsEvent}
 use Rattle.heap_rule.specs.Seated.{Tells}
 use Rattle.heap_rule.proofs.WordsLeftLemmas.{pop_won, pop_lost}
-use Rattle.superblock_lists.specs.declared.pops.Pop.{Pop as PopAnswer}
-use Rattle.superblock_lists.specs.declared.pops.Pop.TheVariants.{Got, Empty}
-use Rattle.superblock_lists.specs.Pops.{Exchanges, GoesOn, HasLost, HasPopped, KeepsOtherLooks, Pops, SeesFirst, SeesHead, SeesLink, list_head, with_claim}
-use Rattle.seat_costs.specs.Costs.{Costs, no_costs, one_draw, one_win}
-use Rattle.seat_costs.specs.Rows.{HasDrawn, Parts, Stops, ViewRow, parts}
+use Rattle.superblock_lists.specs.Pops.{Exchanges, GoesOn, HasLost, HasPopped, KeepsOtherLooks, SeesFirst, SeesHead, SeesLink, list_head, with_claim}
+use Rattle.seat_costs.specs.Costs.{Costs, no_costs, one_draw}
+use Rattle.seat_costs.specs.Rows.{HasDrawn, Parts, ViewRow, parts}
 use Rattle.seat_costs.proofs.EventLemmas.{pop_lost_row}
 use Rattle.seat_costs.proofs.WordLemmas.{word_then}
-use Rattle.seat_costs.proofs.RowLemmas.{not_both, stops_later, view_row_none, view_row_then, view_row_within}
+use Rattle.seat_costs.proofs.StoredLemmas.{drawn_as}
+use Rattle.seat_costs.proofs.RowLemmas.{view_row_then}
 
 -- the parts as the core's lemmas name them
 abbrev as_core : Parts → CoreParts
@@ -53,7 +52,7 @@ pub sees_first : (v t u : View) (list head first : ℕ) → SeesHead list head v
 sees_first v t u list head first seen link is some = record { head = head; is_seen = link.head ∙ seen.is_seen; first = omega arith; link = link.link }
 
 -- looks that stay
-same_looks : (list : ℕ) (v w : View) → w.used_look ≡ v.used_look → w.head_looks ≡ v.head_looks → KeepsOtherLooks list v w
+pub same_looks : (list : ℕ) (v w : View) → w.used_look ≡ v.used_look → w.head_looks ≡ v.head_looks → KeepsOtherLooks list v w
 same_looks list v w used heads = record {
   used = used;
   heads = λ other apart. ap (λ looks. get_or looks other w.used_look) heads
@@ -111,9 +110,6 @@ won_parts (suc class) d v w ticket volatile durable going room after =
 
 add-one : (d : ℕ) → d + 1 ≡ suc d
 add-one d = omega arith
-
-abbrev pub drawn_as : View → ℕ → View → View
-drawn_as v ticket u = record (drew v ticket) { volatile = u.volatile; durable = u.durable }
 
 pub pop_wins : (v u w : View) (list d found : ℕ) → HasDrawn v u → SeesFirst list d v → IsEvent Pop u found w → found ≡ seen_word u.seen_head
     → HasPopped list d v w
@@ -190,77 +186,6 @@ lost_later list v t w p others row lost = record {
   unseen = lost.unseen;
 }
 
--- how far the tries have come
-pub record Trying (list : ℕ) (v t : View) : Type 0 where
-  pub row : ViewRow no_costs v t
-  pub parts_are : parts t ≡ parts v
-  pub wins : t.wins ≡ v.wins
-  pub taken : t.taken ≡ v.taken
-  pub cuts : t.cuts ≡ v.cuts
-  pub others : KeepsOtherLooks list v t
-  pub both : (ran : t.stopped ≡ None) → v.stopped ≡ None
-  pub idle : (step : ℕ) → v.stopped ≡ Some step → t ≡ v
-  pub fresh : (t ≡ v) ⊎ (t.stopped ≡ None)
-
-pub tries_begin : (list : ℕ) (v : View) → Trying list v v
-tries_begin list v = record {
-  row = view_row_none v;
-  parts_are = refl;
-  wins = refl;
-  taken = refl;
-  cuts = refl;
-  others = same_looks list v v refl refl;
-  both = λ ran. ran;
-  idle = λ step stop. refl;
-  fresh = inl refl;
-}
-
-pub tries_on : (list : ℕ) (v t w : View) → Trying list v t → HasLost list 3 t w → Trying list v w
-tries_on list v t w trying lost = record {
-  row = view_row_within no_costs v w (record {
-    draws = omega arith;
-    wins = omega arith;
-    gives = omega arith;
-    cuts = omega arith;
-    taken = omega arith;
-    moves = omega arith;
-  }) (view_row_then v t w trying.row lost.row);
-  parts_are = lost.parts_are ∙ trying.parts_are;
-  wins = lost.wins ∙ trying.wins;
-  taken = lost.taken ∙ trying.taken;
-  cuts = lost.cuts ∙ trying.cuts;
-  others = others_then list v t w trying.others lost.others;
-  both = λ ran. trying.both lost.ran;
-  idle = λ step stop. not_both stop (trying.both lost.ran);
-  fresh = inr lost.going;
-}
-
-pub tries_stop : (list : ℕ) (v t w : View) (step : ℕ) → Trying list v t → Stops step t w → Stops step v w
-tries_stop list v t w step trying stop = elim trying.fresh [
-  | inl same ↦ subst (λ u. Stops step u w) same stop
-  | inr going ↦ stops_later v t w step (trying.both going) going trying.row stop
-]
-
-pub tries_done : (v t w : View) (list : ℕ) (pop : PopAnswer) → Trying list v t → Pops list pop t w → Pops list pop v w
-tries_done v t w list (Got d) trying popped = popped_later v t w list d
-    (trying.both popped.ran) trying.parts_are trying.wins trying.others trying.row popped
-tries_done v t w list (Empty head) trying empty = record {
-  ran = trying.both empty.ran;
-  going = empty.going;
-  parts_are = empty.parts_are ∙ trying.parts_are;
-  wins = empty.wins ∙ trying.wins;
-  taken = empty.taken ∙ trying.taken;
-  cuts = empty.cuts ∙ trying.cuts;
-  is_seen = empty.is_seen;
-  none = empty.none;
-  look = empty.look;
-  others = others_then list v t w trying.others empty.others;
-  later = let x = trying.row.passes.next in let y = empty.later in omega arith;
-}
-
-pub tries_row : (list : ℕ) (v t w : View) → Trying list v t → ViewRow (record one_win { draws = 3 }) t w → ViewRow (record one_win { draws = 3 }) v w
-tries_row list v t w trying row = view_row_then v t w trying.row row
-
 -- the head is seen
 pub head_seen : (v u w : View) (list head : ℕ) → list < lists → HasDrawn v u → IsEvent (LookHead list) u head w → SeesHead list head v w
 head_seen v u w list head less drawn event = subst (SeesHead list head v) (sym left) (record {
@@ -299,9 +224,6 @@ head_seen v u w list head less drawn event = subst (SeesHead list head v) (sym l
     seen_link = None;
     head_looks = set x.head_looks list (look x head);
   }) drawn.left
-
-pub tries_less : (list : ℕ) (t w : View) → HasLost list 3 t w → w.setup.budget - w.draws < t.setup.budget - t.draws
-tries_less list t w lost = let same = ap (λ (k : Setup). k.budget) lost.row.passes.setup in let room = lost.room in let more = lost.more in omega arith
 
 pub link_seen : (v u w : View) (link : ℕ) → HasDrawn v u → IsEvent LookLink u link w → SeesLink v w
 link_seen v u w link drawn event = subst (SeesLink v) (sym left) (record {

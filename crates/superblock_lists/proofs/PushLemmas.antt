@@ -1,36 +1,36 @@
 -- What a push on a list leaves.
 use Rattle.std.proofs.Common.{◌≡◌, ◌≢◌, ◌<◌, ◌≤◌, ℕ, ◌+◌, ◌-◌, ◌⊎◌, inl, inr, Bool, true, false, cond, nat_eq, nat_lt, Option, None, Some, refl, ap, sym, subst, ◌∙◌, lt-ltb, arith}
 use Rattle.std.specs.Bool.{⊤}
-use Rattle.std.specs.Prelude.{Result, Ok, Err, IfOk}
+use Rattle.std.specs.Prelude.{Result, Ok, Err}
 use Rattle.std.specs.Result.{is_ok}
 use Rattle.heap_model.specs.Counting.{times, without}
 use Rattle.heap_model.specs.Geometry.{anchor_word, link_word}
 use Rattle.heap_model.specs.Words.{anchor_state, head_first}
 use Rattle.core_model.specs.declared.event.Event.TheVariants.{Push, Store}
 use Rattle.core_model.specs.Cells.{Cell, anchor_cell, link_cell, cell_at}
-use Rattle.core_model.specs.Effects.{claim_class, learn, lost, pushed, pushed_raw, pushed_classed, seen_of, seen_word, stored, used_up, without_claim, won}
+use Rattle.core_model.specs.Effects.{claim_class, drew, lost, pushed, pushed_raw, pushed_classed, seen_of, seen_word, stored, used_up, without_claim, won}
 use Rattle.core_model.specs.Guards.{IsFreelyClaimed, IsOwn, IsThere}
 use Rattle.core_model.specs.Memory.{memory_of, used}
 use Rattle.core_model.specs.View.{Setup, Snapshot, View, times_raw, times_classed}
 use Rattle.core_model.proofs.OwnLemmas.{one_at_most}
-use Rattle.core_model.proofs.PlaceLemmas.{cell_at_index}
 use Rattle.core_model.proofs.SoundLemmas.{taken}
 use Rattle.core_model.proofs.TotalLemmas.{total_at}
 use Rattle.heap_rule.specs.Fences.{Owns}
 use Rattle.heap_table.specs.Plays.{HasSoundState, IsEvent}
 use Rattle.heap_rule.specs.Seated.{Tells}
-use Rattle.heap_rule.specs.Shown.{Can, CanList, CanStore, Shows, ShowsEmpty, by_claim, by_anchor, by_look, as_free, of_its_class}
+use Rattle.heap_rule.specs.Shown.{Can, CanList, IsShownFor, Shows, ShowsEmpty, by_claim, by_anchor, by_look, as_free, of_its_class}
 use Rattle.heap_rule.proofs.WordsLeftLemmas.{push_won, push_lost}
-use Rattle.heap_rule.proofs.RawLemmas.{store_shown}
 use Rattle.superblock_lists.specs.Pops.{SeesHead}
 use Rattle.superblock_lists.specs.Pushes.{HasMissed, HasPushed, HasSetLink, Pushes, SeesLinked, moved_by, without_claim_of}
-use Rattle.superblock_lists.proofs.PopLemmas.{drawn_as, still_owns}
+use Rattle.superblock_lists.proofs.PopLemmas.{still_owns}
 use Rattle.seat_costs.specs.Costs.{no_costs, one_draw, one_push}
 use Rattle.seat_costs.specs.Rows.{HasDrawn, Parts, Stops, ViewRow, parts}
-use Rattle.seat_costs.specs.Words.{IsHeldWord, KeepsWord, times_held}
+use Rattle.seat_costs.specs.Words.{IsHeldWord, KeepsWord, seen_at}
 use Rattle.seat_costs.proofs.EventLemmas.{move_row, push_lost_row, push_row}
 use Rattle.seat_costs.proofs.RowLemmas.{stops_later, view_row_none, view_row_then, view_row_within}
-use Rattle.seat_costs.proofs.WordLemmas.{stored_other, word_then}
+use Rattle.seat_costs.proofs.StoredLemmas.{drawn_as, may_store, not_held_at, stored_at}
+use Rattle.seat_costs.proofs.WordLemmas.{anchor_at, link_at, word_then}
+use Rattle.seat_costs.specs.Stores.{HasStored}
 
 -- a superblock that may be listed is claimed, and its blocks are not being made
 pub freely : (v : View) → HasSoundState v → (d list : ℕ) → CanList v d list → IsFreelyClaimed v d
@@ -46,56 +46,37 @@ module _ (v : View) (has : HasSoundState v) (d : ℕ) (free : IsFreelyClaimed v 
   inside = taken v.setup (memory_of v.setup.capacity has.words) has.views has.seat v has.below has.at has.sound.good d free.claimed
 
   pub link_is : cell_at v.setup.capacity (link_word d) ≡ link_cell d
-  link_is = cell_at_index v.setup.capacity (link_cell d) (lt-ltb d v.setup.capacity inside)
+  link_is = link_at v.setup.capacity d inside
 
-  anchor_is : cell_at v.setup.capacity (anchor_word d) ≡ anchor_cell d
-  anchor_is = cell_at_index v.setup.capacity (anchor_cell d) (lt-ltb d v.setup.capacity inside)
+  -- its link is stored to
+  module _ (word : ℕ) (at : word ≡ link_word d) where
+    is_link : cell_at v.setup.capacity word ≡ link_cell d
+    is_link = ap (cell_at v.setup.capacity) at ∙ link_is
 
-  drawn_links : (ticket first : ℕ) (u : View) → v.stopped ≡ None → Can (drawn_as v ticket u) (Store (link_word d) first)
-  drawn_links ticket first u going = record {
-    going = going;
-    ticket = refl;
-    shown = subst (λ (cell : Cell). IsOwn (drawn_as v ticket u) cell × CanStore (drawn_as v ticket u) cell first) (sym link_is)
-        (free.claimed, free.not_cutting);
-  }
+    pub may_link : (first : ℕ) → IsShownFor v (Store word first)
+    may_link first = may_store v word (link_cell d) is_link first free.claimed free.not_cutting
 
-  pub can_set_link : (u : View) (first : ℕ) → HasDrawn v u → Can u (Store (link_word d) first)
-  can_set_link u first drawn = subst (λ (x : View). Can x (Store (link_word d) first)) (sym drawn.left) (drawn_links drawn.ticket first u drawn.went)
+    pub link_not_held : IsHeldWord v word → ⊥
+    link_not_held = not_held_at v word (link_cell d) is_link refl
 
-  abbrev linked_view : ℕ → ℕ → View → View
-  linked_view ticket first u = record (used_up (drawn_as v ticket u)) { volatile = learn u.volatile (link_word d) first }
-
-  module _ (u w : View) (first found : ℕ) (drawn : HasDrawn v u) (event : IsEvent (Store (link_word d) first) u found w) where
-    link_here : cell_at u.setup.capacity (link_word d) ≡ link_cell d
-    link_here = ap (λ (x : View). cell_at x.setup.capacity (link_word d)) drawn.left ∙ link_is
-
-    link_left : w ≡ record (used_up u) { volatile = learn u.volatile (link_word d) first }
-    link_left = event.after ∙ ap (λ (cell : Cell). stored (record (used_up u) { volatile = learn u.volatile (link_word d) first }) cell first) link_here
-
-    pub link_not_held : IsHeldWord u (link_word d) → ⊥
-    link_not_held held = let e = ap (times_held u) link_here in omega arith
-
-    left_here : w ≡ linked_view drawn.ticket first u
-    left_here = link_left ∙ ap (λ (x : View). record (used_up x) { volatile = learn u.volatile (link_word d) first }) drawn.left
-
-    pub link_set : HasSetLink d first v w
-    link_set = record {
-      ran = drawn.went;
-      going = ap (λ (x : View). x.stopped) left_here ∙ drawn.went;
-      parts_are = ap parts left_here;
-      losses = ap (λ (x : View). x.losses) left_here;
-      head = ap (λ (x : View). x.seen_head) left_here;
-      anchor = ap (λ (x : View). x.seen_anchor) left_here;
-      floor = ap (λ (x : View). x.floor) left_here;
-      link = subst (λ (cell : Cell). Shows w cell first) link_here (store_shown (link_word d) first u w found event);
-      words = λ k other own. subst (λ x. KeepsWord v x k) (sym link_left)
-          (word_then v u (record (used_up u) { volatile = learn u.volatile (link_word d) first }) k (drawn.words k own)
-          (let p = stored_other u (link_word d) first k other in record { volatile = p.volatile; durable = p.durable }));
-    }
+    pub link_set : (first : ℕ) (w : View) → HasStored word first v w → HasSetLink d first v w
+    link_set first w stored = record {
+      ran = stored.ran;
+      going = stored.going;
+      parts_are = ap parts left;
+      losses = ap (λ (x : View). x.losses) left;
+      head = ap (λ (x : View). x.seen_head) left;
+      anchor = ap (λ (x : View). x.seen_anchor) left;
+      floor = ap (λ (x : View). x.floor) left;
+      link = subst (λ n. seen_at w n ≡ Some first) at stored.seen;
+      words = λ k other own. stored.words k (λ is. other (is ∙ at)) own;
+    } where
+      left : w ≡ record (used_up (drew v stored.ticket)) { volatile = w.volatile; durable = w.durable }
+      left = stored_at v word (link_cell d) is_link w first stored
 
   -- what is known of the anchor is known of an own word, and is known as long as that is kept
   anchor_shown : (x : ℕ) → Shows v (anchor_cell d) x → Owns v (anchor_word d)
-  anchor_shown x shows = subst (λ (cell : Cell). IsOwn v cell) (sym anchor_is)
+  anchor_shown x shows = subst (λ (cell : Cell). IsOwn v cell) (sym (anchor_at v.setup.capacity d inside))
       ((has.sound.good.words has.seat v has.below has.at).volatile (anchor_cell d) x (lt-ltb d v.setup.capacity inside) shows).0
 
   still_empty : (w : View) → parts w ≡ parts v → w.seen_anchor ≡ v.seen_anchor → ((k : ℕ) → k ≢ link_word d → Owns v k → KeepsWord v w k)
@@ -235,10 +216,6 @@ pushes_later m false v t w list d ran more setup room same row missed = record {
   row = view_row_then v t w row missed.row;
   can = missed.can;
 }
-
-pub ok_then : {A E : Type 0} {P Q : A → Type 0} (result : Result A E) → ((x : A) → P x → Q x) → IfOk result P → IfOk result Q
-ok_then (Ok x) more is = more x is
-ok_then (Err e) more is = tt
 
 -- how far the tries have come
 pub record Pushing (list d : ℕ) (v t : View) : Type 0 where

@@ -20,7 +20,7 @@ ghost use Rattle.superblock_lists.specs.Pushes.{HasPushed, HasSetLink, Pushes, S
 use crate::pops::look_list;
 use heap_rule::{Seat, Shared};
 use line_memory::{Chance, Stopped};
-use seat_costs::draw;
+use seat_costs::{draw, draw_and_store};
 use seat_state::head_first;
 use super_block::Geometry;
 
@@ -42,9 +42,7 @@ fn set_link<C: Chance>(
 {
     seat.recall_soundness();
     let link = Geometry::new(seat.capacity(shared)).link(d);
-    draw(seat, shared, chance)?;
-    seat.store_word(shared, link, first);
-    Ok(())
+    draw_and_store(seat, shared, link, first, chance)
 }
 
 /// Pushes a claimed superblock that leads to the first one that was seen in the list.

@@ -3,7 +3,7 @@ use Rattle.seat_costs.proofs.AskedLemmas.{asked_none, asked_then}
 use Rattle.seat_costs.proofs.RowLemmas.{marks_behind}
 use Rattle.std.proofs.lemmas.Result.{err_from_is_err_and}
 use Rattle.superblock_lists.specs.Pops.{TriesPop}
-use Rattle.superblock_lists.proofs.PopLemmas.{tries_begin, tries_less, tries_on, tries_row, tries_stop}
+use Rattle.superblock_lists.proofs.TryLemmas.{tries_begin, tries_less, tries_on, tries_row, tries_stop}
 use Rattle.superblock_lists.proofs.pops.pop_from.Goals as goal
 
 pub loop-pop-init : goal.loop-pop-init

@@ -3,7 +3,7 @@ use Rattle.std.proofs.Common.{◌-◌}
 use Rattle.seat_costs.specs.Asked.{HasAsked}
 use Rattle.seat_costs.specs.Rows.{KeepsMarks}
 use Rattle.seat_costs.specs.Words.{IsHeldWord}
-use Rattle.superblock_lists.proofs.PopLemmas.{Trying}
+use Rattle.superblock_lists.proofs.TryLemmas.{Trying}
 use Rattle.superblock_lists.proofs.pops.pop_from.Given as goal
 
 abbrev pub invariant-loop-pop : goal.invariant-loop-pop

@@ -2,7 +2,8 @@ use Rattle.std.proofs.Common.{◌∙◌, arith}
 use Rattle.seat_costs.specs.Costs.{one_push}
 use Rattle.seat_costs.proofs.AskedLemmas.{asked_then}
 use Rattle.seat_costs.proofs.RowLemmas.{row_then, row_within}
-use Rattle.superblock_lists.proofs.PushLemmas.{can_later, freely, freely_still, ok_then, pushes_later, sees_linked}
+use Rattle.superblock_lists.proofs.PushLemmas.{can_later, freely, freely_still, pushes_later, sees_linked}
+use Rattle.seat_costs.proofs.ResultLemmas.{if_ok_then}
 use Rattle.superblock_lists.proofs.pushes.try_push_to.Goals as goal
 
 pub set_link-requires-clause-claimed : goal.set_link-requires-clause-claimed
@@ -45,7 +46,7 @@ returns-clause-done g c =
     c.head_first.ensures c.in_ok-set_link.ensures.linked in
     let can = can_later v c.look_list.new.seat.view t c.recall_soundness.ensures c.args.list c.args.d c.in_ok-head.head c.head_first.result
     c.in_ok-head.ensures.seen c.in_ok-set_link.ensures.linked c.requires.can in
-    ok_then c.push_seen.result (λ won is. pushes_later 1 won v t w c.args.list c.args.d go.ran row.passes.more.draws row.passes.setup go.room
+    if_ok_then c.push_seen.result (λ won is. pushes_later 1 won v t w c.args.list c.args.d go.ran row.passes.more.draws row.passes.setup go.room
     (c.in_ok-set_link.ensures.linked.parts_are ∙ go.parts_are) row (is c.args.list linked can)) c.push_seen.ensures.done
 
 pub returns-in_err-set_link-clause-asked : goal.returns-in_err-set_link-clause-asked
