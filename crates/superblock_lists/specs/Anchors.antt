@@ -3,6 +3,7 @@ use Rattle.std.specs.Prelude.{◌≡◌, ◌<◌, ℕ, Option, None, Some}
 use Rattle.core_model.specs.View.{Snapshot, View}
 use Rattle.seat_costs.specs.Rows.{parts}
 
+-- the snapshot of an anchor
 abbrev pub anchor_seen : ℕ → ℕ → Option Snapshot
 anchor_seen d anchor = Some (record { of = d; word = anchor })
 

@@ -10,6 +10,7 @@ use Rattle.seat_costs.specs.Words.{KeepsWord}
 use Rattle.seat_costs.specs.Costs.{one_loss}
 use Rattle.seat_costs.specs.Rows.{Parts, ViewRow, head_look, parts, next_of}
 
+-- the snapshot of a list's head
 abbrev pub list_head : ℕ → ℕ → Option Snapshot
 list_head list word = Some (record { of = list; word = word })
 
@@ -89,6 +90,7 @@ pub record HasLost (list draws : ℕ) (v w : View) : Type 0 where
   pub row : ViewRow (record one_loss { draws = draws }) v w
   pub unseen : w.seen_head ≡ None
 
+-- the exchange of a head that was seen was won, or lost
 abbrev pub Exchanges : ℕ → ℕ → Bool → View → View → Type 0
 Exchanges list d true v w = HasPopped list d v w
 Exchanges list d false v w = HasLost list 1 v w
@@ -107,6 +109,7 @@ pub record IsEmptyList (list head : ℕ) (v w : View) : Type 0 where
   pub others : KeepsOtherLooks list v w
   pub later : next_of v < next_of w
 
+-- a pop got a superblock, or found the list empty
 abbrev pub Pops : ℕ → Pop → View → View → Type 0
 Pops list (Got d) v w = HasPopped list d v w
 Pops list (Empty head) v w = IsEmptyList list head v w

@@ -65,6 +65,7 @@ pub record HasMissed (list d draws : ℕ) (v w : View) : Type 0 where
   pub row : ViewRow (record one_loss { draws = draws }) v w
   pub can : CanList w d list
 
+-- one try of a push was won, or lost
 abbrev pub Pushes : ℕ → ℕ → ℕ → Bool → View → View → Type 0
 Pushes list d draws true v w = HasPushed list d draws v w
 Pushes list d draws false v w = HasMissed list d draws v w
