@@ -18,8 +18,3 @@ if_err_then (Err e) more is = more e is
 pub on_err : {A E P : Type 0} (result : Result A E) → P → OnErr result P
 on_err (Ok x) is = tt
 on_err (Err e) is = is
-
--- what is so at each kind of answer is so
-pub at_either : {A E P R : Type 0} {S : E → Type 0} (result : Result A E) → (P → R) → ((e : E) → S e → R) → OnOk result P → IfErr result S → R
-at_either (Ok x) done refused is other = done is
-at_either (Err e) done refused is other = refused e other

@@ -4,15 +4,16 @@ use Rattle.std.proofs.lemmas.List.{get_or-set_same, get_or-set_other}
 use Rattle.core_model.specs.declared.event.Event.TheVariants.{Store}
 use Rattle.core_model.specs.Cells.{Cell, used_cell, head_cell, info_cell, anchor_cell, link_cell, root_cell, data_cell, no_cell, cell_at, index_of}
 use Rattle.core_model.specs.Effects.{drew, learn, stored, used_up}
+use Rattle.core_model.specs.Guards.{IsOwn}
 use Rattle.core_model.specs.View.{View}
 use Rattle.heap_table.specs.Plays.{IsEvent}
 use Rattle.heap_rule.specs.Fences.{Owns}
-use Rattle.heap_rule.specs.Shown.{Can, CanStore, ShowsEmpty, as_empty, as_full, by_anchor, by_claim, by_look}
+use Rattle.heap_rule.specs.Shown.{Can, CanStore, IsShownFor, ShowsEmpty, as_empty, as_full, by_anchor, by_claim, by_look}
 use Rattle.heap_rule.proofs.RawLemmas.{store_durable, store_volatile, volatile_long}
 use Rattle.heap_rule.proofs.SettleLemmas.{own_below, own_index}
 use Rattle.seat_costs.specs.Rows.{HasDrawn, SameLooks}
 use Rattle.seat_costs.specs.Stores.{HasStored}
-use Rattle.seat_costs.specs.Words.{MayBe}
+use Rattle.seat_costs.specs.Words.{IsHeldWord, MayBe, times_held}
 use Rattle.seat_costs.proofs.WordLemmas.{word_same, word_then}
 
 -- a store changes no other parts than these
@@ -121,3 +122,18 @@ module _ (v u w : View) (word value found : ℕ) (drawn : HasDrawn v u) (event :
         (ap (λ values. get_or values k None) (store_volatile word value u w found event) ∙ get_or-set_other u.volatile word k (Some value) None other)
         (ap (λ values. get_or values k None) (store_durable word value u w found event)));
   }
+
+-- by what the word is
+module _ (v : View) (word : ℕ) (cell : Cell) (is : cell_at v.setup.capacity word ≡ cell) where
+  pub may_store : (value : ℕ) → IsOwn v cell → CanStore v cell value → IsShownFor v (Store word value)
+  may_store value own can = subst (λ (c : Cell). IsOwn v c × CanStore v c value) (sym is) (own, can)
+
+  pub not_held_at : times_held v cell ≡ 0 → IsHeldWord v word → ⊥
+  not_held_at none held = let e = ap (times_held v) is in omega arith
+
+  pub stored_at : (w : View) (value : ℕ) (s : HasStored word value v w)
+      → w ≡ record (stored (used_up (drew v s.ticket)) cell value) { volatile = w.volatile; durable = w.durable }
+  stored_at w value s = s.left ∙ ap (λ (c : Cell). record (stored (used_up (drew v s.ticket)) c value) {
+    volatile = w.volatile;
+    durable = w.durable;
+  }) is
