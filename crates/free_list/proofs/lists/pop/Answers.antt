@@ -1,11 +1,11 @@
 use Rattle.std.proofs.Common.{arith}
 use Rattle.superblock_lists.proofs.HandLemmas.{alone}
-use Rattle.superblock_lists.proofs.PushLemmas.{ok_then}
+use Rattle.seat_costs.proofs.ResultLemmas.{if_ok_then}
 use Rattle.free_list.proofs.lists.pop.Goals as goal
 
 pub returns-clause-alone : goal.returns-clause-alone
 returns-clause-alone g c =
-    ok_then c.pop_from.result (λ pop is. alone c.a_claimed_superblock_is_in_one_hand.ensures 0 c.args.seat.now.view c.pop_from.new.seat.view pop
+    if_ok_then c.pop_from.result (λ pop is. alone c.a_claimed_superblock_is_in_one_hand.ensures 0 c.args.seat.now.view c.pop_from.new.seat.view pop
     is) c.pop_from.ensures.done
 
 pub returns-clause-draws : goal.returns-clause-draws
