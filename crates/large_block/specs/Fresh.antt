@@ -59,6 +59,7 @@ pub record HasLostMark (draws : ℕ) (v w : View) : Type 0 where
   pub heads : w.head_looks ≡ v.head_looks
   pub row : ViewRow (record one_loss { draws = draws }) v w
 
+-- the exchange of the mark that was seen was won, or lost
 abbrev pub Marks : ℕ → ℕ → Bool → View → View → Type 0
 Marks n used true v w = HasMarked n used v w
 Marks n used false v w = HasLostMark 1 v w
@@ -101,6 +102,7 @@ pub record IsPast (n used : ℕ) (v w : View) : Type 0 where
   pub heads : w.head_looks ≡ v.head_looks
   pub later : next_of v < next_of w
 
+-- superblocks were taken, or the mark left no room
 abbrev pub Takes : ℕ → Take → View → View → Type 0
 Takes n (Got d) v w = HasTakenFresh n d v w
 Takes n (Past used) v w = IsPast n used v w

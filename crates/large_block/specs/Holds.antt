@@ -19,6 +19,7 @@ pub record IsFreshClaim (d n : ℕ) (v : View) : Type 0 where
 abbrev pub with_large : ℕ → ℕ → Parts → Parts
 with_large d n p = record p { large = record { first = d; count = n } ∷ p.large; raw = without_range d n p.raw; split = without_range d n p.split }
 
+-- the block is held
 pub record HasHeld (d n : ℕ) (b : Block) (v w : View) : Type 0 where
   pub going : w.stopped ≡ None
   pub parts_are : parts w ≡ with_large d n (parts v)
