@@ -83,8 +83,3 @@ pub refused_later : (v x w : SeatView) (early : View) → Settles x.view early �
     → w.view.stopped ≡ Some step → Stops step v.view w.view
 refused_later v x w early settles shift found event step ran row went stop =
     stops_later v.view x.view w.view step ran went row.view (stops x.view early settles shift w.view found event step went stop)
-
--- what is so at any exit is so at a refusal
-pub on_err : {A E P : Type 0} (result : Result A E) → P → OnErr result P
-on_err (Ok x) is = tt
-on_err (Err e) is = is

@@ -1,4 +1,5 @@
 pub mod FreshLemmas
+pub mod TryLemmas
 pub mod InfoLemmas
 pub mod HoldLemmas
 pub mod SplitLemmas

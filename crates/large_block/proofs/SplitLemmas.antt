@@ -9,7 +9,7 @@ use Rattle.heap_model.specs.Geometry.{anchor_word, start_word, superblock_words,
 use Rattle.core_model.specs.declared.event.Event.TheVariants.{Store, Tick}
 use Rattle.core_model.specs.declared.event.Shift.TheVariants.{Split}
 use Rattle.core_model.specs.Cells.{Cell, anchor_cell, cell_at}
-use Rattle.core_model.specs.Effects.{learn, span_count, steps, stored, used_up}
+use Rattle.core_model.specs.Effects.{span_count, steps}
 use Rattle.core_model.specs.Guards.{IsOwn, MaySplit}
 use Rattle.core_model.specs.Held.{IsHeld, a_large}
 use Rattle.core_model.specs.View.{Setup, View, one_if_some, times_raw}
@@ -18,21 +18,22 @@ use Rattle.core_model.proofs.PlaceLemmas.{cell_at_index}
 use Rattle.core_model.proofs.TotalLemmas.{ne-eqb-none}
 use Rattle.heap_table.specs.Plays.{HasSoundState, IsEvent}
 use Rattle.heap_rule.specs.Fences.{Owns}
-use Rattle.heap_rule.specs.Seated.{HasNewStore, KeepsStores, SeatView}
-use Rattle.heap_rule.specs.Shown.{Can, CanStore, Shows, as_empty}
+use Rattle.heap_rule.specs.Seated.{KeepsStores, SeatView}
+use Rattle.heap_rule.specs.Shown.{IsShownFor, Shows, as_empty}
 use Rattle.heap_rule.proofs.HeldLemmas.{held_placed}
-use Rattle.heap_rule.proofs.RawLemmas.{raw_inside, raw_once, store_shown}
+use Rattle.heap_rule.proofs.RawLemmas.{raw_inside, raw_once}
 use Rattle.large_block.specs.Splits.{HasCleared, HasClearedAll, HasSplit, MayHaveSplit, all_cleared, down, with_cleared, with_split}
 use Rattle.large_block.proofs.FreshLemmas.{fresh_claimed}
 use Rattle.seat_costs.specs.Costs.{no_costs, one_draw}
 use Rattle.seat_costs.specs.Draws.{Settles}
-use Rattle.seat_costs.specs.Rows.{HasDrawn, HoldingRow, Parts, Row, Stops, parts}
-use Rattle.seat_costs.specs.Words.{IsHeldWord, KeepsWord, times_held}
+use Rattle.seat_costs.specs.Rows.{HoldingRow, Parts, Row, Stops, parts}
+use Rattle.seat_costs.specs.Words.{IsHeldWord, seen_at}
 use Rattle.seat_costs.proofs.DrawLemmas.{row_of_stop, shifted_is, was_going}
 use Rattle.seat_costs.proofs.RowLemmas.{holding_then, holding_within, row_then, row_within, stops_passed}
 use Rattle.seat_costs.proofs.ShiftLemmas.{told_shift_row}
-use Rattle.seat_costs.proofs.StoreLemmas.{row_of_store, store_row}
-use Rattle.seat_costs.proofs.WordLemmas.{stored_other, word_then}
+use Rattle.seat_costs.proofs.StoredLemmas.{may_store, not_held_at, stored_at}
+use Rattle.seat_costs.specs.Stores.{HasStored}
+use Rattle.seat_costs.proofs.WordLemmas.{anchor_at}
 
 -- what does not stand in a list is not taken out of it
 without_absent : (x : ℕ) (ys : List ℕ) → times x ys ≡ 0 → without x ys ≡ ys
@@ -85,68 +86,32 @@ module _ (v : View) (has : HasSoundState v) (e : ℕ) (split : 0 < times e v.spl
   pub split_inside : e < v.setup.capacity
   split_inside = raw_inside v has e (omega arith)
 
-  anchor_at : (i : ℕ) → i < v.setup.capacity → cell_at v.setup.capacity (anchor_word i) ≡ anchor_cell i
-  anchor_at i less = cell_at_index v.setup.capacity (anchor_cell i) (lt-ltb i v.setup.capacity less)
+  owned : (i : ℕ) → i < v.setup.capacity → Shows v (anchor_cell i) 0 → Owns v (anchor_word i)
+  owned i less shows = subst (λ (cell : Cell). IsOwn v cell) (sym (anchor_at v.setup.capacity i less))
+      ((has.sound.good.words has.seat v has.below has.at).volatile (anchor_cell i) 0 (lt-ltb i v.setup.capacity less) shows).0
 
-  module _ (u : View) (drawn : HasDrawn v u) where
-    anchor_here : cell_at u.setup.capacity (anchor_word e) ≡ anchor_cell e
-    anchor_here = ap (λ (x : View). cell_at x.setup.capacity (anchor_word e)) drawn.left ∙ anchor_at e split_inside
+  module _ (word : ℕ) (at : word ≡ anchor_word e) where
+    is_anchor : cell_at v.setup.capacity word ≡ anchor_cell e
+    is_anchor = ap (cell_at v.setup.capacity) at ∙ anchor_at v.setup.capacity e split_inside
 
-    pub can_clear : Can u (Store (anchor_word e) 0)
-    can_clear = record {
-      going = ap (λ (x : View). x.stopped) drawn.left ∙ drawn.went;
-      ticket = ap (λ (x : View). one_if_some x.ticket) drawn.left;
-      shown = subst (λ (cell : Cell). IsOwn u cell × CanStore u cell 0) (sym anchor_here) (
-        let s = ap (times_raw e) drawn.left in
-            omega arith,
-        as_empty,
-      );
+    pub may_clear : IsShownFor v (Store word 0)
+    may_clear = may_store v word (anchor_cell e) is_anchor 0 (omega arith) as_empty
+
+    pub anchor_not_held : IsHeldWord v word → ⊥
+    anchor_not_held = not_held_at v word (anchor_cell e) is_anchor refl
+
+    pub anchor_cleared : (w : View) → HasStored word 0 v w → HasCleared e v w
+    anchor_cleared w stored = let once = raw_once v has e in record {
+      ran = stored.ran;
+      going = stored.going;
+      parts_are = ap parts (stored_at v word (anchor_cell e) is_anchor w 0 stored)
+          ∙ ap (λ l. record (parts v) { raw = e ∷ l; split = without e v.split; cutting = without e v.cutting })
+          (without_absent e v.raw (omega arith))
+          ∙ ap (λ l. record (parts v) { raw = e ∷ v.raw; split = without e v.split; cutting = l }) (without_absent e v.cutting (omega arith));
+      anchor = subst (λ n. seen_at w n ≡ Some 0) at stored.seen;
+      others = λ i other less shows. (stored.words (anchor_word i) (λ is. let same = is ∙ at in omega (arith, same, other))
+          (owned i less shows)).volatile 0 shows;
     }
-
-    module _ (w : View) (found : ℕ) (store : IsEvent (Store (anchor_word e) 0) u found w) where
-      abbrev x : View
-      x = record (used_up u) { volatile = learn u.volatile (anchor_word e) 0 }
-
-      left : w ≡ stored x (anchor_cell e) 0
-      left = store.after ∙ ap (λ (cell : Cell). stored x cell 0) anchor_here
-
-      pub anchor_not_held : IsHeldWord u (anchor_word e) → ⊥
-      anchor_not_held held = let s = ap (times_held u) anchor_here in omega arith
-
-      words : (k : ℕ) → k ≢ anchor_word e → Owns v k → KeepsWord v w k
-      words k other own = word_then v u w k (drawn.words k own) (subst (λ y. KeepsWord u y k) (sym left)
-          (let p = stored_other u (anchor_word e) 0 k other in record { volatile = p.volatile; durable = p.durable }))
-
-      owned : (i : ℕ) → i < v.setup.capacity → Shows v (anchor_cell i) 0 → Owns v (anchor_word i)
-      owned i less shows = subst (λ (cell : Cell). IsOwn v cell) (sym (anchor_at i less))
-          ((has.sound.good.words has.seat v has.below has.at).volatile (anchor_cell i) 0 (lt-ltb i v.setup.capacity less) shows).0
-
-      same : parts w ≡ record (parts v) { raw = e ∷ without e v.raw; split = without e v.split; cutting = without e v.cutting }
-      same = ap parts left ∙ ap (λ (y : View). record (parts y) {
-        raw = e ∷ without e y.raw;
-        split = without e y.split;
-        cutting = without e y.cutting;
-      }) drawn.left
-
-      pub none_lost : w.losses ≡ v.losses
-      none_lost = ap (λ (y : View). y.losses) left ∙ ap (λ (y : View). y.losses) drawn.left
-
-      pub anchor_cleared : HasCleared e v w
-      anchor_cleared = let once = raw_once v has e in record {
-        ran = drawn.went;
-        going = ap (λ (y : View). y.stopped) left ∙ ap (λ (y : View). y.stopped) drawn.left ∙ drawn.went;
-        parts_are = same
-            ∙ ap (λ l. record (parts v) { raw = e ∷ l; split = without e v.split; cutting = without e v.cutting })
-            (without_absent e v.raw (omega arith))
-            ∙ ap (λ l. record (parts v) { raw = e ∷ v.raw; split = without e v.split; cutting = l }) (without_absent e v.cutting (omega arith));
-        anchor = subst (λ (cell : Cell). Shows w cell 0) anchor_here (store_shown (anchor_word e) 0 u w found store);
-        others = λ i other less shows. (words (anchor_word i) (λ s. omega (arith, s, other)) (owned i less shows)).volatile 0 shows;
-      }
-
-pub clear_row : (v u w : SeatView) (has : HasSoundState v.view) (e found : ℕ) → 0 < times e v.view.split → HasDrawn v.view u.view
-    → Row one_draw v u → IsEvent (Store (anchor_word e) 0) u.view found w.view → HasNewStore (anchor_word e) u w → Row one_draw v w
-clear_row v u w has e found split drawn row store new = let free = anchor_not_held v.view has e split u.view drawn w.view found store in
-    row_then v u w row (row_of_store u w (anchor_word e) new free (store_row (anchor_word e) 0 u.view w.view found store free))
 
 -- how far the anchors are 0
 pub record Clearing (d e : ℕ) (v t : SeatView) : Type 0 where
@@ -278,12 +243,3 @@ module _ (v t : SeatView) (stores : KeepsStores v t) (block : ℕ)
       none e from until = let once = raw_once t.view has e in let both = times_append e v.view.split (steps d 1 n) in
           let here = fresh_claimed [] d n e from until in
           let s = ap (λ (p : Parts). times e p.split) (opened going).0 in omega arith
-
--- an answer that is passed on
-pub if_err : {A E : Type 0} {P Q : E → Type 0} (result : Result A E) → ((e : E) → P e → Q e) → IfErr result P → IfErr result Q
-if_err (Ok x) more is = tt
-if_err (Err e) more is = more e is
-
-pub if_ok : {A E P Q : Type 0} (result : Result A E) → (P → Q) → OnOk result P → OnOk result Q
-if_ok (Ok x) more is = more is
-if_ok (Err e) more is = tt

@@ -10,7 +10,7 @@ ghost use Rattle.large_block.specs.Infos.{HasInfo};
 
 use heap_rule::{Seat, Shared};
 use line_memory::{Chance, Stopped};
-use seat_costs::draw;
+use seat_costs::draw_and_store;
 use super_block::Geometry;
 
 /// Stores the info of a superblock that is claimed without a class, and makes it durable. Pending
@@ -33,8 +33,7 @@ pub fn set_info<C: Chance>(
 {
     seat.recall_soundness();
     let place = Geometry::new(seat.capacity(shared)).info(d);
-    draw(seat, shared, chance)?;
-    seat.store_word(shared, place, info);
+    draw_and_store(seat, shared, place, info, chance)?;
     seat.settle(shared, place);
     Ok(())
 }

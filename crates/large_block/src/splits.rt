@@ -14,7 +14,7 @@ ghost use Rattle.large_block.specs.Splits.{HasCleared, HasClearedAll, HasSplit, 
 use core_model::Shift;
 use heap_rule::{Seat, Shared};
 use line_memory::{Chance, Stopped};
-use seat_costs::{draw, draw_with};
+use seat_costs::{draw_and_store, draw_with};
 use super_block::{Block, Geometry, SUPERBLOCK_WORDS, WORD_BYTES};
 
 /// Adjoining superblocks that a large block takes.
@@ -63,9 +63,7 @@ fn clear_anchor<C: Chance>(
 {
     seat.recall_soundness();
     let anchor = Geometry::new(seat.capacity(shared)).anchor(e);
-    draw(seat, shared, chance)?;
-    seat.store_word(shared, anchor, 0);
-    Ok(())
+    draw_and_store(seat, shared, anchor, 0, chance)
 }
 
 /// So do the anchors of all its superblocks, from the first one on.

@@ -3,7 +3,8 @@ use Rattle.std.proofs.lemmas.Result.{err_from_is_err_and}
 use Rattle.seat_costs.proofs.AskedLemmas.{asked_none, asked_then}
 use Rattle.seat_costs.proofs.RowLemmas.{marks_behind}
 use Rattle.large_block.specs.Fresh.{TriesTake}
-use Rattle.large_block.proofs.FreshLemmas.{alone, tries_begin, tries_less, tries_on, tries_row, tries_stop}
+use Rattle.large_block.proofs.FreshLemmas.{alone}
+use Rattle.large_block.proofs.TryLemmas.{tries_begin, tries_less, tries_on, tries_row, tries_stop}
 use Rattle.large_block.proofs.fresh.take_fresh.Goals as goal
 
 pub loop-take-init : goal.loop-take-init

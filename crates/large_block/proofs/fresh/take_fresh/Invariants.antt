@@ -3,7 +3,7 @@ use Rattle.std.proofs.Common.{◌-◌}
 use Rattle.seat_costs.specs.Asked.{HasAsked}
 use Rattle.seat_costs.specs.Rows.{KeepsMarks}
 use Rattle.seat_costs.specs.Words.{IsHeldWord}
-use Rattle.large_block.proofs.FreshLemmas.{Trying}
+use Rattle.large_block.proofs.TryLemmas.{Trying}
 use Rattle.large_block.proofs.fresh.take_fresh.Given as goal
 
 abbrev pub invariant-loop-take : goal.invariant-loop-take

@@ -6,7 +6,8 @@ use Rattle.large_block.specs.Infos.{HasInfo}
 use Rattle.seat_costs.proofs.AskedLemmas.{asked_then}
 use Rattle.seat_costs.proofs.RowLemmas.{row_then, then_holding}
 use Rattle.seat_costs.proofs.ShiftLemmas.{shift_row}
-use Rattle.large_block.proofs.HoldLemmas.{can_hold, held, on_err, refused_later, refused_row}
+use Rattle.large_block.proofs.HoldLemmas.{can_hold, held, refused_later, refused_row}
+use Rattle.seat_costs.proofs.ResultLemmas.{on_err}
 use Rattle.large_block.proofs.holds.hold.Goals as goal
 
 pub draw_with-requires-clause-can : goal.draw_with-requires-clause-can

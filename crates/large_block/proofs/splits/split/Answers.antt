@@ -4,11 +4,12 @@ use Rattle.core_model.specs.Effects.{span_count}
 use Rattle.core_model.specs.declared.event.Shift.TheVariants.{Split}
 use Rattle.heap_rule.specs.Seated.{SeatView}
 use Rattle.large_block.specs.Splits.{HasClearedAll}
-use Rattle.large_block.proofs.SplitLemmas.{each_split, if_err, if_ok, none_split, refused_within, split_done, split_may, split_row, split_stops}
+use Rattle.large_block.proofs.SplitLemmas.{each_split, none_split, refused_within, split_done, split_may, split_row, split_stops}
 use Rattle.seat_costs.specs.Costs.{no_costs}
 use Rattle.seat_costs.specs.Rows.{Row}
 use Rattle.seat_costs.proofs.AskedLemmas.{asked_then}
 use Rattle.seat_costs.proofs.DrawLemmas.{told_stop}
+use Rattle.seat_costs.proofs.ResultLemmas.{if_err_then, on_ok_then}
 use Rattle.large_block.proofs.splits.split.Goals as goal
 
 pub returns-in_err-draw_with-clause-may : goal.returns-in_err-draw_with-clause-may
@@ -50,7 +51,7 @@ returns-clause-may g c = let s = c.superblocks_of-span.ensures in
 
 pub returns-clause-stopped : goal.returns-clause-stopped
 returns-clause-stopped g c = let s = c.superblocks_of-span.ensures in
-    if_err c.clear_anchors.result (λ e. split_stops c.args.seat.now c.draw_with.new.seat c.draw_with.ensures.stores c.args.block.first_word
+    if_err_then c.clear_anchors.result (λ e. split_stops c.args.seat.now c.draw_with.new.seat c.draw_with.ensures.stores c.args.block.first_word
     c.draw_with.ensures.event c.draw_with.ensures.had_stopped c.clear_anchors.new.seat c.in_ok-draw_with.ensures.told
     (subst (λ (n : ℕ). Row (record no_costs { draws = n }) c.draw_with.new.seat c.clear_anchors.new.seat) (s.count
     ∙ ap (λ (d : ℕ). span_count d c.args.seat.now.view.large) s.first) c.clear_anchors.ensures.row) e.step) c.clear_anchors.ensures.stopped
@@ -59,7 +60,7 @@ pub returns-clause-split : goal.returns-clause-split
 returns-clause-split g c = let s = c.superblocks_of-span.ensures in
     let d = c.superblocks_of-span.result.first in
     let count = s.count ∙ ap (λ (d : ℕ). span_count d c.args.seat.now.view.large) s.first in
-    if_ok c.clear_anchors.result (λ cleared. split_done c.args.seat.now c.draw_with.new.seat c.draw_with.ensures.stores c.args.block.first_word
+    on_ok_then c.clear_anchors.result (λ cleared. split_done c.args.seat.now c.draw_with.new.seat c.draw_with.ensures.stores c.args.block.first_word
     c.draw_with.ensures.event c.draw_with.ensures.had_stopped c.clear_anchors.new.seat c.in_ok-draw_with.ensures.told
     (subst (λ (n : ℕ). Row (record no_costs { draws = n }) c.draw_with.new.seat c.clear_anchors.new.seat) count c.clear_anchors.ensures.row)
     c.recall_soundness-2.ensures
