@@ -20,6 +20,7 @@ pub record IsBatchOf (d class last : ℕ) (v : View) : Type 0 where
 abbrev pub with_linked : Bool → Parts → Parts
 with_linked linked p = record p { batch = record p.batch { linked = linked } }
 
+-- the last block leads to this one, and the anchor is seen still
 pub record HasLinkedLast (last first : ℕ) (v w : View) : Type 0 where
   pub ran : v.stopped ≡ None
   pub going : w.stopped ≡ None
@@ -34,6 +35,7 @@ abbrev pub given_parts : Bool → ℕ → ℕ → Parts → Parts
 given_parts true d class p = with_claim class d (record p { batch = no_batch })
 given_parts false d class p = record p { batch = no_batch }
 
+-- the batch was given
 pub record HasGiven (d class : ℕ) (full : Bool) (v w : View) : Type 0 where
   pub going : w.stopped ≡ None
   pub gave : v.gives < w.gives
@@ -51,6 +53,7 @@ pub record HasNotGiven (draws : ℕ) (v w : View) : Type 0 where
   pub parts_are : parts w ≡ with_linked linked (parts v)
   pub row : ViewRow (record one_loss { draws = draws }) v w
 
+-- the exchange of an anchor that was seen was won, or lost
 abbrev pub GivesSeen : ℕ → Bool → View → View → Type 0
 GivesSeen d true v w = HasGiven d v.batch.class (nat_eq (seen_word v.seen_anchor) full_anchor) v w
 GivesSeen d false v w = HasNotGiven 1 v w

@@ -15,6 +15,7 @@ with_lifted class first p = record p {
   batch = record { descriptor = superblock_of p.setup.capacity first; class = class; blocks = p.batch.blocks ++ first ∷ []; linked = true };
 }
 
+-- the block was lifted, and leads to the next one of the cache
 pub record HasLifted (class first : ℕ) (v w : View) : Type 0 where
   pub ran : v.stopped ≡ None
   pub going : w.stopped ≡ None
