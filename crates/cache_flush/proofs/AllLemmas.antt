@@ -14,7 +14,7 @@ use Rattle.seat_costs.proofs.RowLemmas.{stops_later, view_row_none, view_row_the
 use Rattle.cache_flush.specs.All.{GivesCaches, HasFlushedAll, all_costs, cached, cached_runs, gave_cache, gave_no_cache}
 use Rattle.cache_flush.specs.Flushes.{HasFlushed, cache_costs, cache_runs, flush_costs}
 use Rattle.cache_flush.specs.Runs.{runs_of}
-use Rattle.cache_flush.proofs.LiftLemmas.{cache_set}
+use Rattle.cache_flush.proofs.LiftingLemmas.{cache_set}
 use Rattle.cache_flush.proofs.RunLemmas.{runs_few}
 
 -- there is no block of class 0, which is none

@@ -10,7 +10,7 @@ use Rattle.heap_model.specs.Words.{anchor_count, anchor_first, full_anchor}
 use Rattle.heap_model.proofs.SizeLemmas.{two_words}
 use Rattle.core_model.specs.declared.event.Event.TheVariants.{Give, Store}
 use Rattle.core_model.specs.Cells.{Cell, data_cell, cell_at}
-use Rattle.core_model.specs.Effects.{claimed, given, last_of, learn, lost, seen_of, seen_word, stored, trimmed, used_up, won}
+use Rattle.core_model.specs.Effects.{claimed, drew, given, last_of, lost, seen_of, seen_word, trimmed, used_up, won}
 use Rattle.core_model.specs.Guards.{IsOwn}
 use Rattle.core_model.specs.Memory.{memory_of, info, anchor}
 use Rattle.core_model.specs.View.{Setup, Snapshot, View, no_batch, one_if_some, times_block}
@@ -20,18 +20,18 @@ use Rattle.seat_state.proofs.BlockRanges.{within_word}
 use Rattle.heap_rule.specs.Fences.{Owns}
 use Rattle.heap_table.specs.Plays.{HasSoundState, IsEvent}
 use Rattle.heap_rule.specs.Seated.{Tells}
-use Rattle.heap_rule.specs.Shown.{Can, CanGive, CanStore, Shows}
+use Rattle.heap_rule.specs.Shown.{Can, CanGive, CanStore, IsShownFor, Shows}
 use Rattle.heap_rule.proofs.WordsLeftLemmas.{give_lost, give_won}
-use Rattle.heap_rule.proofs.RawLemmas.{store_shown}
 use Rattle.heap_rule.proofs.ViewLemmas.{block_below, block_class, block_once, block_range}
-use Rattle.superblock_lists.proofs.PopLemmas.{drawn_as}
 use Rattle.superblock_lists.specs.Anchors.{anchor_seen}
 use Rattle.cache_flush.specs.Gives.{Gives, GivesSeen, HasGiven, HasLinkedLast, HasNotGiven, IsBatchOf, given_parts, with_linked}
 use Rattle.seat_costs.specs.Costs.{Costs, no_costs, one_draw, one_give}
 use Rattle.seat_costs.specs.Rows.{HasDrawn, Parts, Stops, ViewRow, parts}
-use Rattle.seat_costs.specs.Words.{IsHeldWord, times_held}
+use Rattle.seat_costs.specs.Words.{IsHeldWord}
+use Rattle.seat_costs.specs.Stores.{HasStored}
 use Rattle.seat_costs.proofs.OnceLemmas.{not_held}
 use Rattle.seat_costs.proofs.EventLemmas.{give_lost_row}
+use Rattle.seat_costs.proofs.StoredLemmas.{drawn_as, may_store, not_held_at, stored_at}
 use Rattle.seat_costs.proofs.RowLemmas.{stops_later, view_row_none, view_row_then, view_row_within}
 
 -- the last block of the batch may lead to any other
@@ -62,56 +62,32 @@ module _ (v : View) (has : HasSoundState v) (d class last : ℕ) (batch : IsBatc
   can_last : (value : ℕ) → CanStore v (data_cell last) value
   can_last value = let once = block_once v has last in let t = there in record { uncached = omega arith; in_batch = inr (sym batch.last_is) }
 
-  pub can_link_last : (u : View) (first : ℕ) → HasDrawn v u → Can u (Store last first)
-  can_link_last u first drawn = subst (λ (x : View). Can x (Store last first)) (sym drawn.left) (record {
-    going = drawn.went;
-    ticket = refl;
-    shown = subst (λ (cell : Cell). IsOwn (drawn_as v drawn.ticket u) cell × CanStore (drawn_as v drawn.ticket u) cell first) (sym last_cell)
-        (last_own, (let p = can_last first in record { uncached = p.uncached; in_batch = p.in_batch }));
-  })
+  pub may_link_last : (first : ℕ) → IsShownFor v (Store last first)
+  may_link_last first = may_store v last (data_cell last) last_cell first last_own (can_last first)
 
-  last_not_held : IsHeldWord v last → ⊥
-  last_not_held held =
+  pub last_not_held : IsHeldWord v last → ⊥
+  last_not_held = not_held_at v last (data_cell last) last_cell (
       let two = two_words v.batch.class batch_class in
       let within = within_word (words_of_class v.batch.class) last last v.batch.blocks there (omega arith) (omega arith) in
-      let none = not_held v has last (omega arith) in
-      let is = ap (times_held v) last_cell in omega arith
+      not_held v has last (omega arith)
+      )
 
-  pub last_free : (u : View) → HasDrawn v u → IsHeldWord u last → ⊥
-  last_free u drawn held = last_not_held (let same = ap (λ (x : View). times_held x (cell_at x.setup.capacity last)) drawn.left in omega arith)
-
-  module _ (u w : View) (first found : ℕ) (drawn : HasDrawn v u) (event : IsEvent (Store last first) u found w) where
-    last_here : cell_at u.setup.capacity last ≡ data_cell last
-    last_here = ap (λ (x : View). cell_at x.setup.capacity last) drawn.left ∙ last_cell
-
-    last_left : w ≡ record (used_up u) {
-      volatile = learn u.volatile last first;
-      batch = record u.batch { linked = cond (nat_eq last (last_of u.batch.blocks)) false u.batch.linked };
-    }
-    last_left = event.after ∙ ap (λ (cell : Cell). stored (record (used_up u) { volatile = learn u.volatile last first }) cell first) last_here
-
-    left_here : w ≡ record (used_up (drawn_as v drawn.ticket u)) { volatile = learn u.volatile last first; batch = record v.batch { linked = false } }
-    left_here = last_left
-        ∙ ap (λ (x : View). record (used_up x) {
-          volatile = learn u.volatile last first;
-          batch = record x.batch { linked = cond (nat_eq last (last_of x.batch.blocks)) false x.batch.linked };
-        }) drawn.left
-        ∙ ap (λ l. record (used_up (drawn_as v drawn.ticket u)) {
-          volatile = learn u.volatile last first;
-          batch = record v.batch { linked = l };
-        }) (pick (nat_eq last (last_of v.batch.blocks)) false v.batch.linked
-        (eq-eqb last (last_of v.batch.blocks) (sym batch.last_is)))
-
-    pub last_linked : HasLinkedLast last first v w
-    last_linked = record {
-      ran = drawn.went;
-      going = ap (λ (x : View). x.stopped) left_here ∙ drawn.went;
-      room = drawn.room;
-      more = let e = ap (λ (x : View). x.draws) left_here in omega arith;
-      parts_are = ap parts left_here;
-      anchor = ap (λ (x : View). x.seen_anchor) left_here;
-      link = subst (λ (cell : Cell). Shows w cell first) last_here (store_shown last first u w found event);
-    }
+  pub last_linked : (first : ℕ) (w : View) → HasStored last first v w → HasLinkedLast last first v w
+  last_linked first w stored = record {
+    ran = stored.ran;
+    going = stored.going;
+    room = stored.room;
+    more = let e = ap (λ (x : View). x.draws) left in omega arith;
+    parts_are = ap parts left;
+    anchor = ap (λ (x : View). x.seen_anchor) left;
+    link = stored.seen;
+  } where
+    left : w ≡ record (used_up (drew v stored.ticket)) { volatile = w.volatile; durable = w.durable; batch = record v.batch { linked = false } }
+    left = stored_at v last (data_cell last) last_cell w first stored ∙ ap (λ l. record (used_up (drew v stored.ticket)) {
+      volatile = w.volatile;
+      durable = w.durable;
+      batch = record v.batch { linked = l };
+    }) (pick (nat_eq last (last_of v.batch.blocks)) false v.batch.linked (eq-eqb last (last_of v.batch.blocks) (sym batch.last_is)))
 
 -- the batch is given
 pub can_give : (v u : View) (has : HasSoundState v) (d : ℕ) → HasDrawn v u → CanGive v d → Can u (Give d)

@@ -17,7 +17,7 @@ ghost use Rattle.cache_flush.specs.Gives.{Gives, GivesSeen, HasGiven, HasLinkedL
 
 use heap_rule::{Seat, Shared};
 use line_memory::{Chance, Stopped};
-use seat_costs::draw;
+use seat_costs::{draw, draw_and_store};
 use seat_state::{anchor_after_take_all, first_free};
 use size_table::SizeClass;
 use super_block::Geometry;
@@ -43,9 +43,7 @@ fn link_last<C: Chance>(
 {
     let _batch = (d, class);
     seat.recall_soundness();
-    draw(seat, shared, chance)?;
-    seat.store_word(shared, last, first);
-    Ok(())
+    draw_and_store(seat, shared, last, first, chance)
 }
 
 /// Gives a batch whose superblock's anchor was seen.

@@ -1,7 +1,7 @@
 use Rattle.std.proofs.Common.{inl}
 use Rattle.seat_costs.proofs.AskedLemmas.{asked_none, asked_then}
 use Rattle.seat_costs.proofs.RowLemmas.{marks_behind}
-use Rattle.cache_flush.proofs.FlushLemmas.{flushing_begins, flushing_most, flushing_on, flushing_row}
+use Rattle.cache_flush.proofs.FlushingLemmas.{flushing_begins, flushing_most, flushing_on, flushing_row}
 use Rattle.cache_flush.proofs.flushes.flush.Goals as goal
 
 pub loop-class-init : goal.loop-class-init

@@ -3,7 +3,7 @@ use Rattle.std.proofs.Common.{◌-◌}
 use Rattle.seat_costs.specs.Asked.{HasAsked}
 use Rattle.seat_costs.specs.Rows.{KeepsMarks}
 use Rattle.seat_costs.specs.Words.{IsHeldWord}
-use Rattle.cache_flush.proofs.FlushLemmas.{Flushing}
+use Rattle.cache_flush.proofs.FlushingLemmas.{Flushing}
 use Rattle.cache_flush.proofs.flushes.flush.Given as goal
 
 abbrev pub invariant-loop-class : goal.invariant-loop-class

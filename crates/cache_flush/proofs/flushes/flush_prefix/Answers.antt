@@ -2,7 +2,8 @@ use Rattle.std.proofs.Common.{true, false, subst, arith}
 use Rattle.seat_costs.proofs.AskedLemmas.{asked_then}
 use Rattle.seat_costs.proofs.RowLemmas.{marks_behind, row_then}
 use Rattle.cache_flush.specs.Gives.{HasGiven}
-use Rattle.cache_flush.proofs.FlushLemmas.{gave_free, gave_full, given_claimed, given_free, given_listed, lifted_batch, on_ok_then, prefix_done, prefix_row}
+use Rattle.cache_flush.proofs.FlushLemmas.{gave_free, gave_full, given_claimed, given_free, given_listed, lifted_batch, prefix_done, prefix_row}
+use Rattle.seat_costs.proofs.ResultLemmas.{on_ok_then}
 use Rattle.cache_flush.proofs.flushes.flush_prefix.Goals as goal
 
 pub give-requires-clause-batch : goal.give-requires-clause-batch

@@ -2,7 +2,8 @@ use Rattle.std.proofs.Common.{refl}
 use Rattle.seat_costs.proofs.AskedLemmas.{asked_then}
 use Rattle.seat_costs.proofs.RowLemmas.{row_then}
 use Rattle.superblock_lists.proofs.AnchorLemmas.{claim_look, claim_still}
-use Rattle.cache_flush.proofs.FlushLemmas.{listed, on_ok_then}
+use Rattle.cache_flush.proofs.FlushLemmas.{listed}
+use Rattle.seat_costs.proofs.ResultLemmas.{on_ok_then}
 use Rattle.cache_flush.proofs.flushes.list.Goals as goal
 
 pub look_anchor-requires-clause-may : goal.look_anchor-requires-clause-may

@@ -1,4 +1,5 @@
-use Rattle.cache_flush.proofs.FlushLemmas.{claim_lists, listed_by, on_ok_then}
+use Rattle.cache_flush.proofs.FlushLemmas.{claim_lists, listed_by}
+use Rattle.seat_costs.proofs.ResultLemmas.{on_ok_then}
 use Rattle.cache_flush.proofs.flushes.list_seen.Goals as goal
 
 pub push_to-requires-clause-can : goal.push_to-requires-clause-can

@@ -4,7 +4,8 @@ use Rattle.core_model.specs.View.{Setup}
 use Rattle.seat_costs.proofs.AskedLemmas.{asked_then}
 use Rattle.seat_costs.proofs.RowLemmas.{marks_behind}
 use Rattle.cache_flush.specs.Lifts.{IsLifting}
-use Rattle.cache_flush.proofs.LiftLemmas.{above, lifted_all, lifted_some, lifting_can, lifting_most, lifting_on, lifting_one, lifting_row, lifting_setup}
+use Rattle.cache_flush.proofs.LiftLemmas.{above}
+use Rattle.cache_flush.proofs.LiftingLemmas.{lifted_all, lifted_some, lifting_can, lifting_most, lifting_on, lifting_one, lifting_row, lifting_setup}
 use Rattle.cache_flush.proofs.lifts.lift_prefix.Goals as goal
 
 pub superblock_of-d-requires : goal.superblock_of-d-requires
