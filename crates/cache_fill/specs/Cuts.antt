@@ -40,6 +40,7 @@ pub record HasLinks (d class : ℕ) (v w : View) : Type 0 where
 abbrev pub with_making : ℕ → Parts → Parts
 with_making d p = record p { raw = without d p.raw; split = without d p.split; cutting = d ∷ without d p.cutting }
 
+-- the anchor is full, and of all other own words what was known is known
 pub record HasFilledAnchor (d : ℕ) (v w : View) : Type 0 where
   pub going : w.stopped ≡ None
   pub parts_are : parts w ≡ with_making d (parts v)
@@ -55,6 +56,7 @@ with_cut d class p = record p {
   cutting = without d p.cutting;
 }
 
+-- the seat has the blocks in its cache, and its last looks stay
 pub record HasCut (d class : ℕ) (v w : View) : Type 0 where
   pub going : w.stopped ≡ None
   pub parts_are : parts w ≡ with_cut d class (parts v)

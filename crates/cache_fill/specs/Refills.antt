@@ -52,6 +52,7 @@ pub record HasFilledFrom (class : ℕ) (v w : View) : Type 0 where
   pub filled : HasFilled class v w
   pub row : ViewRow (fill_costs 5 2 v w) v w
 
+-- filling a cache from the list of its class filled it, or found the list empty
 abbrev pub FillsFrom : ℕ → FromClass → View → View → Type 0
 FillsFrom class FilledFromClass v w = HasFilledFrom class v w
 FillsFrom class (Empty head) v w = IsNoneOfClass class head v w
@@ -65,6 +66,7 @@ pub record HasMoved (v w : View) : Type 0 where
   pub parts_are : parts w ≡ parts v
   pub row : ViewRow (fill_costs 0 0 v w) v w
 
+-- the same of one try, which may have moved a superblock instead
 abbrev pub TriesFrom : ℕ → Option FromClass → View → View → Type 0
 TriesFrom class None v w = HasMoved v w
 TriesFrom class (Some from) v w = FillsFrom class from v w
@@ -115,6 +117,7 @@ pub record IsNothingFree (free_head used : ℕ) (v w : View) : Type 0 where
   pub others : KeepsClassLooks v w
   pub row : ViewRow (record no_costs { draws = 6 }) v w
 
+-- a superblock was found, or none is free
 abbrev pub Finds : Found → View → View → Type 0
 Finds (Got d) v w = HasFound d v w
 Finds (Nothing free_head used) v w = IsNothingFree free_head used v w
@@ -137,6 +140,7 @@ pub record IsFull (class : ℕ) (looks : Looks) (v w : View) : Type 0 where
   pub free_empty : head_first looks.free_head ≡ 0
   pub past : v.setup.capacity < looks.used + 1
 
+-- a refill filled the cache, or the heap is full
 abbrev pub Refills : ℕ → Filling → View → View → Type 0
 Refills class Filled v w = HasFilled class v w
 Refills class (Full looks) v w = IsFull class looks v w

@@ -35,10 +35,12 @@ pub record HasNotTaken (draws : ℕ) (v w : View) : Type 0 where
   pub parts_are : parts w ≡ parts v
   pub row : ViewRow (record one_loss { draws = draws }) v w
 
+-- the exchange of an anchor that was seen was won, or lost
 abbrev pub TakesSeen : ℕ → ℕ → Bool → View → View → Type 0
 TakesSeen d class true v w = HasTakenFree d class v w
 TakesSeen d class false v w = HasNotTaken 1 v w
 
+-- the free blocks were taken, or all blocks of the superblock are free
 abbrev pub TakesFree : ℕ → ℕ → Bool → View → View → Type 0
 TakesFree d class true v w = HasTakenFree d class v w
 TakesFree d class false v w = IsAllFree d v w
