@@ -22,10 +22,10 @@ use Rattle.heap_table.specs.Plays.{IsEvent}
 use Rattle.cache_fill.specs.Takes.{HasNotTaken, HasTakenFree, TakesFree, TakesSeen, with_taken}
 use Rattle.superblock_lists.specs.Anchors.{HasSeenAnchor}
 use Rattle.superblock_lists.specs.Pushes.{IsClaimOf}
-use Rattle.superblock_lists.proofs.PopLemmas.{drawn_as}
 use Rattle.seat_costs.specs.Costs.{Costs, no_costs, one_draw, one_win}
 use Rattle.seat_costs.specs.Rows.{HasDrawn, Parts, Stops, ViewRow, parts}
 use Rattle.seat_costs.proofs.EventLemmas.{take_all_lost_row}
+use Rattle.seat_costs.proofs.StoredLemmas.{drawn_as}
 use Rattle.seat_costs.proofs.RowLemmas.{stops_later, view_row_none, view_row_then, view_row_within}
 
 pub can_take : (v u : View) (d : ℕ) → HasDrawn v u → MayTakeAll v d → Can u (TakeAll d)

@@ -15,7 +15,7 @@ use core_model::Shift;
 use heap_rule::{Seat, Shared};
 use large_block::set_info;
 use line_memory::{Chance, Stopped};
-use seat_costs::{draw, draw_with};
+use seat_costs::{draw_and_store, draw_with};
 use seat_state::anchor_after_take_all;
 use size_table::{SizeClass, blocks_of};
 use super_block::{Geometry, block_words};
@@ -40,9 +40,7 @@ fn link_block<C: Chance>(
     ensures seat { IsSeatOf shared.now seat.new }
 {
     seat.recall_soundness();
-    draw(seat, shared, chance)?;
-    seat.store_word(shared, word, value);
-    Ok(())
+    draw_and_store(seat, shared, word, value, chance)
 }
 
 /// The first word of each block of a claimed superblock but the last leads to the next block.
@@ -91,9 +89,7 @@ fn fill_anchor<C: Chance>(
 {
     seat.recall_soundness();
     let anchor = Geometry::new(seat.capacity(shared)).anchor(d);
-    draw(seat, shared, chance)?;
-    seat.store_word(shared, anchor, anchor_after_take_all());
-    Ok(())
+    draw_and_store(seat, shared, anchor, anchor_after_take_all(), chance)
 }
 
 /// Cuts a claimed superblock into blocks of a class, whose cache is empty: they are all in the

@@ -7,7 +7,7 @@ use Rattle.heap_rule.proofs.RawLemmas.{raw_inside}
 use Rattle.seat_costs.proofs.AskedLemmas.{asked_none, asked_then}
 use Rattle.seat_costs.proofs.RowLemmas.{marks_behind, view_row_within}
 use Rattle.cache_fill.specs.Cuts.{HasLink}
-use Rattle.cache_fill.proofs.CutLemmas.{Linking, link_end, link_next, link_raw, link_until, linking_begins, linking_on, linking_row}
+use Rattle.cache_fill.proofs.LinkLemmas.{Linking, link_end, link_next, link_raw, link_until, linking_begins, linking_on, linking_row}
 use Rattle.cache_fill.proofs.cuts.link_blocks.Goals as goal
 
 pub start-block-requires : goal.start-block-requires

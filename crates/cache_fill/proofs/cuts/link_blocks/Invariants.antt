@@ -5,7 +5,7 @@ use Rattle.heap_rule.specs.Seated.{IsSeatOf}
 use Rattle.seat_costs.specs.Asked.{HasAsked}
 use Rattle.seat_costs.specs.Rows.{KeepsMarks}
 use Rattle.seat_costs.specs.Words.{IsHeldWord}
-use Rattle.cache_fill.proofs.CutLemmas.{Linking}
+use Rattle.cache_fill.proofs.LinkLemmas.{Linking}
 use Rattle.cache_fill.proofs.cuts.link_blocks.Given as goal
 
 abbrev pub invariant-loop-i : goal.invariant-loop-i

@@ -3,7 +3,8 @@ use Rattle.seat_costs.proofs.AskedLemmas.{asked_none, asked_then}
 use Rattle.seat_costs.proofs.RowLemmas.{marks_behind}
 use Rattle.cache_fill.specs.Refills.{TriesFrom}
 use Rattle.cache_fill.proofs.TakeLemmas.{uncached_still}
-use Rattle.cache_fill.proofs.RefillLemmas.{fill_then, filling_begins, filling_done, filling_less, filling_on}
+use Rattle.cache_fill.proofs.ClassFillLemmas.{filling_begins, filling_done, filling_less, filling_on}
+use Rattle.cache_fill.proofs.FillRowLemmas.{fill_then}
 use Rattle.cache_fill.proofs.refills.fill_from_class.Goals as goal
 
 pub loop-from-init : goal.loop-from-init

@@ -3,7 +3,9 @@ use Rattle.large_block.specs.Fresh.{HasTakenFresh, IsPast, Takes}
 use Rattle.superblock_lists.specs.Pops.{HasPopped, IsEmptyList, Pops}
 use Rattle.seat_costs.proofs.AskedLemmas.{asked_then}
 use Rattle.seat_costs.proofs.RowLemmas.{row_then, view_row_then}
-use Rattle.cache_fill.proofs.RefillLemmas.{empty_list_row, fresh_behind, fresh_others, nothing_free, nothing_won, past_others}
+use Rattle.cache_fill.proofs.RefillLemmas.{fresh_behind, fresh_others, nothing_free, past_others}
+use Rattle.cache_fill.proofs.ClassFillLemmas.{empty_list_row}
+use Rattle.cache_fill.proofs.FillRowLemmas.{nothing_won}
 use Rattle.cache_fill.proofs.refills.find_superblock.Goals as goal
 
 pub returns-in_err-take-clause-row : goal.returns-in_err-take-clause-row

@@ -4,7 +4,9 @@ use Rattle.seat_costs.specs.Rows.{Row}
 use Rattle.seat_costs.proofs.AskedLemmas.{asked_then}
 use Rattle.seat_costs.proofs.RowLemmas.{row_moves, row_then, row_within}
 use Rattle.cache_fill.specs.Refills.{FillsFrom, Finds, HasFound, IsNoneOfClass, IsNothingFree, fill_costs}
-use Rattle.cache_fill.proofs.RefillLemmas.{cut_fills, empty_class_row, nothing_left, order_cut, order_full, order_uncut, refill_row}
+use Rattle.cache_fill.proofs.RefillLemmas.{cut_fills, nothing_left, order_cut, order_full, order_uncut}
+use Rattle.cache_fill.proofs.ClassFillLemmas.{empty_class_row}
+use Rattle.cache_fill.proofs.FillRowLemmas.{refill_row}
 use Rattle.cache_fill.proofs.refills.refill.Goals as goal
 
 pub returns-in_err-d-clause-row : goal.returns-in_err-d-clause-row

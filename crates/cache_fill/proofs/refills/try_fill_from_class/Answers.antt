@@ -7,7 +7,7 @@ use Rattle.seat_costs.specs.Rows.{Row}
 use Rattle.seat_costs.proofs.AskedLemmas.{asked_then}
 use Rattle.seat_costs.proofs.RowLemmas.{row_moves, row_then, row_within, stops_later}
 use Rattle.cache_fill.specs.Takes.{HasTakenFree, IsAllFree, TakesFree}
-use Rattle.cache_fill.proofs.RefillLemmas.{empty_list_row, free_lists, free_moves, moved_on, none_of_class, popped_claim, taken_fills}
+use Rattle.cache_fill.proofs.ClassFillLemmas.{empty_list_row, free_lists, free_moves, moved_on, none_of_class, popped_claim, taken_fills}
 use Rattle.cache_fill.proofs.refills.try_fill_from_class.Goals as goal
 
 pub returns-in_err-take_free_blocks-in-Got-clause-row : goal.returns-in_err-take_free_blocks-in-Got-clause-row
