@@ -1,26 +1,12 @@
 -- How far the flush of a cache has come.
-use Rattle.std.proofs.Common.{◌≡◌, ◌≢◌, ◌<◌, ◌≤◌, ℕ, zero, suc, ◌+◌, ◌-◌, inl, inr, Bool, true, false, cond, nat_eq, List, [], ◌∷◌, ◌++◌, length, set, None, refl, ap, sym, subst, ◌∙◌, eq-eqb, ne_eqb, length-append, arith}
-use Rattle.std.specs.Prelude.{Result, Ok, Err, OnOk}
-use Rattle.std.proofs.lemmas.Bool.{cases_eq}
+use Rattle.std.proofs.Common.{◌≡◌, ◌<◌, ◌≤◌, ℕ, zero, suc, ◌+◌, ◌-◌, List, [], ◌∷◌, ◌++◌, length, set, None, refl, ap, sym, ◌∙◌, length-append, arith}
 use Rattle.std.proofs.lemmas.List.{set-set}
-use Rattle.heap_model.specs.Counting.{times}
 use Rattle.heap_model.specs.Sizes.{IsClass}
-use Rattle.heap_model.specs.Words.{anchor_state, empty_state, partial_state}
-use Rattle.core_model.specs.Effects.{last_of, seen_of, seen_word, without_claim}
-use Rattle.core_model.specs.View.{Batch, Claim, Setup, View, no_batch, of_class, one_if_some}
-use Rattle.core_model.proofs.PlaceLemmas.{not-lt}
+use Rattle.core_model.specs.View.{Setup, View, no_batch, of_class}
 use Rattle.heap_table.specs.Plays.{HasSoundState}
-use Rattle.heap_rule.specs.Shown.{CanList, as_free, by_look, of_its_class}
-use Rattle.superblock_lists.specs.Pushes.{HasPushed, IsClaimOf}
-use Rattle.superblock_lists.proofs.AnchorLemmas.{claim_added, claim_free, claim_of_class, claim_pushed, raw_none}
-use Rattle.cache_flush.specs.Flushes.{GivesRun, GivesRuns, HasFlushed, HasFlushedPrefix, HasListed, HasListedBy, gave_more, gave_none, cache_costs, cache_runs, flush_costs, with_cache}
-use Rattle.superblock_lists.specs.Anchors.{HasSeenAnchor, anchor_seen}
-use Rattle.cache_flush.specs.Gives.{HasGiven, IsBatchOf, given_parts}
-use Rattle.cache_flush.specs.Lifts.{HasLiftedPrefix}
+use Rattle.cache_flush.specs.Flushes.{GivesRuns, HasFlushed, HasFlushedPrefix, gave_more, gave_none, cache_costs, cache_runs, flush_costs, with_cache}
 use Rattle.cache_flush.specs.Runs.{runs_of}
-use Rattle.cache_flush.proofs.LiftingLemmas.{cache_set, lifting_batch}
-use Rattle.cache_flush.proofs.RunLemmas.{first_run}
-use Rattle.seat_costs.specs.Costs.{Costs, IsWithin, no_costs}
+use Rattle.cache_flush.proofs.LiftingLemmas.{cache_set}
 use Rattle.seat_costs.specs.Rows.{Parts, Stops, ViewRow, parts}
 use Rattle.seat_costs.proofs.RowLemmas.{stops_later, view_row_none, view_row_then, view_row_within}
 

@@ -9,10 +9,10 @@ use Rattle.heap_model.specs.Sizes.{IsClass, words_of_class}
 use Rattle.heap_model.specs.Words.{anchor_count, anchor_first, full_anchor}
 use Rattle.heap_model.proofs.SizeLemmas.{two_words}
 use Rattle.core_model.specs.declared.event.Event.TheVariants.{Give, Store}
-use Rattle.core_model.specs.Cells.{Cell, data_cell, cell_at}
+use Rattle.core_model.specs.Cells.{data_cell, cell_at}
 use Rattle.core_model.specs.Effects.{claimed, drew, given, last_of, lost, seen_of, seen_word, trimmed, used_up, won}
 use Rattle.core_model.specs.Guards.{IsOwn}
-use Rattle.core_model.specs.Memory.{memory_of, info, anchor}
+use Rattle.core_model.specs.Memory.{memory_of, info}
 use Rattle.core_model.specs.View.{Setup, Snapshot, View, no_batch, one_if_some, times_block}
 use Rattle.core_model.proofs.PlaceLemmas.{and_is, cell_at_index, pick}
 use Rattle.seat_state.proofs.EndLemmas.{last_there}

@@ -1,9 +1,7 @@
 -- A block that goes from a cache into the batch.
-use Rattle.std.proofs.Common.{◌≡◌, ◌≢◌, ◌<◌, ◌≤◌, ℕ, ◌+◌, ◌-◌, ◌/◌, true, set, length, List, [], ◌∷◌, ◌++◌, None, Some, refl, ap, sym, subst, ◌∙◌, length-append, arith}
+use Rattle.std.proofs.Common.{◌≡◌, ◌<◌, ◌≤◌, ℕ, ◌+◌, ◌-◌, ◌/◌, true, length, None, Some, refl, ap, sym, subst, ◌∙◌, arith}
 use Rattle.std.specs.Bool.{⊤}
 use Rattle.std.specs.Prelude.{Result, Ok, Err, OnOk, IfErr}
-use Rattle.std.proofs.lemmas.List.{get_or-set_same, set-set}
-use Rattle.std.proofs.lemmas.List.Elements.{All-cons, All-nil, All-push}
 use Rattle.heap_model.specs.Geometry.{start_word, superblock_of}
 use Rattle.heap_model.specs.Sizes.{IsClass}
 use Rattle.heap_model.proofs.SizeLemmas.{two_words}
@@ -15,12 +13,12 @@ use Rattle.core_model.specs.Effects.{drew, first_of, last_of, learn, rest_of, us
 use Rattle.core_model.specs.ViewAfter.{after_lift}
 use Rattle.core_model.specs.Guards.{IsOwn}
 use Rattle.core_model.specs.Memory.{memory_of, next}
-use Rattle.core_model.specs.View.{Batch, View, Setup, no_batch, of_class, times_block}
+use Rattle.core_model.specs.View.{View, Setup, of_class, times_block}
 use Rattle.core_model.proofs.OwnerLemmas.{in_lists_total}
 use Rattle.core_model.proofs.PlaceLemmas.{cell_at_index}
 use Rattle.core_model.proofs.BlockLemmas.{first_there}
 use Rattle.core_model.proofs.ClassListLemmas.{first_rest}
-use Rattle.seat_state.proofs.EndLemmas.{last_append, last_there, rest_first}
+use Rattle.seat_state.proofs.EndLemmas.{last_there, rest_first}
 use Rattle.seat_state.proofs.BlockRanges.{in_classes_word}
 use Rattle.heap_rule.specs.Fences.{Owns}
 use Rattle.heap_table.specs.Plays.{HasSoundState, IsEvent}
@@ -29,16 +27,16 @@ use Rattle.heap_rule.specs.Shown.{Can, CanLift, Shows}
 use Rattle.heap_rule.proofs.RawLemmas.{load_shown}
 use Rattle.heap_rule.proofs.ViewLemmas.{block_cell, block_range}
 use Rattle.seat_costs.specs.Draws.{Settles}
-use Rattle.seat_costs.specs.Costs.{no_costs, one_draw}
+use Rattle.seat_costs.specs.Costs.{one_draw}
 use Rattle.seat_costs.specs.Rows.{HasDrawn, Parts, Stops, ViewRow, parts}
 use Rattle.seat_costs.specs.Words.{KeepsWord}
 use Rattle.seat_costs.proofs.DrawLemmas.{early_words, shifted_is, stops}
 use Rattle.seat_costs.proofs.StoreLemmas.{load_row}
-use Rattle.seat_costs.proofs.RowLemmas.{stops_later, view_row_then, view_row_within}
+use Rattle.seat_costs.proofs.RowLemmas.{stops_later, view_row_then}
 use Rattle.seat_costs.proofs.WordLemmas.{learned_word, word_then}
 use Rattle.superblock_lists.proofs.PopLemmas.{still_owns}
 use Rattle.seat_costs.proofs.StoredLemmas.{drawn_as}
-use Rattle.cache_flush.specs.Lifts.{HasLifted, HasLiftedPrefix, IsLifting, lift_costs, with_lifted}
+use Rattle.cache_flush.specs.Lifts.{HasLifted, with_lifted}
 
 module _ (v : View) (has : HasSoundState v) (class : ℕ) (can : CanLift v class) where
   abbrev b : ℕ

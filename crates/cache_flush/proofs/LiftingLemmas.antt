@@ -1,42 +1,19 @@
 -- How far the lifting of a cache's first blocks has come.
-use Rattle.std.proofs.Common.{◌≡◌, ◌≢◌, ◌<◌, ◌≤◌, ℕ, ◌+◌, ◌-◌, ◌/◌, true, set, length, List, [], ◌∷◌, ◌++◌, None, Some, refl, ap, sym, subst, ◌∙◌, length-append, arith}
-use Rattle.std.specs.Bool.{⊤}
-use Rattle.std.specs.Prelude.{Result, Ok, Err, OnOk, IfErr}
+use Rattle.std.proofs.Common.{◌≡◌, ◌≢◌, ◌<◌, ◌≤◌, ℕ, ◌+◌, true, set, length, List, [], ◌∷◌, ◌++◌, refl, ap, sym, subst, ◌∙◌, length-append, arith}
 use Rattle.std.proofs.lemmas.List.{get_or-set_same, set-set}
 use Rattle.std.proofs.lemmas.List.Elements.{All-cons, All-nil, All-push}
-use Rattle.heap_model.specs.Geometry.{start_word, superblock_of}
 use Rattle.heap_model.specs.Sizes.{IsClass}
-use Rattle.heap_model.proofs.SizeLemmas.{two_words}
-use Rattle.line_memory.specs.declared.memory.Stopped.{Stopped}
-use Rattle.core_model.specs.declared.event.Event.TheVariants.{Load, Tick}
-use Rattle.core_model.specs.declared.event.Shift.TheVariants.{Lift}
-use Rattle.core_model.specs.Cells.{Cell, cell_at, data_cell}
-use Rattle.core_model.specs.Effects.{after_lift, drew, first_of, last_of, learn, rest_of, used_up}
-use Rattle.core_model.specs.Guards.{IsOwn}
-use Rattle.core_model.specs.Memory.{memory_of, next}
-use Rattle.core_model.specs.View.{Batch, View, Setup, no_batch, of_class, times_block}
-use Rattle.core_model.proofs.OwnerLemmas.{in_lists_total}
-use Rattle.core_model.proofs.PlaceLemmas.{cell_at_index}
-use Rattle.core_model.proofs.BlockLemmas.{first_there}
+use Rattle.heap_model.specs.Geometry.{superblock_of}
+use Rattle.core_model.specs.Cells.{data_cell}
+use Rattle.core_model.specs.Effects.{first_of, last_of, rest_of}
+use Rattle.core_model.specs.View.{Batch, View, Setup, no_batch, of_class}
 use Rattle.core_model.proofs.ShiftLemmas.{first_rest}
-use Rattle.seat_state.proofs.EndLemmas.{last_append, last_there, rest_first}
-use Rattle.seat_state.proofs.BlockRanges.{in_classes_word}
-use Rattle.heap_rule.specs.Fences.{Owns}
-use Rattle.heap_table.specs.Plays.{HasSoundState, IsEvent}
-use Rattle.heap_rule.specs.Seated.{TellsDraw}
-use Rattle.heap_rule.specs.Shown.{Can, CanLift, Shows}
-use Rattle.heap_rule.proofs.RawLemmas.{load_shown}
-use Rattle.heap_rule.proofs.ViewLemmas.{block_cell, block_range}
-use Rattle.seat_costs.specs.Draws.{Settles}
-use Rattle.seat_costs.specs.Costs.{no_costs, one_draw}
-use Rattle.seat_costs.specs.Rows.{HasDrawn, Parts, Stops, ViewRow, parts}
-use Rattle.seat_costs.specs.Words.{KeepsWord}
-use Rattle.seat_costs.proofs.DrawLemmas.{early_words, shifted_is, stops}
-use Rattle.seat_costs.proofs.StoreLemmas.{load_row}
-use Rattle.seat_costs.proofs.RowLemmas.{stops_later, view_row_then, view_row_within}
-use Rattle.seat_costs.proofs.WordLemmas.{learned_word, word_then}
-use Rattle.superblock_lists.proofs.PopLemmas.{still_owns}
-use Rattle.seat_costs.proofs.StoredLemmas.{drawn_as}
+use Rattle.seat_state.proofs.EndLemmas.{last_append}
+use Rattle.heap_table.specs.Plays.{HasSoundState}
+use Rattle.heap_rule.specs.Shown.{CanLift, Shows}
+use Rattle.seat_costs.specs.Costs.{no_costs}
+use Rattle.seat_costs.specs.Rows.{Parts, ViewRow, parts}
+use Rattle.seat_costs.proofs.RowLemmas.{view_row_then, view_row_within}
 use Rattle.cache_flush.specs.Lifts.{HasLifted, HasLiftedPrefix, IsLifting, lift_costs, with_lifted}
 
 append_again : (bs : List ℕ) (b : ℕ) (cs : List ℕ) → (bs ++ b ∷ []) ++ cs ≡ bs ++ b ∷ cs

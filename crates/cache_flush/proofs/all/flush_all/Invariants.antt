@@ -1,4 +1,3 @@
-use Rattle.std.proofs.Common.{◌-◌}
 use Rattle.heap_rule.specs.Seated.{IsSeatOf}
 use Rattle.seat_costs.specs.Asked.{HasAsked}
 use Rattle.seat_costs.specs.Rows.{KeepsMarks}
