@@ -1,5 +1,5 @@
 -- What the taking of superblocks leaves.
-use Rattle.std.proofs.Common.{◌≡◌, ◌≢◌, ◌<◌, ◌≤◌, ℕ, zero, suc, ◌+◌, ◌-◌, ◌⊎◌, inl, inr, ◌++◌, List, [], ◌∷◌, Bool, get_or, length, max, Option, None, Some, refl, ap, sym, subst, ◌∙◌, length-set, lt-ltb, arith}
+use Rattle.std.proofs.Common.{◌≡◌, ◌≢◌, ◌<◌, ◌≤◌, ℕ, zero, suc, ◌+◌, inl, inr, ◌++◌, List, [], ◌∷◌, Bool, get_or, length, max, Option, None, Some, refl, ap, sym, subst, ◌∙◌, length-set, lt-ltb, arith}
 use Rattle.std.specs.Bool.{⊤}
 use Rattle.std.specs.Prelude.{Result, Ok, Err}
 use Rattle.std.specs.Result.{is_ok}
@@ -12,7 +12,7 @@ use Rattle.core_model.specs.declared.event.Event.TheVariants.{KeepUsed, TakeFres
 use Rattle.core_model.specs.Cells.{Cell, anchor_cell, info_cell}
 use Rattle.core_model.specs.Effects.{learn, learn_fresh, lost, seen, steps, taken_fresh, used_up}
 use Rattle.core_model.specs.Guards.{IsOwn}
-use Rattle.core_model.specs.View.{LastLook, Setup, View, times_claimed, times_raw}
+use Rattle.core_model.specs.View.{LastLook, View, times_claimed, times_raw}
 use Rattle.core_model.proofs.FrameLemmas.{below_is, below_not, times_steps}
 use Rattle.core_model.proofs.PlaceLemmas.{cell_at_index}
 use Rattle.heap_table.specs.Plays.{HasSoundState, IsEvent}
@@ -25,10 +25,10 @@ use Rattle.large_block.specs.declared.fresh.Take.TheVariants.{Got, Past}
 use Rattle.large_block.specs.Fresh.{AreBlankFrom, AreInThisHandAlone, HasKept, HasLostMark, HasMarked, HasTakenFresh, Marks, SeesUsed, Takes, with_fresh}
 use Rattle.superblock_lists.specs.Pops.{looked}
 use Rattle.seat_costs.specs.Costs.{Costs, no_costs, one_draw, one_win}
-use Rattle.seat_costs.specs.Rows.{HasDrawn, IsMade, Parts, Row, Stops, ViewRow, after_ticket, next_of, parts}
+use Rattle.seat_costs.specs.Rows.{HasDrawn, Parts, Row, ViewRow, after_ticket, next_of, parts}
 use Rattle.seat_costs.specs.Words.{KeepsWord, left_at, seen_at}
 use Rattle.seat_costs.proofs.EventLemmas.{fresh_lost_row}
-use Rattle.seat_costs.proofs.RowLemmas.{row_then, row_within, stops_later, view_row_none, view_row_then, view_row_within}
+use Rattle.seat_costs.proofs.RowLemmas.{row_then, row_within, view_row_then}
 use Rattle.seat_costs.proofs.StoredLemmas.{drawn_as}
 use Rattle.seat_costs.proofs.WordLemmas.{durable_then}
 

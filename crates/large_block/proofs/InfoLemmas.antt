@@ -1,16 +1,15 @@
 -- What the storing of an info leaves.
-use Rattle.std.proofs.Common.{◌≡◌, ◌<◌, ℕ, length, None, Some, refl, ap, sym, subst, ◌∙◌, lt-ltb, arith}
+use Rattle.std.proofs.Common.{◌≡◌, ◌<◌, ℕ, length, None, Some, refl, ap, sym, subst, ◌∙◌, arith}
 use Rattle.std.proofs.lemmas.List.{get_or-set_same}
 use Rattle.heap_model.specs.Geometry.{info_word}
 use Rattle.core_model.specs.declared.event.Event.TheVariants.{Settle, Store}
 use Rattle.core_model.specs.Cells.{Cell, cell_at, info_cell}
 use Rattle.core_model.specs.Effects.{drew, learn, used_up}
 use Rattle.core_model.specs.Guards.{IsOwn}
-use Rattle.core_model.specs.View.{View, one_if_some, times_raw}
-use Rattle.core_model.proofs.PlaceLemmas.{cell_at_index}
+use Rattle.core_model.specs.View.{View, times_raw}
 use Rattle.heap_table.specs.Plays.{HasSoundState, IsEvent}
 use Rattle.heap_rule.specs.Seated.{KeepsStores, SeatView}
-use Rattle.heap_rule.specs.Shown.{Can, IsShownFor, Shows}
+use Rattle.heap_rule.specs.Shown.{Can, IsShownFor}
 use Rattle.heap_rule.proofs.RawLemmas.{durable_long, raw_inside, settle_left, volatile_long}
 use Rattle.heap_rule.proofs.SettleLemmas.{own_below}
 use Rattle.heap_rule.specs.Fences.{Owns}

@@ -1,5 +1,5 @@
 -- What the splitting of a large block leaves.
-use Rattle.std.proofs.Common.{◌≡◌, ◌≢◌, ◌<◌, ◌≤◌, ℕ, zero, suc, ◌+◌, ◌-◌, ◌*◌, ◌/◌, inl, inr, ◌++◌, List, [], ◌∷◌, cond, nat_eq, Option, None, Some, Result, Ok, Err, OnOk, IfErr, refl, ap, sym, subst, ◌∙◌, eq-eqb, ne_eqb, lt-ltb, arith}
+use Rattle.std.proofs.Common.{◌≡◌, ◌≢◌, ◌<◌, ◌≤◌, ℕ, zero, suc, ◌+◌, ◌-◌, ◌*◌, ◌/◌, inl, inr, ◌++◌, List, [], ◌∷◌, cond, nat_eq, Option, None, Some, refl, ap, sym, subst, ◌∙◌, eq-eqb, ne_eqb, lt-ltb, arith}
 use Rattle.std.proofs.lemmas.Bool.{cases_eq, cases_lt}
 use Rattle.std.proofs.lemmas.List.{append-nil}
 use Rattle.heap_model.proofs.ListLemmas.{times_append}
@@ -12,9 +12,8 @@ use Rattle.core_model.specs.Cells.{Cell, anchor_cell, cell_at}
 use Rattle.core_model.specs.Effects.{span_count, steps}
 use Rattle.core_model.specs.Guards.{IsOwn, MaySplit}
 use Rattle.core_model.specs.Held.{IsHeld, a_large}
-use Rattle.core_model.specs.View.{Setup, View, one_if_some, times_raw}
+use Rattle.core_model.specs.View.{Setup, View}
 use Rattle.core_model.proofs.FrameLemmas.{times_without, without_none}
-use Rattle.core_model.proofs.PlaceLemmas.{cell_at_index}
 use Rattle.core_model.proofs.TotalLemmas.{ne-eqb-none}
 use Rattle.heap_table.specs.Plays.{HasSoundState, IsEvent}
 use Rattle.heap_rule.specs.Fences.{Owns}

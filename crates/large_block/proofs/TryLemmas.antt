@@ -1,36 +1,13 @@
 -- How far the tries to take superblocks have come.
-use Rattle.std.proofs.Common.{◌≡◌, ◌≢◌, ◌<◌, ◌≤◌, ℕ, zero, suc, ◌+◌, ◌-◌, ◌⊎◌, inl, inr, ◌++◌, List, [], ◌∷◌, Bool, get_or, length, max, Option, None, Some, refl, ap, sym, subst, ◌∙◌, length-set, lt-ltb, arith}
-use Rattle.std.specs.Bool.{⊤}
-use Rattle.std.specs.Prelude.{Result, Ok, Err}
-use Rattle.std.specs.Result.{is_ok}
-use Rattle.std.proofs.lemmas.Bool.{cases_eq}
-use Rattle.std.proofs.lemmas.List.{get_or-set_same}
-use Rattle.heap_model.specs.Counting.{times}
-use Rattle.heap_model.specs.Geometry.{anchor_word, image_words, info_word, link_word}
-use Rattle.heap_model.proofs.ListLemmas.{times_append}
-use Rattle.core_model.specs.declared.event.Event.TheVariants.{KeepUsed, TakeFresh}
-use Rattle.core_model.specs.Cells.{Cell, anchor_cell, info_cell}
-use Rattle.core_model.specs.Effects.{learn, learn_fresh, lost, seen, steps, taken_fresh, used_up}
-use Rattle.core_model.specs.Guards.{IsOwn}
-use Rattle.core_model.specs.View.{LastLook, Setup, View, times_claimed, times_raw}
-use Rattle.core_model.proofs.FrameLemmas.{below_is, below_not, times_steps}
-use Rattle.core_model.proofs.PlaceLemmas.{cell_at_index}
-use Rattle.heap_table.specs.Plays.{HasSoundState, IsEvent}
-use Rattle.heap_rule.specs.Fences.{Owns}
-use Rattle.heap_rule.specs.Seated.{SeatView, Tells}
-use Rattle.heap_rule.proofs.WordsLeftLemmas.{fresh_lost, fresh_won}
-use Rattle.heap_rule.proofs.RawLemmas.{durable_long, raw_inside, volatile_long}
+use Rattle.std.proofs.Common.{◌≡◌, ◌<◌, ℕ, ◌+◌, ◌-◌, ◌⊎◌, inl, inr, None, refl, ap, subst, ◌∙◌, arith}
+use Rattle.core_model.specs.Effects.{lost}
+use Rattle.core_model.specs.View.{Setup, View}
 use Rattle.large_block.specs.declared.fresh.Take.{Take as TakeAnswer}
 use Rattle.large_block.specs.declared.fresh.Take.TheVariants.{Got, Past}
-use Rattle.large_block.specs.Fresh.{AreBlankFrom, AreInThisHandAlone, HasKept, HasLostMark, HasMarked, HasTakenFresh, Marks, SeesUsed, Takes, with_fresh}
-use Rattle.superblock_lists.specs.Pops.{looked}
-use Rattle.seat_costs.specs.Costs.{Costs, no_costs, one_draw, one_win}
-use Rattle.seat_costs.specs.Rows.{HasDrawn, IsMade, Parts, Row, Stops, ViewRow, after_ticket, next_of, parts}
-use Rattle.seat_costs.specs.Words.{KeepsWord, left_at, seen_at}
-use Rattle.seat_costs.proofs.EventLemmas.{fresh_lost_row}
-use Rattle.seat_costs.proofs.RowLemmas.{row_then, row_within, stops_later, view_row_none, view_row_then, view_row_within}
-use Rattle.seat_costs.proofs.StoredLemmas.{drawn_as}
-use Rattle.seat_costs.proofs.WordLemmas.{durable_then}
+use Rattle.large_block.specs.Fresh.{HasLostMark, Takes, with_fresh}
+use Rattle.seat_costs.specs.Costs.{no_costs}
+use Rattle.seat_costs.specs.Rows.{IsMade, Stops, ViewRow, next_of, parts}
+use Rattle.seat_costs.proofs.RowLemmas.{stops_later, view_row_none, view_row_then, view_row_within}
 use Rattle.large_block.proofs.FreshLemmas.{taking}
 
 -- how far the tries have come
