@@ -1,37 +1,25 @@
 -- The filling of a cache from the list of its class.
-use Rattle.std.proofs.Common.{◌≡◌, ◌<◌, ◌≤◌, ◌+◌, ◌-◌, inl, inr, ℕ, cond, List, [], ◌∷◌, get_or, length, set, Option, None, Some, refl, ap, sym, subst, ◌∙◌, eq-eqb, arith}
-use Rattle.std.proofs.lemmas.List.{get_or_default}
-use Rattle.heap_model.specs.Counting.{times, without}
-use Rattle.heap_model.specs.Geometry.{lists}
-use Rattle.heap_model.specs.Words.{head_first}
-use Rattle.heap_model.specs.Sizes.{IsClass, blocks_of}
-use Rattle.heap_model.proofs.SizeLemmas.{four_blocks}
-use Rattle.core_model.specs.Effects.{class_blocks, without_claim}
-use Rattle.core_model.specs.View.{LastLook, Setup, View, of_class}
-use Rattle.core_model.proofs.CountLemmas.{length_steps}
-use Rattle.core_model.proofs.TotalLemmas.{eq-eqb-one}
+use Rattle.std.proofs.Common.{◌≡◌, ◌<◌, ◌≤◌, ◌-◌, inl, inr, ℕ, [], ◌∷◌, set, refl, ap, subst, ◌∙◌, arith}
+use Rattle.heap_model.specs.Sizes.{IsClass}
+use Rattle.core_model.specs.Effects.{without_claim}
+use Rattle.core_model.specs.View.{Setup, View, of_class}
 use Rattle.heap_rule.specs.Seated.{SeatView}
 use Rattle.heap_rule.specs.Shown.{CanList, as_free}
-use Rattle.heap_rule.specs.Tickets.{after_ticket}
 use Rattle.heap_table.specs.Plays.{HasSoundState}
-use Rattle.heap_seat.specs.declared.fault.Looks.{Looks}
-use Rattle.large_block.specs.Fresh.{HasTakenFresh, IsPast}
 use Rattle.cache_fill.specs.declared.refills.FromClass.{FromClass}
 use Rattle.cache_fill.specs.declared.refills.FromClass.TheVariants.{Filled as FilledFromClass, Empty}
-use Rattle.cache_fill.specs.Cuts.{HasCut, with_cut}
-use Rattle.cache_fill.specs.Refills.{FillsFrom, HasFilled, HasFound, HasMoved, HasSeenEmpty, IsFilledInOrder, KeepsClassLooks, IsFull, IsLook, IsNoneOfClass, IsNothingFree, fill_costs}
+use Rattle.cache_fill.specs.Refills.{FillsFrom, HasFilled, HasMoved, IsNoneOfClass, fill_costs}
 use Rattle.cache_fill.specs.Takes.{HasTakenFree, IsAllFree, with_taken}
 use Rattle.cache_fill.proofs.TakeLemmas.{Taking}
 use Rattle.superblock_lists.specs.declared.pops.Pop.{Pop}
 use Rattle.superblock_lists.specs.declared.pops.Pop.TheVariants.{Empty as EmptyList}
-use Rattle.superblock_lists.specs.Pops.{HasPopped, IsEmptyList, Pops, looked, with_claim}
+use Rattle.superblock_lists.specs.Pops.{HasPopped, IsEmptyList, Pops}
 use Rattle.superblock_lists.specs.Pushes.{HasPushed, IsClaimOf}
 use Rattle.superblock_lists.proofs.AnchorLemmas.{claim_added, claim_free, claim_of_class, claim_pushed, claim_still, raw_none}
-use Rattle.seat_costs.specs.Costs.{Costs, IsWithin, no_costs, one_move, one_win}
-use Rattle.seat_costs.specs.Idle.{IsIdle}
-use Rattle.seat_costs.specs.Rows.{Parts, Row, SameLooks, ViewRow, head_look, next_of, parts}
-use Rattle.seat_costs.proofs.RowLemmas.{row_moves, row_within, view_row_none, view_row_then, view_row_within}
-use Rattle.cache_fill.proofs.FillRowLemmas.{added_off, fill_then, look_later, looked_is, looks_long, nothing_won}
+use Rattle.seat_costs.specs.Costs.{Costs, no_costs, one_move, one_win}
+use Rattle.seat_costs.specs.Rows.{Parts, Row, ViewRow, head_look, next_of, parts}
+use Rattle.seat_costs.proofs.RowLemmas.{view_row_none, view_row_within}
+use Rattle.cache_fill.proofs.FillRowLemmas.{added_off, fill_then, looked_is, nothing_won}
 
 -- a superblock of the class was popped
 module _ (v t : View) (class d : ℕ) (is : IsClass class) (popped : HasPopped class d v t) where

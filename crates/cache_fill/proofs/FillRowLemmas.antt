@@ -1,36 +1,17 @@
 -- Rows of a filling, and looks by the last ticket.
-use Rattle.std.proofs.Common.{◌≡◌, ◌<◌, ◌≤◌, ◌+◌, ◌-◌, inl, inr, ℕ, cond, List, [], ◌∷◌, get_or, length, set, Option, None, Some, refl, ap, sym, subst, ◌∙◌, eq-eqb, arith}
-use Rattle.std.proofs.lemmas.List.{get_or_default}
-use Rattle.heap_model.specs.Counting.{times, without}
+use Rattle.std.proofs.Common.{◌≡◌, ◌<◌, ◌≤◌, ◌+◌, ◌-◌, ℕ, cond, List, ◌∷◌, length, Option, None, Some, refl, ap, sym, ◌∙◌, eq-eqb, arith}
 use Rattle.heap_model.specs.Geometry.{lists}
-use Rattle.heap_model.specs.Words.{head_first}
-use Rattle.heap_model.specs.Sizes.{IsClass, blocks_of}
-use Rattle.heap_model.proofs.SizeLemmas.{four_blocks}
-use Rattle.core_model.specs.Effects.{class_blocks, without_claim}
-use Rattle.core_model.specs.View.{LastLook, Setup, View, of_class}
-use Rattle.core_model.proofs.CountLemmas.{length_steps}
-use Rattle.core_model.proofs.TotalLemmas.{eq-eqb-one}
+use Rattle.heap_model.specs.Sizes.{blocks_of}
+use Rattle.core_model.specs.Effects.{without_claim}
+use Rattle.core_model.specs.View.{LastLook, View}
 use Rattle.heap_rule.specs.Seated.{SeatView}
-use Rattle.heap_rule.specs.Shown.{CanList, as_free}
 use Rattle.heap_rule.specs.Tickets.{after_ticket}
 use Rattle.heap_table.specs.Plays.{HasSoundState}
-use Rattle.heap_seat.specs.declared.fault.Looks.{Looks}
-use Rattle.large_block.specs.Fresh.{HasTakenFresh, IsPast}
-use Rattle.cache_fill.specs.declared.refills.FromClass.{FromClass}
-use Rattle.cache_fill.specs.declared.refills.FromClass.TheVariants.{Filled as FilledFromClass, Empty}
-use Rattle.cache_fill.specs.Cuts.{HasCut, with_cut}
-use Rattle.cache_fill.specs.Refills.{FillsFrom, HasFilled, HasFound, HasMoved, HasSeenEmpty, IsFilledInOrder, KeepsClassLooks, IsFull, IsLook, IsNoneOfClass, IsNothingFree, fill_costs}
-use Rattle.cache_fill.specs.Takes.{HasTakenFree, IsAllFree, with_taken}
-use Rattle.cache_fill.proofs.TakeLemmas.{Taking}
-use Rattle.superblock_lists.specs.declared.pops.Pop.{Pop}
-use Rattle.superblock_lists.specs.declared.pops.Pop.TheVariants.{Empty as EmptyList}
-use Rattle.superblock_lists.specs.Pops.{HasPopped, IsEmptyList, Pops, looked, with_claim}
-use Rattle.superblock_lists.specs.Pushes.{HasPushed, IsClaimOf}
-use Rattle.superblock_lists.proofs.AnchorLemmas.{claim_added, claim_free, claim_of_class, claim_pushed, claim_still, raw_none}
-use Rattle.seat_costs.specs.Costs.{Costs, IsWithin, no_costs, one_move, one_win}
-use Rattle.seat_costs.specs.Idle.{IsIdle}
-use Rattle.seat_costs.specs.Rows.{Parts, Row, SameLooks, ViewRow, head_look, next_of, parts}
-use Rattle.seat_costs.proofs.RowLemmas.{row_moves, row_within, view_row_none, view_row_then, view_row_within}
+use Rattle.cache_fill.specs.Refills.{IsLook, fill_costs}
+use Rattle.superblock_lists.specs.Pops.{looked}
+use Rattle.seat_costs.specs.Costs.{Costs, IsWithin, no_costs}
+use Rattle.seat_costs.specs.Rows.{Row, ViewRow, next_of, parts}
+use Rattle.seat_costs.proofs.RowLemmas.{row_moves, row_within, view_row_then, view_row_within}
 
 -- a row in which nothing was won or taken
 pub nothing_won : {a : Costs} (v w : View) → w.wins ≡ v.wins → w.taken ≡ v.taken → ViewRow a v w → ViewRow (record a { wins = a.refund; taken = 0 }) v w

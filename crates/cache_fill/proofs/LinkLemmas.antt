@@ -1,7 +1,5 @@
 -- The links of the blocks of a claimed superblock, and its anchor that becomes full.
-use Rattle.std.proofs.Common.{◌≡◌, ◌≢◌, ◌≤◌, ◌<◌, ℕ, zero, suc, ◌+◌, ◌-◌, ◌*◌, inl, inr, false, cond, nat_eq, nat_le, nat_lt, [], ◌∷◌, get_or, length, set, suc-mul, eq-eqb, None, Some, refl, ap, sym, subst, ◌∙◌, le-leb, lt-ltb, arith}
-use Rattle.std.specs.Bool.{⊤}
-use Rattle.std.specs.Prelude.{Result, Ok, Err, OnOk, IfErr}
+use Rattle.std.proofs.Common.{◌≡◌, ◌≢◌, ◌≤◌, ◌<◌, ℕ, zero, suc, ◌+◌, ◌-◌, ◌*◌, inl, inr, false, cond, nat_eq, nat_le, nat_lt, ◌∷◌, length, suc-mul, None, refl, ap, sym, subst, ◌∙◌, le-leb, lt-ltb, arith}
 use Rattle.std.proofs.lemmas.Bool.{cases_lt}
 use Rattle.heap_model.specs.Counting.{times, without}
 use Rattle.heap_model.specs.Geometry.{start_word, superblocks_end, info_word, anchor_word, superblock_of}
@@ -9,39 +7,30 @@ use Rattle.heap_model.specs.Sizes.{IsClass, words_of_class, blocks_of}
 use Rattle.heap_model.specs.Words.{full_anchor}
 use Rattle.heap_model.proofs.BlockLemmas.{block_step}
 use Rattle.heap_model.proofs.SizeLemmas.{two_words}
-use Rattle.line_memory.specs.declared.memory.Stopped.{Stopped}
-use Rattle.core_model.specs.declared.event.Event.TheVariants.{Store, Tick}
-use Rattle.core_model.specs.declared.event.Shift.TheVariants.{Cut}
-use Rattle.core_model.specs.Cells.{Cell, anchor_cell, data_cell, info_cell, cell_at}
-use Rattle.core_model.specs.Effects.{class_blocks, drew, last_of, steps, stored_anchor, used_up}
+use Rattle.core_model.specs.declared.event.Event.TheVariants.{Store}
+use Rattle.core_model.specs.Cells.{anchor_cell, data_cell, info_cell, cell_at}
+use Rattle.core_model.specs.Effects.{drew, last_of, steps, stored_anchor, used_up}
 use Rattle.core_model.specs.Guards.{IsOwn}
 use Rattle.core_model.specs.Sound.{IsCutBlock}
-use Rattle.core_model.specs.View.{Batch, View, of_class, times_raw}
+use Rattle.core_model.specs.View.{Batch, View, times_raw}
 use Rattle.core_model.proofs.BlockLemmas.{inside_of, superblock_is}
-use Rattle.core_model.proofs.PlaceLemmas.{and_is, cell_at_index, not-eq, pick, skip}
-use Rattle.core_model.proofs.TotalLemmas.{eq-eqb-one}
+use Rattle.core_model.proofs.PlaceLemmas.{and_is, cell_at_index, not-eq, skip}
 use Rattle.seat_state.proofs.BlockRanges.{cut_range}
 use Rattle.seat_state.proofs.EndLemmas.{last_there}
 use Rattle.heap_rule.specs.Fences.{Owns}
-use Rattle.heap_rule.specs.Cuts.{cut_for}
-use Rattle.heap_rule.specs.Seated.{TellsDraw}
-use Rattle.heap_rule.specs.Shown.{Shows, ShowsLinks, by_claim, as_full, Can, CanAnchor, CanCut, IsShownFor}
-use Rattle.heap_rule.proofs.WordsLeftLemmas.{draw_cuts, draw_done}
+use Rattle.heap_rule.specs.Shown.{Shows, ShowsLinks, by_claim, as_full, CanAnchor, IsShownFor}
 use Rattle.heap_rule.proofs.RawLemmas.{no_block, raw_blank, raw_inside, raw_once}
 use Rattle.heap_rule.proofs.StoredLemmas.{of_none}
-use Rattle.heap_table.specs.Plays.{HasSoundState, IsEvent}
-use Rattle.large_block.specs.Infos.{HasInfo}
-use Rattle.seat_costs.specs.Costs.{Costs, no_costs, one_draw}
-use Rattle.seat_costs.specs.Draws.{Settles}
+use Rattle.heap_table.specs.Plays.{HasSoundState}
+use Rattle.seat_costs.specs.Costs.{no_costs, one_draw}
 use Rattle.seat_costs.specs.Rows.{Parts, SameLooks, Stops, ViewRow, parts}
 use Rattle.seat_costs.specs.Words.{IsHeldWord, KeepsWord}
 use Rattle.seat_costs.specs.Stores.{HasStored}
-use Rattle.seat_costs.proofs.DrawLemmas.{early_rest, early_words, stops}
 use Rattle.seat_costs.proofs.OnceLemmas.{own_once}
 use Rattle.seat_costs.proofs.RowLemmas.{stops_later, view_row_none, view_row_then, view_row_within}
 use Rattle.seat_costs.proofs.WordLemmas.{anchor_at, durable_then}
 use Rattle.seat_costs.proofs.StoredLemmas.{may_store, not_held_at, stored_at}
-use Rattle.cache_fill.specs.Cuts.{HasCut, HasDurableInfo, HasFilledAnchor, HasLink, HasLinks, Leads, with_cut, with_making}
+use Rattle.cache_fill.specs.Cuts.{HasDurableInfo, HasFilledAnchor, HasLink, Leads}
 
 pub same_looks_then : (v t w : View) → SameLooks v t → SameLooks t w → SameLooks v w
 same_looks_then v t w first next = record { used = next.used ∙ first.used; heads = next.heads ∙ first.heads }
