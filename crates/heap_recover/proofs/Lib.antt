@@ -12,6 +12,7 @@ pub mod KeptLemmas
 pub mod UnchangedLemmas
 pub mod LeavesLemmas
 pub mod OrderLemmas
+pub mod RelistedLemmas
 pub mod OutcomeLemmas
 pub mod CurrentLemmas
 mod RefusedLemmas
