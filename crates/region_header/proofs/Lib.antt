@@ -1,4 +1,4 @@
-mod EmptyKinds
+pub mod EmptyKinds
 mod FormatLemmas
 pub mod KindLemmas
 pub mod MigrationLemmas

@@ -101,12 +101,9 @@ module _ (words kinds : List ℕ) (links : Links) (limit : ℕ) (count : length 
   given : (i : ℕ) → i < roots → kinds_of new i ≡ slice_index kinds i
   given = current_kinds words kinds count formed
 
-  stored : (i : ℕ) → i < roots → slice_index kinds i ≡ kinds_of new i
-  stored i less = sym (given i less)
-
   pub current_reach : (b : Block) (kind : ℕ) → Reach old (slice_index kinds) links b kind ↔ ReachIn new links b kind
   current_reach b kind = (
-    λ reached. reach_by_kinds new (slice_index kinds) (kinds_of new) links stored b kind
+    λ reached. reach_by_kinds new (slice_index kinds) (kinds_of new) links (λ i less. sym (given i less)) b kind
         (same_reach old new same formed.used limit links within (slice_index kinds) b kind reached),
     λ reached. same_reach new old back few limit links within (slice_index kinds) b kind
         (reach_by_kinds new (kinds_of new) (slice_index kinds) links given b kind reached),
@@ -115,7 +112,10 @@ module _ (words kinds : List ℕ) (links : Links) (limit : ℕ) (count : length 
   pub current_outside : (at : ℕ) → IsOutside old (slice_index kinds) links at ↔ IsOutsideIn new links at
   current_outside at = (
     λ out. let there = same_outside old new same formed.used limit links within (slice_index kinds) at (same_block new old back few) out in
-        record { traced = traced_by_kinds new (slice_index kinds) (kinds_of new) links stored at there.traced; outside = there.outside },
+        record {
+          traced = traced_by_kinds new (slice_index kinds) (kinds_of new) links (λ i less. sym (given i less)) at there.traced;
+          outside = there.outside;
+        },
     λ out. same_outside new old back few limit links within (slice_index kinds) at (same_block old new same formed.used)
         (record { traced = traced_by_kinds new (kinds_of new) (slice_index kinds) links given at out.traced; outside = out.outside }),
   )

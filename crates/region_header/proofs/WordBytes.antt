@@ -42,6 +42,10 @@ image_of_bytes-bytes_of_words (w ∷ words) (suc i) small =
     ap (λ n. drop n (bytes_of_words (w ∷ words))) step ∙ drop-append-add (little_bytes 8 w) (bytes_of_words words) (8 * i) in
     ap (little_number 8) moved ∙ image_of_bytes-bytes_of_words words i (λ k below. small (suc k) (omega arith))
 
+-- bytes are read as the image of the words that they stand for
+pub image_of_words : (words bytes : List ℕ) → AreWordsOf words bytes → slice_index words ≡ image_of_bytes bytes
+image_of_words words bytes are = λ at i. are.word i at
+
 -- words of 64 bits are those of their bytes
 pub words_of_bytes : (words : List ℕ) → ((k : ℕ) → k < length words → slice_index words k < 2 ^ 64) → AreWordsOf words (bytes_of_words words)
 words_of_bytes words small = record {
