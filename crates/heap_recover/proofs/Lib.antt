@@ -4,6 +4,7 @@ pub mod PartLemmas
 pub mod SurveyLemmas
 pub mod SuperblockLemmas
 pub mod ListLemmas
+pub mod OwnerLemmas
 pub mod PassLemmas
 pub mod RoleLemmas
 pub mod LinkedLemmas
@@ -16,5 +17,6 @@ pub mod RelistedLemmas
 pub mod OutcomeLemmas
 pub mod CurrentLemmas
 mod RefusedLemmas
+mod DifferenceLemmas
 mod InPlaceLemmas
 pub mod AlikeLemmas

@@ -19,7 +19,7 @@ use Rattle.heap_recover.specs.declared.roles.Role.TheVariants.{Free, Partial, Fu
 use Rattle.heap_recover.specs.Roles.{IsMember}
 use Rattle.heap_recover.specs.Rebuilt.{is_link, AreListed}
 use Rattle.heap_recover.proofs.AscendingLemmas.{ascending_same}
-use Rattle.heap_recover.proofs.PassLemmas.{kept_no_state, kept_no_head, kept_apart}
+use Rattle.heap_recover.proofs.OwnerLemmas.{kept_no_state, kept_no_head, kept_apart}
 use Rattle.heap_recover.proofs.RoleLemmas.{free_role, full_role, large_role, AreRoles, member_below, member_listed, listed_member}
 
 -- the list of each number below n, and none from n on
@@ -42,6 +42,14 @@ IsSettled old new d Free = HasInfoAndAnchor new d 0 0
 IsSettled old new d (Partial class) = Unit {0}
 IsSettled old new d (Full class) = HasInfoAndAnchor new d (old (info_word d)) full_anchor
 IsSettled old new d Large = HasInfoAndAnchor new d (old (info_word d)) full_anchor
+
+-- each superblock that has been taken is so
+abbrev pub AreSettled : Image → Image → List Role → Type 0
+AreSettled old new roles = (d : ℕ) → d < used_of old → IsSettled old new d (slice_index_or roles d Large)
+
+-- of one that has not, info and anchor are 0
+abbrev pub AreUntaken : Image → Image → Type 0
+AreUntaken old new = (d : ℕ) → used_of old ≤ d → d < capacity_of old → HasInfoAndAnchor new d 0 0
 
 module _ (old written new : Image) (kept : Block → Type 0) (roles : List Role) (linked : AreLinked old written new kept roles) where
   -- a word that is no state, head or link of a listed superblock is as it was written
@@ -101,7 +109,7 @@ module _ (old written new : Image) (kept : Block → Type 0) (roles : List Role)
       ∙ none
 
   -- the superblocks that are free, full, or in a large block
-  module _ (settled : (d : ℕ) → d < used_of old → IsSettled old new d (slice_index_or roles d Large)) where
+  module _ (settled : AreSettled old new roles) where
     pub free_left : (d : ℕ) → IsFreeSuperblock (layout_of old) kept d → HasInfoAndAnchor new d 0 0
     free_left d free = let here = linked.roles_are.each d free.taken in
         subst (IsSettled old new d) (free_role (layout_of old) kept d (slice_index_or roles d Large) here.spares here.is free) (settled d free.taken)

@@ -5,7 +5,7 @@ use Rattle.heap_model.specs.Image.{Image}
 use Rattle.line_memory.specs.View.{View}
 use Rattle.line_memory.specs.Steps.{TakesBy, RefusesBy, IsStore, IsWriteBack, IsFence}
 use Rattle.heap_recover.specs.InPlace.{differences, Differ}
-use Rattle.heap_recover.proofs.InPlaceLemmas.{differ_more, differ_same}
+use Rattle.heap_recover.proofs.DifferenceLemmas.{differ_more, differ_same}
 use Rattle.heap_recover.specs.InOrder.{Step, store, write_back, does, store_of, stores_from, written_back, steps_in, TakesAll, IsDoneBy, IsCutOffIn}
 
 append_assoc : (xs ys zs : List Step) → (xs ++ ys) ++ zs ≡ xs ++ (ys ++ zs)

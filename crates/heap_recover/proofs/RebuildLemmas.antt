@@ -9,7 +9,7 @@ use Rattle.heap_model.specs.Image.{Image}
 use Rattle.heap_model.specs.Sizes.{IsClass}
 use Rattle.heap_model.specs.Blocks.{layout_of}
 use Rattle.heap_model.specs.Recovered.{AreAscending}
-use Rattle.heap_model.specs.Recovery.{IsPartial, IsSpare, but_last, HasInfoAndAnchor, IsRechained, IsRecovered}
+use Rattle.heap_model.specs.Recovery.{IsPartial, IsSpare, but_last, IsRechained, IsRecovered}
 use Rattle.heap_model.proofs.BlockLemmas.{block_inside, block_words}
 use Rattle.heap_recover.specs.declared.roles.Role.{Role}
 use Rattle.heap_recover.specs.declared.roles.Role.TheVariants.{Free, Partial, Full, Large}
@@ -18,9 +18,10 @@ use Rattle.heap_recover.specs.Roles.{IsRole, is_free, is_partial, is_full, is_la
 use Rattle.heap_recover.specs.Rebuilt.{IsOf, is_info, is_anchor, is_link, is_inside, IsDescribed, IsRebuiltInRole, AreDone, AreCleared, AreListed, IsRebuild}
 use Rattle.heap_recover.proofs.AscendingLemmas.{ascending_same}
 use Rattle.heap_recover.proofs.SurveyLemmas.{none_of}
-use Rattle.heap_recover.proofs.PassLemmas.{done_same, one_owner, no_lower, kept_apart}
+use Rattle.heap_recover.proofs.PassLemmas.{done_same}
+use Rattle.heap_recover.proofs.OwnerLemmas.{one_owner, no_lower, kept_apart}
 use Rattle.heap_recover.proofs.RoleLemmas.{partial_role, member_listed, listed_member}
-use Rattle.heap_recover.proofs.LinkedLemmas.{list_below, AreLinked, IsSettled, info_left, anchor_left, inside_left, kept_left, members_at, members_in_order, head_left, links_left, link_left, free_left, full_left, large_left}
+use Rattle.heap_recover.proofs.LinkedLemmas.{list_below, AreLinked, IsSettled, AreSettled, AreUntaken, info_left, anchor_left, inside_left, kept_left, members_at, members_in_order, head_left, links_left, link_left, free_left, full_left, large_left}
 
 -- in which superblock a word lies
 superblock_of : (capacity word : ℕ) → start_word capacity 0 ≤ word → (d : ℕ) × (start_word capacity d ≤ word) × (word < start_word capacity (d + 1))
@@ -70,8 +71,8 @@ module _ (old done cleared listed new : Image) (kept : Block → Type 0) (held :
   settled_as d (Full class) spares is = is
   settled_as d Large spares is = is
 
-  settled : (d : ℕ) → d < used_of old → IsSettled old new d (slice_index_or roles d Large)
-  settled d below = let here = taken_done d below in settled_as d (slice_index_or roles d Large) here.spares here.described
+  settled : AreSettled old new roles
+  settled = λ d below. let here = taken_done d below in settled_as d (slice_index_or roles d Large) here.spares here.described
 
   -- a link that no list has written
   unlinked : (d : ℕ) → d < capacity_of old → cleared (link_word d) ≡ 0
@@ -80,8 +81,8 @@ module _ (old done cleared listed new : Image) (kept : Block → Type 0) (held :
     | inr past ↦ are_cleared.links d past below
   ]
 
-  untaken_left : (d : ℕ) → used_of old ≤ d → d < capacity_of old → HasInfoAndAnchor new d 0 0
-  untaken_left d past below = let was = are_cleared.each d past below in
+  untaken_left : AreUntaken old new
+  untaken_left = λ d past below. let was = are_cleared.each d past below in
       record {
         info_is = info_left old cleared new kept roles linked d ∙ was.info_is;
         anchor_is = anchor_left old cleared new kept roles linked d ∙ was.anchor_is;

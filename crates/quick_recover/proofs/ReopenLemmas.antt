@@ -14,9 +14,9 @@ use Rattle.heap_recover.specs.declared.roles.Role.{Role}
 use Rattle.heap_recover.specs.declared.roles.Role.TheVariants.{Free, Partial, Full, Large}
 use Rattle.heap_recover.specs.Roles.{IsMember}
 use Rattle.heap_recover.specs.Rebuilt.{is_info, is_anchor, is_link, AreListed}
-use Rattle.heap_recover.proofs.PassLemmas.{kept_apart}
+use Rattle.heap_recover.proofs.OwnerLemmas.{kept_apart}
 use Rattle.heap_recover.proofs.RoleLemmas.{partial_role, AreRoles, member_listed, listed_member}
-use Rattle.heap_recover.proofs.LinkedLemmas.{AreLinked, IsSettled, info_left, anchor_left, inside_left, kept_left, members_at, members_in_order, head_left, links_left, link_left, free_left, full_left, large_left}
+use Rattle.heap_recover.proofs.LinkedLemmas.{AreLinked, IsSettled, AreSettled, AreUntaken, info_left, anchor_left, inside_left, kept_left, members_at, members_in_order, head_left, links_left, link_left, free_left, full_left, large_left}
 use Rattle.heap_at_rest.specs.Orderly.{IsHeldByAnchors}
 use Rattle.quick_recover.specs.Anchored.{HaveRoles}
 use Rattle.quick_recover.specs.Reopened.{IsReopened}
@@ -72,8 +72,8 @@ module _ (old written listed new : Image) (roles : List Role) (fits : used_of ol
     anchor_is = anchor_left old written new kept roles linked d ∙ is.anchor;
   }
 
-  settled : (d : ℕ) → d < used_of old → IsSettled old new d (slice_index_or roles d Large)
-  settled d below = settled_as d (slice_index_or roles d Large) (is_written d below)
+  settled : AreSettled old new roles
+  settled = λ d below. settled_as d (slice_index_or roles d Large) (is_written d below)
 
   partial_left : (class d : ℕ) → IsClass class → IsPartial (layout_of old) kept class d → HasInfoAndAnchor new d class (old (anchor_word d))
   partial_left class d is part = let here = have.each d part.taken in
@@ -89,8 +89,8 @@ module _ (old written listed new : Image) (roles : List Role) (fits : used_of ol
   no_role zero (r ∷ rs) past = absurd (omega arith)
   no_role (suc d) (r ∷ rs) past = no_role d rs (omega arith)
 
-  untaken_words : (d : ℕ) → used_of old ≤ d → d < capacity_of old → HasInfoAndAnchor new d 0 0
-  untaken_words d past below = words_free d (subst (IsWritten old written d) (no_role d roles (let long = have.long in omega arith))
+  untaken_words : AreUntaken old new
+  untaken_words = λ d past below. words_free d (subst (IsWritten old written d) (no_role d roles (let long = have.long in omega arith))
       (are_written.each d below))
 
   pub reopened : IsReopened old new (IsHeldByAnchors old)

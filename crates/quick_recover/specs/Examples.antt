@@ -15,7 +15,7 @@ use Rattle.heap_model.specs.Examples.{image_with, formatted}
 use Rattle.heap_model.proofs.MemberLemmas.{in_none, in_head, head_or_rest}
 use Rattle.heap_at_rest.specs.Orderly.{IsHeldByAnchors}
 use Rattle.heap_at_rest.specs.OrderlyExamples.{with_chain, quarter, is_quarter, third_is_held, chained_is_not_held}
-use Rattle.heap_recover.proofs.PassLemmas.{kept_no_state, kept_no_head}
+use Rattle.heap_recover.proofs.OwnerLemmas.{kept_no_state, kept_no_head}
 use Rattle.quick_recover.specs.Reopened.{IsReopened}
 
 -- another word is as it was
@@ -26,6 +26,7 @@ with_at_other image at value n other = cond-false (nat_eq n at) value (image n) 
 abbrev pub empty : Image
 empty = formatted 1 []
 
+-- it is left dirty, and else as it was
 abbrev pub opened_empty : Image
 opened_empty = put empty 3 dirty
 
@@ -122,6 +123,7 @@ is_listed (suc c) d part =
     let first : d ≡ 0 = omega arith in
     (sym part.info_is ∙ subst (λ e. with_chain (1064 + 8 * e) ≡ 20) (sym first) refl, first)
 
+-- the descriptors of each list: the superblock is in that of class 20
 abbrev in_class : ℕ → List ℕ
 in_class list = cond (nat_eq list 20) (0 ∷ []) []
 

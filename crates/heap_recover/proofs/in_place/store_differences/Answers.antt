@@ -1,7 +1,8 @@
 use Rattle.std.proofs.Common.{◌∙◌, ◌≡◌, ◌+◌, ◌-◌, ◌*◌, ◌/◌, length, slice_index, subst, sym, ap, arith}
 use Rattle.std.proofs.lemmas.Result.{err_from_is_err_and}
 use Rattle.heap_recover.specs.InPlace.{Differ, differences, changed_lines, steps_between, IsStoredTo}
-use Rattle.heap_recover.proofs.InPlaceLemmas.{line_written, line_same, line_more, line_none, lines_from, none_differ, write_back_draws, write_back_budget, write_back_going, refused_cut, cut_later, differ_from}
+use Rattle.heap_recover.proofs.InPlaceLemmas.{line_written, line_same, write_back_draws, write_back_budget, write_back_going, refused_cut, cut_later}
+use Rattle.heap_recover.proofs.DifferenceLemmas.{line_more, line_none, lines_from, none_differ, differ_from}
 use Rattle.heap_recover.specs.InOrder.{steps_in, TakesAll}
 use Rattle.heap_recover.proofs.OrderLemmas.{line_next, line_skipped, line_cut, write_back_cut}
 use Rattle.heap_recover.proofs.in_place.store_differences.Goals as goal

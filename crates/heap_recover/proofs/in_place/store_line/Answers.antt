@@ -1,7 +1,8 @@
 use Rattle.std.proofs.Common.{◌≡◌, ◌+◌, ◌-◌, ◌*◌, ◌/◌, slice_index, subst, sym, ap, ◌∙◌, arith}
 use Rattle.std.proofs.lemmas.Result.{err_from_is_err_and}
 use Rattle.heap_recover.specs.InPlace.{differences, changed_lines, IsStoredTo}
-use Rattle.heap_recover.proofs.InPlaceLemmas.{stored_same, stored_more, store_draws, store_budget, store_going, refused_cut, lines_from, differ_more, differ_same, differ_from}
+use Rattle.heap_recover.proofs.InPlaceLemmas.{stored_same, stored_more, store_draws, store_budget, store_going, refused_cut}
+use Rattle.heap_recover.proofs.DifferenceLemmas.{lines_from, differ_more, differ_same, differ_from}
 use Rattle.heap_recover.specs.InOrder.{store_of, TakesAll}
 use Rattle.heap_recover.proofs.OrderLemmas.{stored_next, stored_one, stored_none, store_cut}
 use Rattle.heap_recover.proofs.in_place.store_line.Goals as goal
