@@ -4,6 +4,7 @@ use Rattle.heap_model.specs.Image.{Image}
 use Rattle.heap_recover.specs.InPlace.{changed_lines, differences, steps_between}
 use Rattle.heap_recover.specs.InOrder.{store, write_back, steps_in}
 
+-- an image of zeros
 abbrev zeros : Image
 zeros word = 0
 

@@ -19,6 +19,7 @@ one_of_four = formatted 1 ((8, 1) ∷ (1064, 20) ∷ [])
 abbrev pub quarter : ℕ → Block
 quarter index = record { first_word = 1072 + index * 1792; words = 1792 }
 
+-- the second of them is the kept one
 abbrev pub is_second : Block → Type 0
 is_second b = b ≡ quarter 1
 
