@@ -25,7 +25,8 @@ use Rattle.dict_model.specs.Links.{dict_links, kind_count, shards}
 use Rattle.dict_model.specs.Shards.{Map, MapOf}
 use Rattle.run_model.specs.Opened.{IsDictionary}
 use Rattle.quick_dictionary.specs.OrderlyDictionary.{IsOrderlyDictionary}
-use Rattle.quick_dictionary.proofs.KeptLemmas.{KeepsReached, same_reach, same_map, none_left, kinds_below, recovers_alike}
+use Rattle.dictionary.proofs.KeptLemmas.{KeepsReached, same_reach, same_map, none_left}
+use Rattle.quick_dictionary.proofs.KeptLemmas.{kinds_below, recovers_alike}
 
 -- opening by anchors keeps the blocks that are kept, with their words
 module _ (old new : Image) (kept : Block → Type 0) (held : List Block) (are : AreAscending (λ (b : Block). b.first_word) kept held)
