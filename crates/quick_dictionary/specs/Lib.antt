@@ -1,2 +1,3 @@
 pub mod OrderlyDictionary
+pub mod FourBlocks
 pub mod Examples
