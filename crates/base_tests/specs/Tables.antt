@@ -18,6 +18,7 @@ to_node at = (at, 2)
 abbrev pub each_link : List ℕ → List (ℕ × ℕ)
 each_link words = map to_node (range_with_len 0 (length words))
 
+-- the links of a block of the kind: a table has one in each word, a node those of a node, and others have none
 abbrev pub table_links : Links
 table_links kind words = cond (nat_eq kind 1) (each_link words) (cond (nat_eq kind 2) (node_links words) [])
 

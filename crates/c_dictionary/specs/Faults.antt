@@ -29,6 +29,7 @@ status_of (Outside at value) = 8
 status_of (BadShard shard at) = 9
 status_of Memory = 3
 
+-- what the record of the last fault holds once the fault is told: its cause, or the words that say where it stands
 abbrev pub told : OpenFault → Fault → Fault
 told (Header cause) old = record old { cause = place_of cause }
 told (Outside at value) old = record old { at = at; value = value }

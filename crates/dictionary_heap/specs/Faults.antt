@@ -18,6 +18,7 @@ of_recovery (BadHeader cause) = Header cause
 of_recovery (OutsideFound at value) = Outside at value
 of_recovery MemoryRanOut = Memory
 
+-- and a fault of reading maps
 abbrev pub of_maps : MapFault → OpenFault
 of_maps (NoMap shard at) = BadShard shard at
 of_maps NoMemory = Memory

@@ -3,10 +3,12 @@ use Rattle.std.specs.Prelude.{◌≡◌, refl, ℕ, zero, suc, ◌<◌, ◌≤�
 use Rattle.std.proofs.Common.{arith, ap}
 use Rattle.heap_model.specs.Reach.{Links, AreInside}
 
+-- the first word of a block, as a link to a node
 abbrev pub first_word_to_node : List ℕ → List (ℕ × ℕ)
 first_word_to_node [] = []
 first_word_to_node (x ∷ xs) = (0, 1) ∷ []
 
+-- the filter: a node links its first word to the next node, and a block of another kind has no links
 abbrev pub node_links : Links
 node_links kind words = cond (nat_eq kind 1) (first_word_to_node words) []
 

@@ -9,6 +9,7 @@ use Rattle.mixed_trace.specs.declared.mode.Mode.{Mode}
 use Rattle.mixed_trace.specs.declared.mode.Mode.TheVariants.{Kind, All}
 use Rattle.mixed_trace.specs.Reach.{FitsBelow, ReachMixed, IsOutsideMixed}
 
+-- a mode as a number: a kind is itself, and the mode without a filter the limit of kinds
 abbrev pub code : ℕ → Mode → ℕ
 code limit (Kind kind) = kind
 code limit All = limit

@@ -104,6 +104,7 @@ pub record IsMixedWork (image : Image) (modes : ℕ → Mode) (links : Links) (l
 abbrev pub HasFoundMixed : List ℕ → List Mode → Links → ℕ → PairSet → Type 0
 HasFoundMixed words modes links limit set = AreFoundMixed (slice_index words) (modes_of modes) links limit set.pairs.items set.marks
 
+-- each of these links is followed, seen at the words, the modes of roots and the sets before and after
 abbrev pub FollowsEachOf : List ℕ → List Mode → Links → ℕ → (ℕ → Mode → Type 0) → PairSet → PairSet → Type 0
 FollowsEachOf words modes links limit which old new =
     FollowsEach (slice_index words) (modes_of modes) links limit which old.pairs.items new.pairs.items old.marks new.marks

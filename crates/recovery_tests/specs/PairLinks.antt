@@ -9,6 +9,7 @@ use Rattle.heap_model.specs.Reach.{Links, AreInside}
 abbrev pub one_link : ℕ → ℕ → List ℕ → List (ℕ × ℕ)
 one_link at to words = cond (nat_lt at (length words)) ((at, to) ∷ []) []
 
+-- a block of kind 1 links its third word to kind 0, one of kind 2 its first word to kind 2
 abbrev pub pair_links : Links
 pair_links kind words = cond (nat_eq kind 1) (one_link 2 0 words) (cond (nat_eq kind 2) (one_link 0 2 words) [])
 

@@ -12,6 +12,7 @@ origin_in zero = None
 origin_in (suc zero) = Some Several
 origin_in (suc (suc root)) = Some (One root)
 
+-- the label that is written for an origin
 abbrev pub label_of : Origin → ℕ
 label_of (One root) = suc (suc root)
 label_of Several = 1

@@ -7,21 +7,25 @@ use Rattle.trace_faults.specs.declared.fault.NumberFault.TheVariants.{NotDecimal
 use Rattle.trace_faults.specs.declared.fault.ValueFault.{ValueFault}
 use Rattle.trace_faults.specs.declared.fault.ValueFault.TheVariants.{TooLong, OddDigits, NotHexadecimal}
 
+-- of its key
 abbrev pub key_text : NumberFault → List ℕ
 key_text NotDecimal = codes "its key is no decimal number"
 key_text LeadingZero = codes "its key begins with a zero"
 key_text TooLarge = codes "its key is above 18446744073709551615"
 
+-- of the key that a move goes to
 abbrev pub second_key_text : NumberFault → List ℕ
 second_key_text NotDecimal = codes "its second key is no decimal number"
 second_key_text LeadingZero = codes "its second key begins with a zero"
 second_key_text TooLarge = codes "its second key is above 18446744073709551615"
 
+-- of its value
 abbrev pub value_text : ValueFault → List ℕ
 value_text TooLong = codes "its value is longer than 131072 bytes"
 value_text OddDigits = codes "its value has an odd number of digits"
 value_text NotHexadecimal = codes "its value has a byte that is no hexadecimal digit"
 
+-- of the whole line
 abbrev pub fault_text : LineFault → List ℕ
 fault_text Empty = codes "it is empty"
 fault_text CarriageReturn = codes "it has a carriage return; lines end in a line feed alone"

@@ -71,6 +71,7 @@ use_of image held free d = use_if (list_any (λ f. f == d) free) image held d
 abbrev pub line_of : ℕ → List ℕ → List ℕ
 line_of d words = codes "sb " ++ decimal d ++ codes " " ++ words ++ line_feed
 
+-- the same, with what superblock d is used for
 abbrev pub superblock_line : Image → List Block → List ℕ → ℕ → List ℕ
 superblock_line image held free d = line_of d (use_of image held free d)
 

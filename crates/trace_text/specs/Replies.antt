@@ -19,18 +19,22 @@ abbrev pub is_ok : Reply → Bool
 is_ok Ok = true
 is_ok reply = false
 
+-- that a key is missing
 abbrev pub is_none : Reply → Bool
 is_none None = true
 is_none reply = false
 
+-- a value that was found
 abbrev pub is_value : Reply → Bool
 is_value (Value bytes) = true
 is_value reply = false
 
+-- that there was no room
 abbrev pub is_full : Reply → Bool
 is_full Full = true
 is_full reply = false
 
+-- none, since the run was stopped
 abbrev pub is_unanswered : Reply → Bool
 is_unanswered Unanswered = true
 is_unanswered reply = false
@@ -55,6 +59,7 @@ abbrev pub end_word : Bool → List ℕ
 end_word true = codes "stopped"
 end_word false = codes "closed"
 
+-- and the line that says so
 abbrev pub end_line : Bool → List ℕ
 end_line is_stopped = codes "run " ++ end_word is_stopped ++ line_feed
 
