@@ -7,13 +7,15 @@ use Rattle.dict_model.specs.Layout.{next_index}
 abbrev pub shards : ℕ
 shards = 8
 
--- the kinds of blocks: without links, a table, a node
+-- the kinds of blocks: one without links
 abbrev pub other_kind : ℕ
 other_kind = 0
 
+-- a table, each word of which leads to a node
 abbrev pub table_kind : ℕ
 table_kind = 1
 
+-- a node, whose first word leads to the next
 abbrev pub node_kind : ℕ
 node_kind = 2
 

@@ -13,17 +13,19 @@ buckets = 128
 abbrev pub largest_value : ℕ
 largest_value = 2 ^ 17
 
--- the shard and the bucket of a key
+-- the shard of a key
 abbrev pub shard_of : ℕ → ℕ
 shard_of key = key % shards
 
+-- the bucket, among those of its shard
 abbrev pub bucket_of : ℕ → ℕ
 bucket_of key = key / shards % buckets
 
--- the words that hold so many bytes of a value, and the bytes that are asked for its node
+-- the words that hold so many bytes of a value
 abbrev pub value_words : ℕ → ℕ
 value_words length = (length + 7) / 8
 
+-- how many bytes are asked for a node whose value has so many
 abbrev pub node_bytes : ℕ → ℕ
 node_bytes length = 8 * value_index + 8 * value_words length
 
@@ -31,13 +33,15 @@ node_bytes length = 8 * value_index + 8 * value_words length
 abbrev pub table_bytes : ℕ
 table_bytes = 8 * buckets
 
--- what stands in a node
+-- what stands in a node: its key
 abbrev pub key_in : Image → Block → ℕ
 key_in image b = image (b.first_word + key_index)
 
+-- how many bytes its value has
 abbrev pub length_in : Image → Block → ℕ
 length_in image b = image (b.first_word + length_index)
 
+-- and the value, as bytes
 abbrev pub value_in : Image → Block → List ℕ
 value_in image b = take (length_in image b) (bytes_of_words (words_from image (b.first_word + value_index) (value_words (length_in image b))))
 

@@ -2,6 +2,7 @@
 use Rattle.std.specs.Prelude.{◌≡◌, ℕ, List, [], ◌∷◌, None, Some, cond, nat_eq, refl}
 use Rattle.dict_model.specs.Shards.{Map, no_keys}
 
+-- what is asked of a map: to put, get or delete a key, or to move it
 pub data Request : Type 0 where
   put : (key : ℕ) (value : List ℕ) → Request
   get : (key : ℕ) → Request
@@ -9,16 +10,18 @@ pub data Request : Type 0 where
   -- the key's value goes to another key, where it arrives once all requests are answered
   move : (key to : ℕ) → Request
 
+-- what is answered: that it was done, that there is no room, that the key is missing, or the value that was found
 pub data Reply : Type 0 where
   done : Reply
   full : Reply
   none : Reply
   found : (value : List ℕ) → Reply
 
--- the map with another value for the key, and without the key
+-- the map with another value for the key
 abbrev pub with_key : Map → ℕ → List ℕ → Map
 with_key map key value k = cond (nat_eq key k) (Some value) (map k)
 
+-- the map without the key
 abbrev pub without_key : Map → ℕ → Map
 without_key map key k = cond (nat_eq key k) None (map k)
 

@@ -14,6 +14,7 @@ use Rattle.dict_model.specs.Nodes.{buckets, shard_of, bucket_of, key_in, IsNode,
 abbrev pub Map : Type 0
 Map = ℕ → Option (List ℕ)
 
+-- the map without keys
 abbrev pub no_keys : Map
 no_keys key = None
 
