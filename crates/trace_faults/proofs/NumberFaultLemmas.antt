@@ -2,18 +2,15 @@
 use Rattle.std.proofs.Common.{◌≡◌, ℕ, zero, suc, ◌<◌, ◌^◌, List, get_or, length, Ok, Err, refl, sym, subst, ◌∙◌, arith}
 use Rattle.std.proofs.lemmas.Fmt.{decimal-digits_value, parse-decimal}
 use Rattle.std.proofs.lemmas.Int.Digits.{digits_value-lt}
-use Rattle.std.proofs.lemmas.Str.Parse.{IsNumeralModel, numerals_by_value, tells_digits}
-use Rattle.std.specs.Str.Parse.{AllDigits, digits_value, ParsesUnsigned}
+use Rattle.std.specs.Str.Parse.{digits_value, ParsesUnsigned}
 use Rattle.trace_text.specs.Numbers.{IsNumber}
+use Rattle.trace_text.proofs.NumberLemmas.{decimal_numerals}
 use Rattle.trace_faults.specs.Faults.{IsNumeral}
-
-own : IsNumeralModel (AllDigits 10) (digits_value 10)
-own = numerals_by_value (AllDigits 10) tells_digits
 
 -- digits without a leading zero whose number has 64 bits write it
 pub numeral_number : (word : List ℕ) → IsNumeral word → (get_or word 0 0 ≡ 48 → length word ≡ 1) → digits_value 10 word < 2 ^ 64
     → IsNumber word (digits_value 10 word)
-numeral_number word is alone fits = (fits, sym (decimal-digits_value own word is.digits is.some alone fits))
+numeral_number word is alone fits = (fits, sym (decimal-digits_value decimal_numerals word is.digits is.some alone fits))
 
 -- one digit always does
 pub digit_fits : (word : List ℕ) → IsNumeral word → length word ≡ 1 → digits_value 10 word < 2 ^ 64

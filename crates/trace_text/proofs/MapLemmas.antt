@@ -1,6 +1,6 @@
 -- What a superblock is used for, by whether it is free and by its info.
-use Rattle.std.proofs.Common.{◌≡◌, ℕ, ◌+◌, ◌*◌, ◌/◌, ◌%◌, ◌≤◌, Bool, true, false, nat_eq, nat_le, ◌&&◌, List, codes, refl, ap, ◌∙◌, arith, leb-true, eqb-true}
-use Rattle.std.proofs.lemmas.Bool.{le-leb, eq-eqb}
+use Rattle.std.proofs.Common.{◌≡◌, ℕ, ◌+◌, ◌*◌, ◌/◌, ◌%◌, ◌≤◌, true, false, nat_eq, nat_le, List, codes, refl, ap, ◌∙◌, arith, leb-true, eqb-true}
+use Rattle.std.proofs.lemmas.Bool.{le-leb, eq-eqb, and_parts, false_from_ne_true}
 use Rattle.std.specs.List.{list_any}
 use Rattle.trace_text.proofs.OrderLemmas.{both}
 use Rattle.heap_model.specs.declared.block.Block.{Block}
@@ -13,29 +13,16 @@ use Rattle.super_block.specs.Info.{Says}
 use Rattle.heap_model.specs.Words.{is_large_info}
 use Rattle.trace_text.specs.HeapMap.{is_class, use_if, use_of, class_use, large_use, inside_use, first_of}
 
-first_holds : (s t : Bool) → (s && t) ≡ true → s ≡ true
-first_holds true t h = refl
-first_holds false t h = h
-
-second_holds : (s t : Bool) → (s && t) ≡ true → t ≡ true
-second_holds true t h = h
-second_holds false t h = absurd (cc)
-
-not_true : (t : Bool) → (t ≡ true → ⊥) → t ≡ false
-not_true true never = absurd (never refl)
-not_true false never = refl
-
 pub no_class : (w : ℕ) → (IsClass w → ⊥) → is_class w ≡ false
-no_class w none = not_true (is_class w) (λ h.
-    none (record {
-      some = leb-true 1 w (first_holds (nat_le 1 w) (nat_le w last_class) h);
-      last = leb-true w last_class (second_holds (nat_le 1 w) (nat_le w last_class) h);
-    }))
+no_class w none = false_from_ne_true (is_class w) (λ h.
+    let tests = and_parts (nat_le 1 w) (nat_le w last_class) h in
+    none (record { some = leb-true 1 w tests.0; last = leb-true w last_class tests.1 }))
 
 not_large : (w : ℕ) → ((count : ℕ) → 1 ≤ count → w ≡ 255 + 256 * count → ⊥) → is_large_info w ≡ false
-not_large w none = not_true (is_large_info w) (λ h.
-    let low = leb-true 511 w (first_holds (nat_le 511 w) (nat_eq (w % 256) 255) h) in
-    let rest = eqb-true (w % 256) 255 (second_holds (nat_le 511 w) (nat_eq (w % 256) 255) h) in
+not_large w none = false_from_ne_true (is_large_info w) (λ h.
+    let tests = and_parts (nat_le 511 w) (nat_eq (w % 256) 255) h in
+    let low = leb-true 511 w tests.0 in
+    let rest = eqb-true (w % 256) 255 tests.1 in
     none (w / 256) (omega arith) (omega arith))
 
 -- it is one of a large block behind the first

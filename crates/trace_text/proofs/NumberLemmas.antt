@@ -12,8 +12,9 @@ use Rattle.std.specs.Str.Parse.{AllDigits, digits_value, ParsesUnsigned}
 use Rattle.trace_text.specs.Lines.{IsReadAs}
 use Rattle.trace_text.specs.Numbers.{IsNumber}
 
-own : IsNumeralModel (AllDigits 10) (digits_value 10)
-own = numerals_by_value (AllDigits 10) tells_digits
+-- words of digits are numerals, and have the values that std gives them
+pub decimal_numerals : IsNumeralModel (AllDigits 10) (digits_value 10)
+decimal_numerals = numerals_by_value (AllDigits 10) tells_digits
 
 -- the number 0 has one digit
 pub zero_is_number : IsNumber (48 ∷ []) 0
@@ -33,9 +34,9 @@ number_begins word (suc number) is other =
 pub number_reading : (E : Type 0) (word text : List ℕ) (r : Result ℕ E) → text ≡ word → 48 < get_or word 0 0 → ParsesUnsigned 64 10 text r
     → IsReadAs IsNumber word (result_ok r)
 number_reading E word text (Ok number) same begins parsed =
-    let numeral = parse_plain own {E = E} 64 word (Ok number) (rw same at parsed) (λ plus. absurd (omega arith)) in
+    let numeral = parse_plain decimal_numerals {E = E} 64 word (Ok number) (rw same at parsed) (λ plus. absurd (omega arith)) in
     let value : decimal (digits_value 10 word) ≡ word =
-    decimal-digits_value own word numeral.0.0 numeral.0.1 (λ begins_0. absurd (omega arith)) numeral.0.2 in
+    decimal-digits_value decimal_numerals word numeral.0.0 numeral.0.1 (λ begins_0. absurd (omega arith)) numeral.0.2 in
     rw numeral.1 (numeral.0.2, sym value)
 number_reading E word text (Err e) same begins parsed = λ number is. cc (parse-decimal 64 number text (Err e) is.0 is.0 (same ∙ is.1) parsed)
 
