@@ -11,7 +11,7 @@ use Rattle.heap_model.proofs.MemberLemmas.{in_head, in_rest}
 use Rattle.dict_model.specs.Nodes.{buckets, shard_of, bucket_of}
 use Rattle.dict_model.specs.Shards.{Map, Leading, IsPath, IsBucketChain, HasTable, HasChains, but, map_of, IsMap, is_empty, has_table}
 use Rattle.dict_model.proofs.ChainLemmas.{SameNode, find_same, in_path}
-use Rattle.dict_model.proofs.SpliceLemmas.{ArePlaced, path_same}
+use Rattle.dict_model.proofs.PlacedLemmas.{ArePlaced, path_same}
 
 -- more to lead to, where the nodes of the path are
 pub path_wider : (leads wider : Leading) (image : Image) (shard k at : ℕ) (bs : List Block)

@@ -1,154 +1,21 @@
 -- A shard in two images that differ in one link: what hangs behind the link is another chain, and the map has another value for one key.
-use Rattle.std.proofs.Common.{◌≡◌, ◌≢◌, ℕ, ◌+◌, ◌*◌, ◌<◌, ◌≤◌, ◌⊎◌, inl, inr, List, [], ◌∷◌, ◌++◌, Option, None, Some, Contains, cond, refl, ap, subst, sym, ◌∙◌, arith}
+use Rattle.std.proofs.Common.{◌≡◌, ◌≢◌, ℕ, ◌+◌, ◌<◌, ◌⊎◌, inl, inr, List, [], ◌∷◌, ◌++◌, Option, None, Some, Contains, cond, ap, subst, sym, ◌∙◌, arith}
 use Rattle.std.specs.Prelude.{nat_eq, ◌/◌}
 use Rattle.std.proofs.Math.Nat.{mod-lt}
 use Rattle.std.proofs.lemmas.Bool.{cases_eq, cond-true, cond-false, ne_eqb, eq-eqb}
 use Rattle.std.proofs.lemmas.List.Elements.{Contains-append_left, Contains-append_right, Contains-append_cases}
 use Rattle.heap_model.specs.declared.block.Block.{Block}
 use Rattle.heap_model.specs.Image.{Image}
-use Rattle.heap_model.specs.Geometry.{fixed_words, root_word}
-use Rattle.heap_model.specs.Blocks.{IsIn, AreOneOrApart}
-use Rattle.heap_model.proofs.ReachLemmas.{one_offset, not_null}
-use Rattle.heap_model.proofs.MemberLemmas.{in_none, in_head, in_rest, head_or_rest}
+use Rattle.heap_model.specs.Geometry.{root_word}
+use Rattle.heap_model.specs.Blocks.{IsIn}
+use Rattle.heap_model.proofs.MemberLemmas.{in_none, in_head, head_or_rest}
 use Rattle.dict_model.specs.Links.{shards}
 use Rattle.dict_model.specs.Nodes.{buckets, shard_of, bucket_of, key_in, value_in, IsNode, find}
-use Rattle.dict_model.specs.Shards.{Map, Leading, LeadsOnce, LeadsTo, link_behind, IsPath, IsBucketChain, HasTable, HasChains, but, map_of, IsMap, has_table}
+use Rattle.dict_model.specs.Shards.{Map, Leading, LeadsTo, link_behind, IsPath, IsBucketChain, HasTable, HasChains, but, map_of, IsMap, has_table}
 use Rattle.dict_model.proofs.ShardLemmas.{find_first}
-use Rattle.dict_model.proofs.ChainLemmas.{SameBut, SameNode, node_same, find_same, not_of, none_of, find_past, find_in_none, none_before, none_after, behind_both, behind_is, in_path, path_left, path_right, path_cross, path_both}
-
--- what is asked of blocks: two are one or apart, and each lies behind the roots and has words
-pub record ArePlaced (held : Block → Type 0) : Type 0 where
-  pub apart : (a b : Block) → held a → held b → AreOneOrApart a b
-  pub behind : (b : Block) → held b → fixed_words ≤ b.first_word
-  pub some : (b : Block) → held b → 1 ≤ b.words
-
-module _ (held : Block → Type 0) (placed : ArePlaced held) where
-  -- a word has one block
-  pub one_holder : (a b : Block) (word : ℕ) → held a → held b → IsIn a word → IsIn b word → a ≡ b
-  one_holder a b word ha hb p q = elim (placed.apart a b ha hb) as (λ _. a ≡ b) [
-    | inl same ↦ same
-    | inr far ↦
-        let f = p.from in
-        let u = p.until in
-        let g = q.from in
-        let v = q.until in
-        absurd (elim far as (λ _. ⊥) [ inl l ↦ omega arith | inr l ↦ omega arith ])
-  ]
-
-  pub first_in : (b : Block) → held b → IsIn b b.first_word
-  first_in b h = record { from = omega arith; until = omega (arith, placed.some b h) }
-
-  pub held_once : LeadsOnce (LeadsTo held)
-  held_once = record {
-    one = λ word a b p q.
-        let same : a.first_word ≡ b.first_word = let e = one_offset word (8 * a.first_word) (8 * b.first_word) p.1 q.1 in omega arith in
-        one_holder a b a.first_word p.0 q.0 (first_in a p.0) (record { from = omega arith; until = omega (arith, placed.some b q.0) });
-    null = λ b p. not_null 0 (8 * b.first_word) p.1 refl;
-  }
-
-  -- a path whose nodes have the same words, hung behind another link
-  pub path_same : (limit : Leading) → ((word : ℕ) (b : Block) → limit word b → held b)
-      → (image other : Image) (shard k at to : ℕ) (bs : List Block) → other to ≡ image at
-      → ((c : Block) → Contains bs c → (word : ℕ) → IsIn c word → other word ≡ image word) → IsPath limit image shard k at bs
-      → IsPath limit other shard k to bs × ((b : Block) → Contains bs b → SameNode image other b)
-      × (other (link_behind to bs) ≡ image (link_behind at bs))
-  path_same limit into image other shard k at to [] same alike path = (tt, (λ b h. absurd (in_none b h)), same)
-  path_same limit into image other shard k at to (b ∷ bs) same alike path =
-      let hb = into (image at) b path.0 in
-      let node = node_same image other shard k b (λ word low high. alike b (in_head b bs) word (record { from = omega arith; until = high })) path.1 in
-      let link : other b.first_word ≡ image b.first_word = alike b (in_head b bs) b.first_word (first_in b hb) in
-      let rest = path_same limit into image other shard k b.first_word b.first_word bs link (λ c h. alike c (in_rest b c bs h)) path.3 in
-      let none : find other (key_in other b) bs ≡ None = ap (λ n. find other n bs) node.1.key ∙ find_same image other (key_in image b) bs rest.1
-      ∙ path.2 in (
-        (subst (λ w. limit w b) (sym same) path.0, node.0, none, rest.0),
-        (λ c h. elim (head_or_rest b c bs h) as (λ _. SameNode image other c)
-            [ inl e ↦ subst (λ (x : Block). SameNode image other x) e node.1 | inr r ↦ rest.1 c r ]),
-        rest.2,
-      )
-
-  module _ (limit : Leading) (into : (word : ℕ) (b : Block) → limit word b → held b) (image other : Image) (p shard k : ℕ)
-      (but_p : SameBut p image other) where
-    held_in_path : (at : ℕ) (bs : List Block) (b : Block) → IsPath limit image shard k at bs → Contains bs b → held b
-    held_in_path at bs b path h = let found = in_path limit image shard k at bs b path h in into found.0.0 b found.0.1
-
-    -- a node with the word p in no body
-    node_kept : (b : Block) → IsNode image shard k b → ((word : ℕ) → b.first_word < word → word < b.first_word + b.words → word ≢ p)
-        → IsNode other shard k b × SameNode image other b
-    node_kept b is free = node_same image other shard k b (λ word low high. but_p.each word (free word low high)) is
-
-    -- a path whose last link is the one that changes
-    pub path_kept : (at : ℕ) (bs : List Block) → p ≡ link_behind at bs → ((c : Block) → Contains bs c → at ≢ c.first_word)
-        → IsPath limit image shard k at bs
-        → IsPath limit other shard k at bs × ((b : Block) → Contains bs b → SameNode image other b)
-    path_kept at [] is apart path = (tt, λ b h. absurd (in_none b h))
-    path_kept at (b ∷ bs) is apart path =
-        let hb = into (image at) b path.0 in
-        let last : (c : Block) × Contains (b ∷ bs) c × (p ≡ c.first_word) =
-        elim (behind_is b.first_word bs) as (λ _. (c : Block) × Contains (b ∷ bs) c × (p ≡ c.first_word)) [
-          | inl only ↦ (b, in_head b bs, is ∙ only.1)
-          | inr l ↦ (l.0, in_rest b l.0 bs l.1, is ∙ l.2)
-        ] in
-        let hl = held_in_path at (b ∷ bs) last.0 path last.1 in
-        let start : at ≢ p = λ e. apart last.0 last.1 (e ∙ last.2) in
-        let node = node_kept b path.1 (λ word low high e.
-        let at_last : word ≡ last.0.first_word = e ∙ last.2 in
-        let same = one_holder b last.0 word hb hl (record { from = omega arith; until = high })
-        (record { from = omega arith; until = omega (arith, placed.some last.0 hl) }) in
-        let first : b.first_word ≡ last.0.first_word = ap (λ (x : Block). x.first_word) same in omega arith) in
-        let rest = path_kept b.first_word bs is (λ c h e. not_of image (key_in image b) bs c path.2 h (sym (ap (λ w. image (w + 1)) e))) path.3 in
-        let none : find other (key_in other b) bs ≡ None = ap (λ n. find other n bs) node.1.key
-        ∙ find_same image other (key_in image b) bs rest.1 ∙ path.2 in (
-          (subst (λ w. limit w b) (sym (but_p.each at start)) path.0, node.0, none, rest.0),
-          λ c h. elim (head_or_rest b c bs h) as (λ _. SameNode image other c)
-              [ inl e ↦ subst (λ (x : Block). SameNode image other x) e node.1 | inr r ↦ rest.1 c r ],
-        )
-
-    -- a path apart from that link, hung behind another one
-    pub path_moved : (at to : ℕ) (bs : List Block) → other to ≡ image at → ((c : Block) → Contains bs c → IsIn c p → ⊥)
-        → IsPath limit image shard k at bs
-        → IsPath limit other shard k to bs × ((b : Block) → Contains bs b → SameNode image other b)
-        × (other (link_behind to bs) ≡ image (link_behind at bs))
-    path_moved at to bs same free path = path_same limit into image other shard k at to bs same
-        (λ c h word inside. but_p.each word (λ e. free c h (subst (IsIn c) e inside))) path
-
--- a key that none of the nodes between has
-pub find_without : (image : Image) (key : ℕ) (xs ds ys : List Block) → find image key ds ≡ None
-    → find image key (xs ++ (ds ++ ys)) ≡ find image key (xs ++ ys)
-find_without image key [] ds ys none = find_past image key ds ys none
-find_without image key (x ∷ xs) ds ys none =
-    ap (λ f. cond (nat_eq (key_in image x) key) (Some (value_in image x)) f) (find_without image key xs ds ys none)
-
--- where a link's two chains differ only in nodes of one key, all other keys are found alike
-module _ (image other : Image) (key : ℕ) (new : Option (List ℕ)) (before drop rest put : List Block)
-    (same : (b : Block) → Contains (before ++ rest) b → SameNode image other b) (none : find image key (before ++ rest) ≡ None)
-    (dropped : (b : Block) → Contains drop b → key_in image b ≡ key) (added : (b : Block) → Contains put b → key_in other b ≡ key)
-    (value : find other key (put ++ rest) ≡ new) where
-  found_alike : (q : ℕ) → find other q (before ++ (put ++ rest)) ≡ cond (nat_eq key q) new (find image q (before ++ (drop ++ rest)))
-  found_alike q = elim (cases_eq key q) as (λ _. find other q (before ++ (put ++ rest)) ≡ cond (nat_eq key q) new
-      (find image q (before ++ (drop ++ rest)))) [
-        | inl is ↦
-            let before_same = find_same image other key before (λ b h. same b (Contains-append_left before rest b h)) in
-            let there : find other key (before ++ (put ++ rest)) ≡ new = find_past other key before (put ++ rest) (before_same
-            ∙ none_before image key before rest none) ∙ value in
-            subst (λ k. find other k (before ++ (put ++ rest)) ≡ new) is there
-            ∙ sym (cond-true (nat_eq key q) new (find image q (before ++ (drop ++ rest))) (eq-eqb key q is))
-        | inr differs ↦
-            let no_put = none_of other q put (λ b h e. differs (sym (added b h) ∙ e)) in
-            let no_drop = none_of image q drop (λ b h e. differs (sym (dropped b h) ∙ e)) in
-            find_without other q before put rest no_put ∙ find_same image other q (before ++ rest) same
-            ∙ sym (find_without image q before drop rest no_drop)
-            ∙ sym (cond-false (nat_eq key q) new (find image q (before ++ (drop ++ rest))) (ne_eqb key q differs))
-      ]
-
--- the chains with another one in bucket k
-abbrev pub chains_with : (ℕ → List Block) → ℕ → List Block → ℕ → List Block
-chains_with nodes k bs j = cond (nat_eq j k) bs (nodes j)
-
-pub with_same : (nodes : ℕ → List Block) (k : ℕ) (bs : List Block) → chains_with nodes k bs k ≡ bs
-with_same nodes k bs = cond-true (nat_eq k k) bs (nodes k) (eq-eqb k k refl)
-
-pub with_other : (nodes : ℕ → List Block) (k : ℕ) (bs : List Block) (j : ℕ) → j ≢ k → chains_with nodes k bs j ≡ nodes j
-with_other nodes k bs j other = cond-false (nat_eq j k) bs (nodes j) (ne_eqb j k other)
+use Rattle.dict_model.proofs.ChainLemmas.{SameBut, SameNode, find_same, not_of, none_of, find_in_none, none_before, none_after, behind_both, behind_is, in_path, path_left, path_right, path_cross, path_both}
+use Rattle.dict_model.proofs.PlacedLemmas.{ArePlaced, one_holder, first_in, path_kept, path_moved}
+use Rattle.dict_model.proofs.FoundLemmas.{found_alike, chains_with, with_same, with_other}
 
 module _ (held : Block → Type 0) (placed : ArePlaced held) (image other : Image) (p shard k : ℕ) (small : shard < shards)
     (but_p : SameBut p image other) (table : Block)

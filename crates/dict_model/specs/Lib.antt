@@ -1,4 +1,5 @@
 pub mod Examples
+pub mod BadExamples
 pub mod Layout
 pub mod Links
 pub mod Nodes

@@ -13,7 +13,7 @@ use Rattle.dict_model.specs.Links.{shards, table_kind, node_kind, IsLink, in_tab
 use Rattle.dict_model.specs.Nodes.{shard_of, bucket_of, key_in, IsNode}
 use Rattle.dict_model.specs.Shards.{Map, LeadsTo, IsPath, but, link_behind}
 use Rattle.dict_model.proofs.ChainLemmas.{in_path, path_left, path_cross, not_of, behind_is}
-use Rattle.dict_model.proofs.SpliceLemmas.{one_holder, first_in}
+use Rattle.dict_model.proofs.PlacedLemmas.{one_holder, first_in}
 use Rattle.dict_requests.specs.Maps.{GivesMap}
 use Rattle.dict_requests.specs.Reached.{MayReach, ReachesOnlyHeld}
 use Rattle.dict_requests.specs.Trails.{pointer_to, IsDurableAt, Trail, HasCome}

@@ -12,7 +12,7 @@ use Rattle.dict_model.specs.Links.{table_kind, node_kind}
 use Rattle.dict_model.specs.Nodes.{shard_of, bucket_of}
 use Rattle.dict_model.specs.Shards.{Map, LeadsTo, IsPath, but, link_behind}
 use Rattle.dict_model.proofs.ChainLemmas.{in_path}
-use Rattle.dict_model.proofs.SpliceLemmas.{held_once, one_holder, first_in}
+use Rattle.dict_model.proofs.PlacedLemmas.{held_once, one_holder, first_in}
 use Rattle.dict_requests.specs.declared.walk.Place.{Place}
 use Rattle.dict_requests.specs.Maps.{GivesMap}
 use Rattle.dict_requests.specs.Reached.{MayReach, Reaches, ReachesOnlyHeld, ReachesAllHeld, ReachesAllHeldBut}

@@ -13,7 +13,7 @@ use Rattle.dict_model.specs.Links.{shards, table_kind, node_kind, IsLink, in_tab
 use Rattle.dict_model.specs.Nodes.{shard_of, bucket_of}
 use Rattle.dict_model.specs.Shards.{LeadsTo, link_behind}
 use Rattle.dict_model.proofs.LinkLemmas.{at_first}
-use Rattle.dict_model.proofs.SpliceLemmas.{one_holder}
+use Rattle.dict_model.proofs.PlacedLemmas.{one_holder}
 use Rattle.dict_requests.specs.Quiet.{Grown}
 use Rattle.dict_requests.specs.Reached.{Sees, RootReaches, LinkReaches, MayReach, Reaches, ReachesOnlyHeld, ReachesAllHeld, ReachesAllHeldBut}
 use Rattle.dict_requests.specs.Trails.{pointer_to, IsDurableAt, Trail, HasCome}

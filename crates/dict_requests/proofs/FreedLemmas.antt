@@ -14,7 +14,7 @@ use Rattle.heap_seat.specs.Sound.{IsSeat}
 use Rattle.heap_seat.proofs.CallerLemmas.{read_before, keeps_word_then}
 use Rattle.dict_model.specs.Links.{table_kind, node_kind, IsLink, in_table, in_node}
 use Rattle.dict_model.specs.Shards.{Map, LeadsTo, IsMap, HasTable, IsPath, but}
-use Rattle.dict_model.proofs.SpliceLemmas.{ArePlaced, one_holder}
+use Rattle.dict_model.proofs.PlacedLemmas.{ArePlaced, one_holder}
 use Rattle.dict_model.proofs.MapLemmas.{IsUsed, as_table, as_node, map_wider, map_stays}
 use Rattle.dict_requests.specs.Reached.{MayReach, IsNullOrHeld, ReachesOnlyHeld}
 use Rattle.dict_requests.specs.Maps.{IsMapIn, GivesMap, KeepsOtherShards}

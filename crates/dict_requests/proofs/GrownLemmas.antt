@@ -13,7 +13,7 @@ use Rattle.heap_seat.specs.Sound.{IsSeat}
 use Rattle.heap_seat.proofs.CallerLemmas.{read_before, keeps_word_then}
 use Rattle.dict_model.specs.Links.{node_kind, IsLink, in_table, in_node}
 use Rattle.dict_model.specs.Shards.{Map, LeadsTo}
-use Rattle.dict_model.proofs.SpliceLemmas.{ArePlaced, held_once, one_holder}
+use Rattle.dict_model.proofs.PlacedLemmas.{ArePlaced, held_once, one_holder}
 use Rattle.dict_model.proofs.MapLemmas.{map_wider}
 use Rattle.dict_requests.specs.Reached.{MayReach, IsNullOrHeld, ReachesOnlyHeld}
 pub use Rattle.dict_requests.specs.Quiet.{Grown}

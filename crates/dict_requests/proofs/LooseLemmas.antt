@@ -17,7 +17,7 @@ use Rattle.dict_model.specs.Links.{table_kind, node_kind, IsLink, in_table}
 use Rattle.dict_model.specs.Nodes.{shard_of, bucket_of}
 use Rattle.dict_model.specs.Shards.{Map}
 use Rattle.dict_model.proofs.ChainLemmas.{behind_is}
-use Rattle.dict_model.proofs.SpliceLemmas.{one_holder, first_in}
+use Rattle.dict_model.proofs.PlacedLemmas.{one_holder, first_in}
 use Rattle.dict_requests.specs.declared.walk.Place.{Place}
 use Rattle.dict_requests.specs.Maps.{GivesMap}
 use Rattle.dict_requests.specs.Reached.{MayReach, ReachesOnlyHeld, ReachesAllHeld, ReachesAllHeldBut}

@@ -15,7 +15,8 @@ use Rattle.dict_model.specs.Nodes.{bucket_of, key_in, value_in, IsNode, find}
 use Rattle.dict_model.specs.Requests.{with_key, without_key}
 use Rattle.dict_model.specs.Shards.{Map, LeadsTo, IsMap, IsPath, but, link_behind}
 use Rattle.dict_model.proofs.ChainLemmas.{node_same, behind_is, none_of, not_of, path_cross, path_right, find_in_none}
-use Rattle.dict_model.proofs.SpliceLemmas.{put_node, take_node, first_in}
+use Rattle.dict_model.proofs.SpliceLemmas.{put_node, take_node}
+use Rattle.dict_model.proofs.PlacedLemmas.{first_in}
 use Rattle.dict_requests.specs.Maps.{IsMapIn, GivesMap, GivesEither}
 use Rattle.dict_requests.specs.Reached.{Reading}
 use Rattle.dict_requests.specs.Trails.{pointer_to, IsDurableAt, Trail, HasCome}

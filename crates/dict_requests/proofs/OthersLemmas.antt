@@ -12,7 +12,7 @@ use Rattle.heap_seat.proofs.CallerLemmas.{read_before}
 use Rattle.dict_model.specs.Links.{shards, table_kind}
 use Rattle.dict_model.specs.Shards.{Map, LeadsTo, IsMap}
 use Rattle.dict_model.proofs.MapLemmas.{map_wider, map_stays}
-use Rattle.dict_model.proofs.SpliceLemmas.{ArePlaced}
+use Rattle.dict_model.proofs.PlacedLemmas.{ArePlaced}
 use Rattle.dict_requests.specs.Maps.{IsMapIn, GivesMap, KeepsOtherShards}
 use Rattle.dict_requests.specs.Changes.{MayChange, Changes}
 use Rattle.dict_requests.specs.Reached.{MayReach, ReachesOnlyHeld}

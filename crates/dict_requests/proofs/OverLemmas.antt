@@ -19,7 +19,7 @@ use Rattle.dict_model.specs.Nodes.{shard_of, bucket_of}
 use Rattle.dict_model.specs.Requests.{with_key}
 use Rattle.dict_model.specs.Shards.{Map, LeadsTo, IsPath, but, link_behind}
 use Rattle.dict_model.proofs.ChainLemmas.{in_path}
-use Rattle.dict_model.proofs.SpliceLemmas.{one_holder, first_in}
+use Rattle.dict_model.proofs.PlacedLemmas.{one_holder, first_in}
 use Rattle.dict_requests.specs.declared.walk.Place.{Place}
 use Rattle.dict_requests.specs.Maps.{IsMapIn, GivesMap}
 use Rattle.dict_requests.specs.Reached.{MayReach, ReachesOnlyHeld, Reaches, ReachesAllHeld}

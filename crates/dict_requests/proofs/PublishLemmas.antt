@@ -14,7 +14,7 @@ use Rattle.heap_seat.specs.Sound.{IsSeat}
 use Rattle.heap_seat.proofs.CallerLemmas.{read_before, keeps_word_then}
 use Rattle.dict_model.specs.Links.{shards, IsLink}
 use Rattle.dict_model.specs.Shards.{LeadsTo}
-use Rattle.dict_model.proofs.SpliceLemmas.{one_holder, held_once}
+use Rattle.dict_model.proofs.PlacedLemmas.{one_holder, held_once}
 use Rattle.dict_model.proofs.ChainLemmas.{SameBut}
 use Rattle.dict_requests.specs.Reached.{RootReaches, LinkReaches, MayReach, IsNullOrHeld, ReachesOnlyHeld}
 use Rattle.dict_requests.specs.Maps.{KeepsOtherShards}

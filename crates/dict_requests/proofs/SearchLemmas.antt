@@ -8,7 +8,7 @@ use Rattle.heap_seat.specs.Words.{IsOwn, in_root, KeepsOwn}
 use Rattle.heap_seat.specs.Sound.{IsSeat}
 use Rattle.dict_model.specs.Nodes.{buckets, shard_of}
 use Rattle.dict_model.specs.Shards.{Map, LeadsTo, is_empty, has_table}
-use Rattle.dict_model.proofs.SpliceLemmas.{held_once}
+use Rattle.dict_model.proofs.PlacedLemmas.{held_once}
 use Rattle.dict_requests.specs.declared.walk.Place.{Place}
 use Rattle.dict_requests.specs.declared.search.SearchEnd.TheVariants.{NoTable, Missing, Found}
 use Rattle.dict_requests.specs.Maps.{IsMapIn}

@@ -15,7 +15,7 @@ use Rattle.dict_model.specs.Links.{shards}
 use Rattle.dict_model.specs.Nodes.{buckets, shard_of}
 use Rattle.dict_model.specs.Shards.{Map, LeadsTo, IsMap}
 use Rattle.dict_model.proofs.MapLemmas.{table_made}
-use Rattle.dict_model.proofs.SpliceLemmas.{held_once}
+use Rattle.dict_model.proofs.PlacedLemmas.{held_once}
 use Rattle.dict_requests.specs.Maps.{IsMapIn, GivesMap}
 use Rattle.dict_requests.specs.Reached.{MayReach, ReachesOnlyHeld, Reaches, ReachesAllHeld}
 use Rattle.dict_requests.specs.Trails.{pointer_to, IsDurableAt}

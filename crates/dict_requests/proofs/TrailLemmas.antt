@@ -15,7 +15,7 @@ use Rattle.heap_seat.proofs.CallerLemmas.{durable_in, stays_durable}
 use Rattle.dict_model.specs.Nodes.{buckets, shard_of, bucket_of, find}
 use Rattle.dict_model.specs.Shards.{Map, LeadsTo, is_empty, has_table, HasTable, HasChains, but, link_behind, map_of}
 use Rattle.dict_model.proofs.ShardLemmas.{one_map}
-use Rattle.dict_model.proofs.SpliceLemmas.{held_once}
+use Rattle.dict_model.proofs.PlacedLemmas.{held_once}
 use Rattle.dict_model.proofs.ChainLemmas.{Leads_along, extends, behind_both}
 use Rattle.dict_requests.specs.Reached.{Reading}
 use Rattle.dict_requests.specs.Maps.{IsMapIn, GivesMap}

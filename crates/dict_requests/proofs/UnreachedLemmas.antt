@@ -16,7 +16,7 @@ use Rattle.dict_model.specs.Nodes.{buckets, shard_of, bucket_of, key_in, value_i
 use Rattle.dict_model.specs.Shards.{Map, Leading, LeadsTo, is_empty, has_table, HasTable, HasChains, IsPath, but, link_behind, map_of}
 use Rattle.dict_model.proofs.LinkLemmas.{at_first}
 use Rattle.dict_model.proofs.ChainLemmas.{Leads_along, extends, path_left, in_path, found_in, own_key}
-use Rattle.dict_model.proofs.SpliceLemmas.{held_once, one_holder, first_in, path_kept}
+use Rattle.dict_model.proofs.PlacedLemmas.{held_once, one_holder, first_in, path_kept}
 use Rattle.dict_requests.specs.Maps.{IsMapIn, GivesMap}
 use Rattle.dict_requests.specs.Reached.{RootReaches, LinkReaches, MayReach}
 use Rattle.dict_requests.specs.Trails.{pointer_to, IsDurableAt, HasCome}

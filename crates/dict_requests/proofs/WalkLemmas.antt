@@ -12,7 +12,7 @@ use Rattle.dict_model.specs.Nodes.{shard_of, bucket_of, key_in, find}
 use Rattle.dict_model.specs.Shards.{Map, LeadsTo, IsBucketChain, but, link_behind}
 use Rattle.dict_model.proofs.ChainLemmas.{path_right, find_in_none}
 use Rattle.dict_model.proofs.ShardLemmas.{find_behind}
-use Rattle.dict_model.proofs.SpliceLemmas.{held_once}
+use Rattle.dict_model.proofs.PlacedLemmas.{held_once}
 use Rattle.dict_requests.specs.Maps.{GivesMap}
 use Rattle.dict_requests.specs.Reached.{IsNullOrHeld}
 use Rattle.dict_requests.specs.Trails.{pointer_to, IsSettling, Completes, HasCome}

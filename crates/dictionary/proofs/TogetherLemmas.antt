@@ -13,7 +13,7 @@ use Rattle.heap_model.proofs.MemberLemmas.{in_none, head_or_rest}
 use Rattle.dict_model.specs.Nodes.{buckets, shard_of, key_in, IsNode, find}
 use Rattle.dict_model.specs.Shards.{Map, Leading, LeadsOnce, LeadsAstray, HasTable, HasChains, IsPath, IsNext, link_behind, but, map_of, IsMap, is_empty, has_table, at_link}
 use Rattle.dict_model.proofs.ShardLemmas.{no_bad_place}
-use Rattle.dict_model.proofs.SpliceLemmas.{with_same, with_other}
+use Rattle.dict_model.proofs.FoundLemmas.{with_same, with_other}
 use Rattle.dictionary.specs.Reading.{AddsNode}
 use Rattle.dictionary.proofs.WalkLemmas.{path-push, link_behind-push, at_key, further, more_means, no_node, no_new_key}
 

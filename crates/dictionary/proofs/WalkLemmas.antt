@@ -11,7 +11,7 @@ use Rattle.dict_model.specs.Links.{shards}
 use Rattle.dict_model.specs.Nodes.{buckets, shard_of, bucket_of, key_in, value_in, IsNode, find}
 use Rattle.dict_model.specs.Shards.{Map, Leading, LeadsOnce, LeadsAstray, HasTable, HasChains, IsBucketChain, IsPath, link_behind, but, map_of, IsMap, MapOf, has_table, IsBadAt, IsNext, at_link, BadShard as IsBadShard}
 use Rattle.dict_model.proofs.ShardLemmas.{find_first, find_behind, not_first, not_behind}
-use Rattle.dict_model.proofs.SpliceLemmas.{chains_with, with_same, with_other}
+use Rattle.dict_model.proofs.FoundLemmas.{chains_with, with_same, with_other}
 use Rattle.dictionary.specs.declared.fault.MapFault.{MapFault}
 use Rattle.dictionary.specs.declared.fault.MapFault.TheVariants.{BadShard, Memory}
 use Rattle.dictionary.specs.Reading.{AddsNode, IsMapUpTo, IsMapBefore, AreMaps, TellsBad, TellsLowest}
