@@ -25,7 +25,9 @@ use Rattle.dict_requests.proofs.TrailLemmas.{settles, bucket_own, bucket_below}
 use Rattle.dict_requests.proofs.ExactLemmas.{sees_grown}
 use Rattle.dict_requests.proofs.ChangeLemmas.{change_none, table_grown, table_then}
 use Rattle.dict_requests.proofs.MovedLemmas.{node_kept}
-use Rattle.dict_requests.proofs.LooseLemmas.{without, less_gone, less_outside, less_keeps, less_follows, less_seat, less_shard, less_all, less_grown, less_missing, less_place, bring_left, brought, grown_head, head_node}
+use Rattle.dict_requests.proofs.LooseLemmas.{less_gone, less_outside, less_keeps, less_follows, less_seat, less_shard, less_all, less_grown, less_missing, less_place, bring_left, brought}
+use Rattle.dict_requests.proofs.WithoutLemmas.{without}
+use Rattle.dict_requests.proofs.HeadLemmas.{grown_head, head_node}
 use Rattle.dict_requests.proofs.FirstLemmas.{first_left, first_done, all_first}
 use Rattle.dict_requests.proofs.OverLemmas.{taken_made, over_left, old_still, over_freed, all_over}
 

@@ -92,6 +92,12 @@ module _ (u w : View) (seat : IsSeat u) (seat_w : IsSeat w) (key : ℕ) (place :
   not_root root owned e = link_behind_roots u key taken.table taken.before root seat owned
       (come_to u seat key place next taken map gives root_is) (e ∙ taken.at_is)
 
+  -- the way to the link is settled once it is stored to
+  link_seen : MayHaveStored (word_of place.link) next u w → SeesLink w (shard_of key) (word_of place.link)
+  link_seen may = subst (λ q. SeesLink w (shard_of key) q) (sym taken.at_is)
+      (come_sees w key taken.table taken.before seat_w (come_kept u w key (word_of place.link) next taken.table taken.before map seat gives
+      (come_to u seat key place next taken map gives root_is) taken.at_is may) (kind_kept u w (shard_of key) kinds ∙ root_is))
+
   -- a node that is taken out
   pub all_unlinked : (may : MayHaveStored (word_of place.link) next u w) → IsDurableAt w (word_of place.link) next → ReachesOnlyHeld w
       → ReachesAllHeld u → ReachesAllHeldBut place.node w
@@ -105,16 +111,12 @@ module _ (u w : View) (seat : IsSeat u) (seat_w : IsSeat w) (key : ℕ) (place :
         (λ d. d ≡ place.node)
         (λ d leads. inl (leads_to_node d leads))
         (λ a d value same seen leads.
-        inr (target_sees w (shard_of key) (word_of place.link) next d link_there settled.seen
+        inr (target_sees w (shard_of key) (word_of place.link) next d (link_seen may) settled.seen
         (subst (λ q. LeadsTo (Contains w.held) q d) (next_value a value same seen)
         (subst (λ (bs : List Block). Contains bs d) (sym may.held) leads.0, leads.1))))
         one_kind r.0 c r.1 r.2) as (λ _. (root : ℕ) × (kind : ℕ) × Reaches w root c kind)
         [ inl reached ↦ (r.0, r.1, reached) | inr same ↦ absurd (other same) ];
-  } where
-    link_there : SeesLink w (shard_of key) (word_of place.link)
-    link_there = subst (λ q. SeesLink w (shard_of key) q) (sym taken.at_is)
-        (come_sees w key taken.table taken.before seat_w (come_kept u w key (word_of place.link) next taken.table taken.before map seat gives
-        (come_to u seat key place next taken map gives root_is) taken.at_is may) (kind_kept u w (shard_of key) kinds ∙ root_is))
+  }
 
   -- a node that is taken out and freed
   pub all_removed : (may : MayHaveStored (word_of place.link) next u w) → IsDurableAt w (word_of place.link) next → (x : View)
@@ -131,7 +133,7 @@ module _ (u w : View) (seat : IsSeat u) (seat_w : IsSeat w) (key : ℕ) (place :
         (λ d. d ≡ place.node)
         (λ d leads. inl (leads_to_node d leads))
         (λ a d value same seen leads.
-        inr (target_sees w (shard_of key) (word_of place.link) next d link_w settled.seen
+        inr (target_sees w (shard_of key) (word_of place.link) next d (link_seen may) settled.seen
         (subst (λ q. LeadsTo (Contains w.held) q d) (next_value a value same seen)
         (subst (λ (bs : List Block). Contains bs d) (sym may.held) leads.0, leads.1))))
         one_kind r.0 c r.1 r.2) as (λ _. (root : ℕ) × (kind : ℕ) × Reaches x root c kind) [
@@ -143,8 +145,4 @@ module _ (u w : View) (seat : IsSeat u) (seat_w : IsSeat w) (key : ℕ) (place :
           )
           | inr same ↦ absurd (gone (subst (Contains x.held) same h))
         ];
-  } where
-    link_w : SeesLink w (shard_of key) (word_of place.link)
-    link_w = subst (λ q. SeesLink w (shard_of key) q) (sym taken.at_is)
-        (come_sees w key taken.table taken.before seat_w (come_kept u w key (word_of place.link) next taken.table taken.before map seat gives
-        (come_to u seat key place next taken map gives root_is) taken.at_is may) (kind_kept u w (shard_of key) kinds ∙ root_is))
+  }

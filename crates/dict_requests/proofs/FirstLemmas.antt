@@ -23,14 +23,14 @@ use Rattle.dict_requests.specs.Reached.{ReachesOnlyHeld, Reaches, ReachesAllHeld
 use Rattle.dict_requests.specs.Trails.{pointer_to, IsDurableAt, IsSettling, HasCome}
 use Rattle.dict_requests.specs.Quiet.{Grown, FollowsLink}
 use Rattle.dict_requests.specs.Nodes.{HasNode}
-use Rattle.dict_requests.specs.Changes.{MayChange, Changes}
+use Rattle.dict_requests.specs.Changes.{Changes}
 use Rattle.dict_requests.specs.Removal.{IsShard}
 use Rattle.dict_requests.specs.Puts.{IsMissing, IsRefused, PutFails}
 use Rattle.dict_requests.proofs.GrownLemmas.{stays_held, kind_kept, grown_keeps, grown_then, own_grown, new_block_outside, gives_grown, only_grown, shard_grown}
 use Rattle.dict_requests.proofs.TrailLemmas.{settles, come_stays, bucket_own, bucket_below, same_map, leads_held}
 use Rattle.dict_requests.proofs.QuietLemmas.{still_settling}
 use Rattle.dict_requests.proofs.ComeLemmas.{followed_leads, bucket_followed, link_followed, link_behind_roots}
-use Rattle.dict_requests.proofs.PutLemmas.{put_left, put_done, new_key, publish}
+use Rattle.dict_requests.proofs.PutLemmas.{MaySet, put_left, put_done, new_key, publish}
 use Rattle.heap_model.specs.Blocks.{IsIn}
 use Rattle.dict_requests.proofs.ExactLemmas.{target_sees, come_sees, node_link, sees_grown, sees_after}
 use Rattle.dict_requests.proofs.ExactCallLemmas.{come_kept}
@@ -139,7 +139,7 @@ module _ (v t u w : View) (seat_t : IsSeat t) (seat : IsSeat u) (key first x : �
       w still.only table [] [] come_u come_u (table.first_word + bucket_of key) x first refl was may points own_t come_t.held_table was
       (own_grown t u (table.first_word + bucket_of key) grown_u own_t) still.kind_is kinds_w refl none_u
 
-  pub first_left : MayChange (shard_of key) (λ map. with_key map key value) v w
+  pub first_left : MaySet key value v w
   first_left = change_after (shard_of key) (λ map. with_key map key value) v u w grown_all kinds_all seat shard.only
       (put_left t u seat grown_u kinds_u only_t key first value n makes.held makes.new makes.node makes.key_is makes.next_is
       (followed_leads u seat (shard_of key) (shard_below key) (table.first_word + bucket_of key) first

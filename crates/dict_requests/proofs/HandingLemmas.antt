@@ -15,7 +15,7 @@ use Rattle.dict_model.specs.Shards.{Map}
 use Rattle.dict_requests.specs.Maps.{GivesMap}
 use Rattle.dict_requests.specs.Reached.{Reaches, ReachesAllHeld, ReachesAllHeldBut, ReachesOnlyHeld}
 use Rattle.dict_requests.specs.Quiet.{Grown}
-use Rattle.dict_requests.specs.Changes.{MayChange, Changes}
+use Rattle.dict_requests.specs.Changes.{MayChange}
 use Rattle.dict_requests.specs.Removal.{IsLoose, IsShard}
 use Rattle.dict_requests.specs.Moving.{IsNodeIn, IsNodeOf, MayBring}
 use Rattle.dict_requests.specs.Puts.{RootIsSet}
@@ -24,8 +24,9 @@ use Rattle.dict_requests.proofs.GrownLemmas.{kind_kept, only_grown, reached_befo
 use Rattle.dict_requests.proofs.FreedLemmas.{only_freed, gives_freed}
 use Rattle.dict_requests.proofs.ExactLemmas.{sees_grown, all_freed}
 use Rattle.dict_requests.proofs.MovedLemmas.{node_kept}
-use Rattle.dict_requests.proofs.LooseLemmas.{without, less_seat, less_shard, less_gives, bring_change, change_less}
-use Rattle.dict_requests.proofs.OthersLemmas.{others_give, shards_on}
+use Rattle.dict_requests.proofs.LooseLemmas.{less_seat, less_shard, less_gives, bring_change, change_less}
+use Rattle.dict_requests.proofs.WithoutLemmas.{without}
+use Rattle.dict_requests.proofs.OthersLemmas.{GivesOthers, LeavesShards, others_give, shards_on}
 
 -- an offered block is gone, as a freed one is
 module _ (b : Block) (v w : View) (seat : IsSeat v) (loose : IsLoose b v) (offers : Offers b v w) (call : IsSmallCall v w) where
@@ -114,15 +115,15 @@ node_comes w b c value comes node = record {
 -- what a bring leaves of other shards
 module _ (v w : View) (b : Block) (shard : ℕ) (may : Map → Map) (seat : IsSeat v) (loose : IsLoose b v) (change : MayBring b shard may v w)
     (small : shard < shards) where
-  pub bring_others : (other : ℕ) (map : Map) → other ≢ shard → IsShard v other → GivesMap v other map → GivesMap w other map
-  bring_others other map differs is gives =
+  pub bring_others : GivesOthers shard v w
+  bring_others = λ other map differs is gives.
       others_give (without b v) w shard may (less_seat b v seat loose.held) small
       (bring_change b v seat loose.held loose.unreached is.only shard may w change) other map differs
       (less_shard b v seat loose.held loose.unreached is.only other is)
       (less_gives b v seat loose.held loose.unreached is.only other is.owned is.kind_is map gives)
 
-  pub bring_shards : (after : Map → Map) → HasShards v → Changes shard after v w → HasShards w
-  bring_shards after has changes =
+  pub bring_shards : LeavesShards shard v w
+  bring_shards = λ after has changes.
       let only = (has.each shard small).only in
       shards_on (without b v) w shard may (less_seat b v seat loose.held) small
       (bring_change b v seat loose.held loose.unreached only shard may w change) after

@@ -13,7 +13,9 @@ pub mod GetLemmas
 pub mod GrownLemmas
 pub mod HandingLemmas
 pub mod ImageLemmas
+pub mod WithoutLemmas
 pub mod LooseLemmas
+pub mod HeadLemmas
 pub mod MakeLemmas
 pub mod MapPublishLemmas
 pub mod MovedLemmas

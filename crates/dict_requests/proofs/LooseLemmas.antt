@@ -1,12 +1,9 @@
 -- A seat as it is without a block that no root reaches: what it gives and reaches, and the block as one that came then.
-use Rattle.std.proofs.Common.{◌≡◌, ◌≢◌, ℕ, ◌+◌, ◌≤◌, ◌⊎◌, inl, inr, List, [], ◌∷◌, ◌++◌, Contains, cond, refl, ap, subst, sym, ◌∙◌, arith}
-use Rattle.std.specs.Prelude.{nat_eq}
+use Rattle.std.proofs.Common.{◌≡◌, ◌≢◌, ℕ, ◌+◌, inl, inr, List, [], ◌∷◌, ◌++◌, Contains, refl, ap, subst, sym, ◌∙◌, arith}
 use Rattle.std.proofs.lemmas.List.Elements.{Contains-append_left}
-use Rattle.std.proofs.lemmas.Bool.{cases_eq, cond-true, cond-false, eq-eqb, ne_eqb}
 use Rattle.heap_model.specs.declared.block.Block.{Block}
 use Rattle.heap_model.specs.Geometry.{root_word}
 use Rattle.heap_model.specs.Blocks.{IsIn}
-use Rattle.heap_model.proofs.MemberLemmas.{in_none, in_head, in_rest, head_or_rest}
 use Rattle.heap_seat.specs.declared.spot.Spot.{Spot}
 use Rattle.heap_seat.specs.declared.spot.Spot.TheVariants.{InBlock, Root}
 use Rattle.heap_seat.specs.View.{View, kind_of, word_of}
@@ -25,8 +22,7 @@ use Rattle.dict_requests.specs.Trails.{pointer_to, IsSettling, Trail, HasCome}
 use Rattle.dict_requests.specs.Quiet.{Grown, FollowsLink}
 use Rattle.dict_requests.specs.Changes.{MayChange, Changes, IsReadPlace}
 use Rattle.dict_requests.specs.Removal.{IsShard}
-use Rattle.dict_requests.specs.Moving.{IsNodeOf, MayBring, head_of}
-use Rattle.dict_requests.specs.Nodes.{StoresWithin, HasNode, WritesHead}
+use Rattle.dict_requests.specs.Moving.{MayBring, head_of}
 use Rattle.dict_requests.specs.Puts.{IsMissing}
 use Rattle.dict_requests.proofs.GrownLemmas.{are_placed, root_reach, link_reach, keeps_none, gives_grown, reached_before}
 use Rattle.dict_requests.proofs.FreedLemmas.{only_freed, gives_freed, reached_freed}
@@ -35,51 +31,7 @@ use Rattle.dict_requests.proofs.MapPublishLemmas.{seen_read, trail_held}
 use Rattle.dict_requests.proofs.ComeLemmas.{IsFollowed, own_link_followed}
 use Rattle.dict_requests.proofs.ExactLemmas.{all_freed}
 use Rattle.dict_requests.proofs.DeleteLemmas.{shard_below}
-use Rattle.dict_requests.proofs.MovedLemmas.{node_kept}
-
--- the blocks that don't begin at the word
-abbrev pub but_at : ℕ → List Block → List Block
-but_at at [] = []
-but_at at (b ∷ bs) = cond (nat_eq b.first_word at) (but_at at bs) (b ∷ but_at at bs)
-
-but_only : (at : ℕ) (bs : List Block) (c : Block) → Contains (but_at at bs) c → Contains bs c × (c.first_word ≢ at)
-but_only at [] c h = absurd (in_none c h)
-but_only at (b ∷ bs) c h = elim (cases_eq b.first_word at) as (λ _. Contains (b ∷ bs) c × (c.first_word ≢ at)) [
-  | inl same ↦
-      let r = but_only at bs c (subst (λ (l : List Block). Contains l c)
-      (cond-true (nat_eq b.first_word at) (but_at at bs) (b ∷ but_at at bs) (eq-eqb b.first_word at same)) h) in
-      (in_rest b c bs r.0, r.1)
-  | inr other ↦
-      elim (head_or_rest b c (but_at at bs) (subst (λ (l : List Block). Contains l c)
-      (cond-false (nat_eq b.first_word at) (but_at at bs) (b ∷ but_at at bs) (ne_eqb b.first_word at other)) h)) as
-      (λ _. Contains (b ∷ bs) c × (c.first_word ≢ at)) [
-        | inl is ↦ (subst (Contains (b ∷ bs)) is (in_head b bs), λ e. other (ap (λ (x : Block). x.first_word) is ∙ e))
-        | inr rest ↦ let r = but_only at bs c rest in (in_rest b c bs r.0, r.1)
-      ]
-]
-
-but_keeps : (at : ℕ) (bs : List Block) (c : Block) → Contains bs c → c.first_word ≢ at → Contains (but_at at bs) c
-but_keeps at [] c h differs = absurd (in_none c h)
-but_keeps at (b ∷ bs) c h differs = elim (cases_eq b.first_word at) as (λ _. Contains (but_at at (b ∷ bs)) c) [
-  | inl same ↦
-      subst (λ (l : List Block). Contains l c) (sym (cond-true (nat_eq b.first_word at) (but_at at bs) (b ∷ but_at at bs)
-      (eq-eqb b.first_word at same)))
-      (elim (head_or_rest b c bs h) as (λ _. Contains (but_at at bs) c) [
-        | inl is ↦ absurd (differs (sym (ap (λ (x : Block). x.first_word) is) ∙ same))
-        | inr rest ↦ but_keeps at bs c rest differs
-      ])
-  | inr other ↦
-      subst (λ (l : List Block). Contains l c) (sym (cond-false (nat_eq b.first_word at) (but_at at bs) (b ∷ but_at at bs)
-      (ne_eqb b.first_word at other)))
-      (elim (head_or_rest b c bs h) as (λ _. Contains (b ∷ but_at at bs) c) [
-        | inl is ↦ subst (Contains (b ∷ but_at at bs)) is (in_head b (but_at at bs))
-        | inr rest ↦ in_rest b c (but_at at bs) (but_keeps at bs c rest differs)
-      ])
-]
-
--- the view without the block
-abbrev pub without : Block → View → View
-without n v = record v { held = but_at n.first_word v.held }
+use Rattle.dict_requests.proofs.WithoutLemmas.{but_at, but_only, but_keeps, without}
 
 -- it has no other values of words
 keeps_on : (n : Block) (v w : View) (word : ℕ) → KeepsWord v w word → KeepsWord (without n v) w word
@@ -93,7 +45,7 @@ settling_less n v word value settling = record { seen = settling.seen; coming = 
 
 module _ (n : Block) (v : View) (seat : IsSeat v) (held : Contains v.held n) where
   -- a block that begins where it does is the block
-  same_first : (c : Block) → Contains v.held c → c.first_word ≡ n.first_word → c ≡ n
+  pub same_first : (c : Block) → Contains v.held c → c.first_word ≡ n.first_word → c ≡ n
   same_first c h e = one_holder (Contains v.held) (are_placed v seat) c n c.first_word h held (first_in (Contains v.held) (are_placed v seat) c h)
       (subst (IsIn n) (sym e) (first_in (Contains v.held) (are_placed v seat) n held))
 
@@ -321,34 +273,3 @@ module _ (n : Block) (v : View) (seat : IsSeat v) (held : Contains v.held n) whe
               is_it last.0 (word_of place.link) h
               (subst (IsIn last.0) (sym (taken.at_is ∙ last.2)) (first_in (Contains v.held) (are_placed v seat) last.0 (less_was last.0 h))) inside
         ]
-
-  -- stores to its link and its key, and that it is a node behind them
-  module _ (small : ℕ) (u : View) (room : 3 ≤ n.words) (within : StoresWithin (head_of n) small v u) where
-    in_head_of : (word : ℕ) → IsIn (head_of n) word → IsIn n word
-    in_head_of word inside = record { from = inside.from; until = let until = inside.until in omega arith }
-
-    pub grown_head : Grown (without n v) u
-    grown_head = less_grown u (λ c h. subst (λ (bs : List Block). Contains bs c) (sym within.held) h) within.roots
-        (λ word own out. within.outside word own (λ inside. out (in_head_of word inside)))
-
-    pub node_behind : (value : List ℕ) → IsNodeOf v n value → IsNodeOf u n value
-    node_behind value node = node_kept v u n value
-        (λ word inside behind. within.outside word (in_block n word held inside) (λ head. let until = head.until in omega arith)) node
-
-    pub head_node : (key next : ℕ) (value : List ℕ) → IsNodeOf v n value → WritesHead n key next v u → HasNode n key next value (without n v) u
-    head_node key next value node writes = record {
-      new = less_gone;
-      held = subst (λ (bs : List Block). Contains bs n) (sym within.held) held;
-      only = λ a h.
-          let was : Contains v.held a = subst (λ (bs : List Block). Contains bs a) within.held h in
-          elim (cases_eq a.first_word n.first_word) as (λ _. (a ≡ n) ⊎ Contains (without n v).held a) [
-            | inl e ↦ inl (same_first a was e)
-            | inr other ↦ inr (but_keeps n.first_word v.held a was other)
-          ];
-      settles = record {
-        each = λ word own pending. writes.settles word (less_own word own) (λ inside. less_outside word own (in_head_of word inside)) pending;
-      };
-      node = node_behind value node;
-      next_is = writes.next_is;
-      key_is = writes.key_is;
-    }

@@ -68,6 +68,14 @@ module _ (v w : View) (shard other : ℕ) (seat : IsSeat v) (only : ReachesOnlyH
         (same_root image mixes) (same_inside image mixes) map first in
         map_wider limit (LeadsTo (Contains w.held)) image other map (λ word c used leads. (stays c (leads.0.0, leads.1), leads.0.1)) second
 
+-- each other shard has its map still
+abbrev pub GivesOthers : ℕ → View → View → Type 0
+GivesOthers shard v w = (other : ℕ) (map : Map) → other ≢ shard → IsShard v other → GivesMap v other map → GivesMap w other map
+
+-- where a request to the shard was answered, each shard has a map
+abbrev pub LeavesShards : ℕ → View → View → Type 0
+LeavesShards shard v w = (after : Map → Map) → HasShards v → Changes shard after v w → HasShards w
+
 module _ (v w : View) (shard : ℕ) (may : Map → Map) (seat : IsSeat v) (small : shard < shards) (change : MayChange shard may v w) where
   owned_on : (other : ℕ) → Contains v.roots other → Contains w.roots other
   owned_on other owned = subst (λ (rs : List ℕ). Contains rs other) (sym change.others.roots) owned
@@ -76,8 +84,8 @@ module _ (v w : View) (shard : ℕ) (may : Map → Map) (seat : IsSeat v) (small
   kind_on other is = kind_kept v w other change.others.kinds ∙ is
 
   -- a request to one shard leaves the other its map, wherever it ends
-  pub others_give : (other : ℕ) (map : Map) → other ≢ shard → IsShard v other → GivesMap v other map → GivesMap w other map
-  others_give other map differs is = gives_others v w shard other seat is.only change.others small is.kind_is differs is.owned map
+  pub others_give : GivesOthers shard v w
+  others_give = λ other map differs is. gives_others v w shard other seat is.only change.others small is.kind_is differs is.owned map
 
   -- one that was answered leaves a map to each
   pub shard_on : (after : Map → Map) (other : ℕ) → IsShard v other → Changes shard after v w → IsShard w other
@@ -98,5 +106,5 @@ module _ (v w : View) (shard : ℕ) (may : Map → Map) (seat : IsSeat v) (small
     }
   ]
 
-  pub shards_on : (after : Map → Map) → HasShards v → Changes shard after v w → HasShards w
-  shards_on after has changes = record { each = λ other below. shard_on after other (has.each other below) changes }
+  pub shards_on : LeavesShards shard v w
+  shards_on = λ after has changes. record { each = λ other below. shard_on after other (has.each other below) changes }

@@ -33,7 +33,7 @@ use Rattle.dict_requests.proofs.TrailLemmas.{now_image, settled_stays, come_stay
 use Rattle.dict_requests.proofs.MapPublishLemmas.{trail_held}
 use Rattle.dict_requests.proofs.ComeLemmas.{followed_leads, own_link_followed, begins_chain, link_behind_roots, last_not_table, trail_kept}
 use Rattle.dict_requests.proofs.PublishLemmas.{reached_after}
-use Rattle.dict_requests.proofs.PutLemmas.{put_left, put_done, old_key, publish}
+use Rattle.dict_requests.proofs.PutLemmas.{MaySet, put_left, put_done, old_key, publish}
 use Rattle.dict_requests.proofs.ExactLemmas.{SeesLink, target_sees, come_sees, node_link, sees_grown, sees_after, sees_freed}
 use Rattle.dict_requests.proofs.ExactCallLemmas.{come_kept, one_kind, leads_to_node, next_value, not_root}
 use Rattle.dict_requests.proofs.ChangeLemmas.{change_after, changes_after, freed}
@@ -111,12 +111,12 @@ module _ (v t u w : View) (seat_t : IsSeat t) (seat : IsSeat u) (key next x : �
       (pointer_to place.node) taken.at_is found.link may points own_t table_t taken.next_is first_word_own still.kind_is kinds_w
       place.node refl taken.key_is key_word_own
 
-  left_here : MayChange (shard_of key) (λ map. with_key map key value) u w
+  left_here : MaySet key value u w
   left_here = put_left t u seat grown_u kinds_u only_t key next value n makes.held makes.new makes.node makes.key_is makes.next_is next_leads
       w still.only taken.table taken.before (place.node ∷ []) taken.come found.come (word_of place.link) x
       (pointer_to place.node) taken.at_is found.link may points own_t table_t taken.next_is first_word_own still.kind_is kinds_w new_map
 
-  pub over_left : MayChange (shard_of key) (λ map. with_key map key value) v w
+  pub over_left : MaySet key value v w
   over_left = change_after (shard_of key) (λ map. with_key map key value) v u w grown_all kinds_all seat shard.only left_here
 
   pub old_still : Contains w.held place.node

@@ -27,6 +27,10 @@ use Rattle.dict_requests.proofs.ValueLemmas.{value_of_words}
 use Rattle.dict_requests.proofs.ReadLemmas.{value_length}
 use Rattle.dict_requests.proofs.DeleteLemmas.{shard_below}
 
+-- a crash leaves the map of the key's shard as it was, or with the value set
+abbrev pub MaySet : ℕ → List ℕ → View → View → Type 0
+MaySet key value = MayChange (shard_of key) (λ map. with_key map key value)
+
 -- a settled word is read as one value
 pub one_reading : (u : View) (word value read : ℕ) → IsDurableAt u word value → MayRead u word read → read ≡ value
 one_reading u word value read settled (inl may) = subst (λ (known : Option ℕ). MayBe known read) settled.seen may

@@ -5,6 +5,7 @@ pub mod Changes
 pub mod Maps
 pub mod Moving
 pub mod MovingExamples
+pub mod BringExamples
 pub mod Nodes
 pub mod Puts
 pub mod Quiet

@@ -32,6 +32,7 @@ pub record LinkReaches (reads : Reading) (v : View) (a : Block) (from : ℕ) (b 
   pub read : reads (a.first_word + position) value
   pub leads : LeadsTo (Contains v.held) value b
 
+-- the root reaches the block as one of the kind, by values of links that are read so
 abbrev pub ReachesBy : (View → Reading) → View → ℕ → Block → ℕ → Type 0
 ReachesBy reads v root = Closure (RootReaches (reads v) v root) (LinkReaches (reads v) v)
 

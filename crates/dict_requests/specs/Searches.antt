@@ -37,6 +37,7 @@ EndsAt key v w (Missing table) =
     HasCome IsSettling w (shard_of key) key table [] × ((map : Map) → GivesMap v (shard_of key) map → map key ≡ None)
 EndsAt key v w (Found place) = IsFoundPlace w key place
 
+-- a search for the key ends so, and leaves nothing unsettled but what it followed
 pub record Searches (key : ℕ) (search : SearchEnd) (v w : View) : Type 0 where
   pub goes : GoesPending v w
   pub ends : EndsAt key v w search

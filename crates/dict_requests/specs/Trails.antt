@@ -9,6 +9,7 @@ use Rattle.heap_seat.specs.Words.{IsOwn, MixesOwn}
 use Rattle.dict_model.specs.Nodes.{buckets, shard_of, bucket_of, find}
 use Rattle.dict_requests.specs.Reached.{Reading}
 
+-- the pointer word that leads to the block
 abbrev pub pointer_to : Block → ℕ
 pointer_to b = pointer_tag + 8 * b.first_word
 
