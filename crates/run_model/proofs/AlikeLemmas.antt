@@ -76,10 +76,8 @@ module _ (image left other : Image) (requests : List Request) (a b : Replies) (o
   same_left whole is = record {
     each = λ key.
         let at = two.leaves.each key in
-        let all = λ (m : Map) (rs : List (Request × Reply)). after m (rs ++ arrivals m rs) key in
-        let then : all two.whole (answered requests b) ≡ all one.whole (answered requests a) =
-        ap (λ (m : Map). all m (answered requests b)) same_whole ∙ ap (λ rs. all one.whole rs) same_answers in
-        (at.0, at.1, at.2 ∙ then ∙ one_whole left (all_of one.whole (answered requests a)) whole one.leaves is key);
-  } where
-    all_of : Map → List (Request × Reply) → Map
-    all_of m rs = after m (rs ++ arrivals m rs)
+        let all = λ (m : Map) (rs : List (Request × Reply)). after m (rs ++ arrivals m rs) in
+        let then : all two.whole (answered requests b) key ≡ all one.whole (answered requests a) key =
+        ap (λ (m : Map). all m (answered requests b) key) same_whole ∙ ap (λ rs. all one.whole rs key) same_answers in
+        (at.0, at.1, at.2 ∙ then ∙ one_whole left (all one.whole (answered requests a)) whole one.leaves is key);
+  }

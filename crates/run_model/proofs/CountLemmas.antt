@@ -6,13 +6,14 @@ use Rattle.std.proofs.lemmas.List.Sums.{sum_by-cons}
 use Rattle.heap_model.proofs.MemberLemmas.{in_none, in_head, in_rest, head_or_rest}
 use Rattle.run_model.specs.Spending.{is_set}
 
--- where what passed still passes, no fewer do, and one more where one passes that did not
-one_count : (a b : Bool) → (a ≡ true → b ≡ true) → cond a 1 0 ≤ cond b 1 0
+-- a test that passes wherever another one does counts no less
+pub one_count : (a b : Bool) → (a ≡ true → b ≡ true) → cond a 1 0 ≤ cond b 1 0
 one_count true true more = let all : 1 ≤ 1 = omega arith in all
 one_count true false more = let e : false ≡ true = more refl in absurd (cc)
 one_count false true more = let all : 0 ≤ 1 = omega arith in all
 one_count false false more = let all : 0 ≤ 0 = omega arith in all
 
+-- where what passed still passes, no fewer do, and one more where one passes that did not
 pub count_rises : (p q : ℕ → Bool) (xs : List ℕ) → ((x : ℕ) → Contains xs x → p x ≡ true → q x ≡ true) → count_by p xs ≤ count_by q xs
 count_rises p q [] more = let all : 0 ≤ 0 = omega arith in all
 count_rises p q (x ∷ xs) more =

@@ -94,7 +94,7 @@ span_fits workers worker requests replies =
     omega arith
 
 -- an answered request is one that its worker answered
-answered_of : (workers worker : ℕ) (requests : List Request) (replies : Replies) (x : Request × Reply) → is_of_worker workers worker x.0 ≡ true
+pub answered_of : (workers worker : ℕ) (requests : List Request) (replies : Replies) (x : Request × Reply) → is_of_worker workers worker x.0 ≡ true
     → Contains (answered requests replies) x
     → Contains (worker_answered workers worker requests replies) x
 answered_of workers worker [] replies x mine h = absurd (in_none x h)

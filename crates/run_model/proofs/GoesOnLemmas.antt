@@ -24,7 +24,7 @@ use Rattle.run_model.proofs.StandsLemmas.{others_stay}
 use Rattle.dict_requests.proofs.OthersLemmas.{gives_others}
 
 -- the map after one request more
-after_push : (map : Map) (xs : List (Request × Reply)) (x : Request × Reply) → after map (xs ++ (x ∷ [])) ≡ after_one (after map xs) x.0 x.1
+pub after_push : (map : Map) (xs : List (Request × Reply)) (x : Request × Reply) → after map (xs ++ (x ∷ [])) ≡ after_one (after map xs) x.0 x.1
 after_push map [] x = refl
 after_push map (y ∷ ys) x = after_push (after_one map y.0 y.1) ys x
 
@@ -34,12 +34,12 @@ right_push map [] x all is = (is, tt)
 right_push map (y ∷ ys) x all is = (all.0, right_push (after_one map y.0 y.1) ys x all.1 is)
 
 -- the requests to a shard, with one more of it or of another
-push_same : (shard : ℕ) (xs : List (Request × Reply)) (x : Request × Reply) → shard_asked x.0 ≡ shard
+pub push_same : (shard : ℕ) (xs : List (Request × Reply)) (x : Request × Reply) → shard_asked x.0 ≡ shard
     → of_shard shard (xs ++ (x ∷ [])) ≡ of_shard shard xs ++ (x ∷ [])
 push_same shard xs x same = filter-append (λ r. is_to shard r.0) xs (x ∷ [])
     ∙ ap (λ zs. of_shard shard xs ++ zs) (cond-true (is_to shard x.0) (x ∷ []) [] (eq-eqb (shard_asked x.0) shard same))
 
-push_other : (shard : ℕ) (xs : List (Request × Reply)) (x : Request × Reply) → shard_asked x.0 ≢ shard
+pub push_other : (shard : ℕ) (xs : List (Request × Reply)) (x : Request × Reply) → shard_asked x.0 ≢ shard
     → of_shard shard (xs ++ (x ∷ [])) ≡ of_shard shard xs
 push_other shard [] x other = cond-false (is_to shard x.0) (x ∷ []) [] (ne_eqb (shard_asked x.0) shard other)
 push_other shard (y ∷ ys) x other = ap (λ zs. cond (is_to shard y.0) (y ∷ zs) zs) (push_other shard ys x other)

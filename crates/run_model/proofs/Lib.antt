@@ -8,5 +8,6 @@ pub mod OneMapLemmas
 pub mod SendingLemmas
 pub mod StandsLemmas
 pub mod SumLemmas
+pub mod TargetLemmas
 pub mod TogetherLemmas
 pub mod UnmovedLemmas

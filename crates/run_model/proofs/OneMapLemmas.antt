@@ -2,7 +2,8 @@
 use Rattle.std.proofs.Common.{◌≡◌, ◌≢◌, ◌⊎◌, ℕ, ◌+◌, ◌<◌, ◌≤◌, inl, inr, List, [], ◌∷◌, ◌++◌, length, map, filter, take, None, Some, Bool, true, false, cond, nat_eq, Contains, refl, subst, sym, ap, ◌∙◌, arith}
 use Rattle.std.proofs.Math.Nat.{mod-lt}
 use Rattle.std.proofs.Math.Seq.{take-length}
-use Rattle.std.proofs.lemmas.Bool.{eq-eqb, eqb-true, ne_eqb, cond-false}
+use Rattle.std.proofs.lemmas.Bool.{eq-eqb, eqb-true, ne_eqb, cond-false, false_from_ne_true, false≢true}
+use Rattle.std.proofs.lemmas.List.Elements.{filter-append}
 use Rattle.heap_model.specs.Image.{Image}
 use Rattle.heap_model.specs.Header.{capacity_of, used_of}
 use Rattle.heap_model.proofs.MemberLemmas.{in_none, in_head, in_rest, head_or_rest}
@@ -143,24 +144,25 @@ pub whole_after : (image : Image) (whole : Map) → IsWholeMap image whole → (
     → after part (of_shard shard rs) key ≡ after whole rs key
 whole_after image whole is shard part map_is rs key of = (part_after shard part whole rs (part_of image whole is shard part map_is)).same key of
 
--- what comes to a shard comes to its worker
-arrived_of : (workers shard : ℕ) (rs xs : List (Request × Reply))
+-- what passes the narrower of two tests is all there behind the wider one
+filter_within : {X : Type 0} (narrow wide : X → Bool) → ((x : X) → narrow x ≡ true → wide x ≡ true) → (xs : List X)
+    → filter narrow (filter wide xs) ≡ filter narrow xs
+filter_within narrow wide so [] = refl
+filter_within narrow wide so (x ∷ xs) = by_case (wide x) (so x) (filter_within narrow wide so xs) where
+  by_case : (b : Bool) → (narrow x ≡ true → b ≡ true) → filter narrow (filter wide xs) ≡ filter narrow xs
+      → filter narrow (cond b (x ∷ filter wide xs) (filter wide xs)) ≡ cond (narrow x) (x ∷ filter narrow xs) (filter narrow xs)
+  by_case true passes same = ap (λ ys. cond (narrow x) (x ∷ ys) ys) same
+  by_case false passes same = same ∙ sym (cond-false (narrow x) (x ∷ filter narrow xs) (filter narrow xs)
+      (false_from_ne_true (narrow x) (λ e. false≢true (passes e))))
+
+-- what arrives in a shard arrives at its worker
+pub arrives_there : (workers shard : ℕ) (rs xs : List (Request × Reply))
     → of_shard shard (rs ++ filter (λ r. is_of_worker workers (worker_of workers shard) r.0) xs) ≡ of_shard shard (rs ++ xs)
-arrived_of workers shard [] [] = refl
-arrived_of workers shard [] (x ∷ xs) =
-    by_case (filter (λ r. is_of_worker workers (worker_of workers shard) r.0) xs) (arrived_of workers shard [] xs)
-    (is_to shard x.0) refl (is_of_worker workers (worker_of workers shard) x.0) refl where
-      by_case : (rest : List (Request × Reply)) → of_shard shard rest ≡ of_shard shard xs
-          → (to : Bool) → is_to shard x.0 ≡ to → (of : Bool) → is_of_worker workers (worker_of workers shard) x.0 ≡ of
-          → of_shard shard (cond of (x ∷ rest) rest) ≡ cond to (x ∷ of_shard shard xs) (of_shard shard xs)
-      by_case rest same true is true mine = ap (λ b. cond b (x ∷ of_shard shard rest) (of_shard shard rest)) is ∙ ap (λ ys. x ∷ ys) same
-      by_case rest same true is false other =
-          let e : true ≡ false = sym (eq-eqb (worker_of workers (shard_asked x.0)) (worker_of workers shard)
-          (ap (worker_of workers) (eqb-true (shard_asked x.0) shard is))) ∙ other in
-          absurd (cc)
-      by_case rest same false is true mine = ap (λ b. cond b (x ∷ of_shard shard rest) (of_shard shard rest)) is ∙ same
-      by_case rest same false is false other = same
-arrived_of workers shard (r ∷ rs) xs = ap (λ ys. cond (is_to shard r.0) (r ∷ ys) ys) (arrived_of workers shard rs xs)
+arrives_there workers shard rs xs =
+    filter-append (λ r. is_to shard r.0) rs (filter (λ r. is_of_worker workers (worker_of workers shard) r.0) xs)
+    ∙ ap (λ ys. of_shard shard rs ++ ys) (filter_within (λ r. is_to shard r.0) (λ r. is_of_worker workers (worker_of workers shard) r.0)
+    (λ r to. eq-eqb (worker_of workers (shard_asked r.0)) (worker_of workers shard) (ap (worker_of workers) (eqb-true (shard_asked r.0) shard to))) xs)
+    ∙ sym (filter-append (λ r. is_to shard r.0) rs xs)
 
 module _ (image : Image) (requests : List Request) (replies : Replies) (whole : Map) (have : HasMaps image) (is : IsWholeMap image whole) where
   pub whole_right : RepliesRightly image requests replies → AreReplies whole (answered requests replies)
@@ -180,7 +182,7 @@ module _ (image : Image) (requests : List Request) (replies : Replies) (whole : 
         let some : take (leaves.arrived (worker_of workers shard)) mine ≡ mine =
         ap (λ n. take n mine) (leaves.have_arrived.all refl whole is shard below) ∙ take-length mine in
         let all : of_shard shard (rs ++ take (leaves.arrived (worker_of workers shard)) mine) ≡ of_shard shard (rs ++ arrivals whole rs) =
-        ap (λ xs. of_shard shard (rs ++ xs)) some ∙ arrived_of workers shard rs (arrivals whole rs) in
+        ap (λ xs. of_shard shard (rs ++ xs)) some ∙ arrives_there workers shard rs (arrivals whole rs) in
         let then = after of.0 (of_shard shard (rs ++ arrivals whole rs)) in
         let there : MapOf left shard then = subst (λ xs. MapOf left shard (after of.0 xs)) all (closed (leaves.each whole is shard of.0 below of.1)) in
         (then, there, (part_after shard of.0 whole (rs ++ arrivals whole rs) (part_of image whole is shard of.0 of.1)).same key refl);

@@ -107,7 +107,7 @@ record IsFor (workers worker : ℕ) (part whole : Map) : Type 0 where
   same : (key : ℕ) → worker_of workers (shard_of key) ≡ worker → part key ≡ whole key
 
 -- where the key asked has the same, the same is sent
-sends_alike : (part whole : Map) (number : ℕ) (q : Request) (a : Reply) → part (key_of q) ≡ whole (key_of q)
+pub sends_alike : (part whole : Map) (number : ℕ) (q : Request) (a : Reply) → part (key_of q) ≡ whole (key_of q)
     → sends part number q a ≡ sends whole number q a
 sends_alike part whole number (put key value) a same = refl
 sends_alike part whole number (get key) a same = refl
@@ -117,7 +117,7 @@ sends_alike part whole number (move key to) full same = refl
 sends_alike part whole number (move key to) none same = refl
 sends_alike part whole number (move key to) (found v) same = refl
 
-none_told : (part : Map) (ns : List (ℕ × Request)) → all_sent part ns [] ≡ []
+pub none_told : (part : Map) (ns : List (ℕ × Request)) → all_sent part ns [] ≡ []
 none_told part [] = refl
 none_told part (n ∷ ns) = refl
 

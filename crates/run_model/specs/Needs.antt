@@ -56,14 +56,15 @@ is_moved_to (get key ∷ requests) shard = is_moved_to requests shard
 is_moved_to (del key ∷ requests) shard = is_moved_to requests shard
 is_moved_to (move key to ∷ requests) shard = nat_eq (shard_of to) shard || is_moved_to requests shard
 
--- whether that is so of a shard of the worker: it is to have a table before the first request; and how many such shards there are
+-- whether that is so of a shard of the worker: it is to have a table before the first request
 abbrev pub is_target_of : ℕ → ℕ → List Request → ℕ → Bool
 is_target_of workers worker requests shard = nat_eq (worker_of workers shard) worker && is_moved_to requests shard
 
+-- how many such shards the worker has
 abbrev pub targets_of : ℕ → ℕ → List Request → ℕ
 targets_of workers worker requests = count_by (is_target_of workers worker requests) (words_from (λ i. i) 0 shards)
 
--- how many of the requests are puts, and how many are moves
+-- how many of the requests are puts
 abbrev pub puts_among : List Request → ℕ
 puts_among [] = 0
 puts_among (put key value ∷ requests) = 1 + puts_among requests
@@ -71,6 +72,7 @@ puts_among (get key ∷ requests) = puts_among requests
 puts_among (del key ∷ requests) = puts_among requests
 puts_among (move key to ∷ requests) = puts_among requests
 
+-- how many of them are moves
 abbrev pub moves_among : List Request → ℕ
 moves_among [] = 0
 moves_among (put key value ∷ requests) = moves_among requests

@@ -37,11 +37,12 @@ pub record AnswersInOrder (requests : List Request) (replies : Replies) : Type 0
   pub first : requests ≡ map (λ r. r.0) (answered requests replies) ++ unanswered requests replies
   pub then_none : replies ≡ map (λ r. Some r.1) (answered requests replies) ++ replicate (length (unanswered requests replies)) None
 
--- what a worker has answered, with the replies, and what it has not
+-- the requests that a worker has answered, with their replies
 abbrev pub worker_answered : ℕ → ℕ → List Request → Replies → List (Request × Reply)
 worker_answered workers worker requests replies =
     answered (worker_requests workers worker requests) (worker_replies workers worker requests replies)
 
+-- those of its requests that are unanswered
 abbrev pub worker_unanswered : ℕ → ℕ → List Request → Replies → List Request
 worker_unanswered workers worker requests replies =
     unanswered (worker_requests workers worker requests) (worker_replies workers worker requests replies)
@@ -134,7 +135,7 @@ pub record LeavesMaps (image : Image) (workers : ℕ) (requests : List Request) 
 abbrev pub IsOtherRoot : ℕ → Type 0
 IsOtherRoot root = shards ≤ root
 
--- the image that is left has a good header and nothing outside, so it can be opened again; and what belongs to no shard is in it as it was
+-- the image that is left has a good header, of the same capacity and kinds, and its words without a meaning are as they were
 pub record LeavesHeader (image : Image) (words_left : ℕ) (left : Image) : Type 0 where
   pub well_formed : header_fault (Some kind_count) (8 * words_left) left ≡ None
   pub version_is : left version_word ≡ version
@@ -142,6 +143,7 @@ pub record LeavesHeader (image : Image) (words_left : ℕ) (left : Image) : Type
   pub kinds : (root : ℕ) → root < roots → kinds_of left root ≡ kinds_of image root
   pub without_meaning : (word : ℕ) → IsReserved (capacity_of image) word → left word ≡ image word
 
+-- nothing is outside in it, so it can be opened again; and what belongs to no shard is in it as it was
 pub record LeavesOthers (image left : Image) : Type 0 where
   pub nothing_outside : (at : ℕ) → IsOutsideIn left dict_links at → ⊥
   pub roots_are : (root : ℕ) → IsOtherRoot root → root < roots → left (root_word root) ≡ image (root_word root)

@@ -11,10 +11,11 @@ pub record Sent : Type 0 where
   pub key : ℕ
   pub value : List ℕ
 
--- as a request, it is a put of the key that is done; and as requests they are such puts, in the same order
+-- as a request, it is a put of the key that is done
 abbrev pub put_of : Sent → Request × Reply
 put_of s = (put s.key s.value, done)
 
+-- values that were sent are such puts, in the same order
 abbrev pub puts_of : List Sent → List (Request × Reply)
 puts_of values = map put_of values
 

@@ -15,6 +15,7 @@ sent number key value = record { number = number; key = key; value = value }
 abbrev pub crossing : List Request
 crossing = put 5 (97 ∷ []) ∷ move 5 6 ∷ put 6 (98 ∷ []) ∷ move 6 13 ∷ put 5 (99 ∷ []) ∷ move 5 14 ∷ []
 
+-- each of these six requests is told that it is done
 abbrev pub all_done : Replies
 all_done = replicate 6 (Some done)
 

@@ -21,6 +21,7 @@ is_set (Some x) = not (nat_eq x 0)
 abbrev pub sees_table : View → ℕ → Bool
 sees_table v shard = is_set (v.volatile (root_word shard))
 
+-- the request is a put, the only one that may make a table
 abbrev pub IsPut : Request → Type 0
 IsPut (put key value) = Unit {0}
 IsPut (get key) = ⊥
@@ -38,10 +39,11 @@ pub record HadNoRoom (request : Request) (w : View) : Type 0 where
   pub past : w.capacity < w.used_look.seen + node_span request
   pub now : w.used_look.taken ≡ w.taken
 
--- how many of the wanted shards have no table, as loads see it; and how many got one from the first view to the second
+-- how many of the wanted shards have no table, as loads see it
 abbrev pub tables_missing : (ℕ → Bool) → View → ℕ
 tables_missing wanted v = count_by (λ shard. wanted shard && not (sees_table v shard)) (words_from (λ i. i) 0 shards)
 
+-- how many of them got one from the first view to the second
 abbrev pub tables_made : (ℕ → Bool) → View → View → ℕ
 tables_made wanted v w = count_by (λ shard. wanted shard && (sees_table w shard && not (sees_table v shard))) (words_from (λ i. i) 0 shards)
 

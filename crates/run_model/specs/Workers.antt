@@ -9,13 +9,14 @@ use Rattle.dict_model.specs.Requests.{Request, put, get, del, move, Reply}
 abbrev pub Replies : Type 0
 Replies = List (Option Reply)
 
--- the key that a request is about, of a move the one that it takes out; and the shard of the key
+-- the key that a request is about, of a move the one that it takes out
 abbrev pub key_of : Request → ℕ
 key_of (put key value) = key
 key_of (get key) = key
 key_of (del key) = key
 key_of (move key to) = key
 
+-- the shard of that key
 abbrev pub shard_asked : Request → ℕ
 shard_asked request = shard_of (key_of request)
 
@@ -27,13 +28,15 @@ worker_of workers shard = shard % workers
 abbrev pub root_owner : ℕ → ℕ → ℕ
 root_owner workers root = cond (nat_lt root shards) (worker_of workers root) 0
 
+-- whether a request belongs to the worker
 abbrev pub is_of_worker : ℕ → ℕ → Request → Bool
 is_of_worker workers worker request = nat_eq (worker_of workers (shard_asked request)) worker
 
--- a worker's requests, in the order of the trace, and the replies to them
+-- a worker's requests, in the order of the trace
 abbrev pub worker_requests : ℕ → ℕ → List Request → List Request
 worker_requests workers worker requests = filter (is_of_worker workers worker) requests
 
+-- the replies to a worker's requests, in the same order
 abbrev pub worker_replies : ℕ → ℕ → List Request → Replies → Replies
 worker_replies workers worker [] replies = []
 worker_replies workers worker (request ∷ requests) [] = []

@@ -1,6 +1,7 @@
 -- What a worker sends, request by request.
-use Rattle.std.proofs.Common.{◌≡◌, ℕ, ◌+◌, inl, inr, List, [], ◌∷◌, ◌++◌, map, filter, Some, Bool, true, false, Contains, refl, subst, sym, ap, ◌∙◌}
+use Rattle.std.proofs.Common.{◌≡◌, ℕ, ◌+◌, inl, inr, List, [], ◌∷◌, ◌++◌, map, filter, Some, Bool, true, false, Contains, refl, subst, sym, ap, ◌∙◌, append_assoc}
 use Rattle.std.proofs.lemmas.Bool.{cond-true, cond-false}
+use Rattle.std.proofs.lemmas.List.{append-nil, map_push}
 use Rattle.std.proofs.lemmas.List.Elements.{Contains-append_cases}
 use Rattle.std.specs.List.Sorted.{IsPermutation}
 use Rattle.std.proofs.lemmas.List.Sorted.{IsPermutation-refl, IsPermutation-trans, IsPermutation-append_comm, IsPermutation-append_left, IsPermutation-append_right}
@@ -16,6 +17,7 @@ use Rattle.run_model.specs.Sending.{Sent, sends, all_sent, numbered, worker_numb
 use Rattle.run_model.specs.Workers.{Replies, is_of_worker, key_of, shard_asked}
 use Rattle.run_model.specs.Working.{HasWorked}
 use Rattle.run_model.proofs.OneMapLemmas.{small_shard, whole_after}
+use Rattle.run_model.proofs.TogetherLemmas.{none_told, sends_alike}
 use Rattle.shard_moves.specs.declared.away.MoveAnswer.{MoveAnswer}
 use Rattle.shard_moves.specs.declared.away.MoveAnswer.TheVariants.{Done, Full, Missing}
 use Rattle.shard_moves.specs.Moves.{reply_of, SendsFor}
@@ -31,42 +33,20 @@ asked_by ds = map (λ d. (d.0, d.1.0)) ds
 abbrev pub told_by : List Answered → Replies
 told_by ds = map (λ d. Some d.1.1) ds
 
--- what is sent depends on the value of the request's key alone
-sends_alike : (a b : Map) (number : ℕ) (q : Request) (r : Reply) → a (key_of q) ≡ b (key_of q) → sends a number q r ≡ sends b number q r
-sends_alike a b number (put k v) r same = refl
-sends_alike a b number (get k) r same = refl
-sends_alike a b number (del k) r same = refl
-sends_alike a b number (move k to) done same = ap (λ o. on_its_way o number to) same
-sends_alike a b number (move k to) full same = refl
-sends_alike a b number (move k to) none same = refl
-sends_alike a b number (move k to) (found v) same = refl
-
-append_three : {X : Type 0} (xs ys zs : List X) → (xs ++ ys) ++ zs ≡ xs ++ (ys ++ zs)
-append_three [] ys zs = refl
-append_three (x ∷ xs) ys zs = ap (λ l. x ∷ l) (append_three xs ys zs)
-
-append_none : {X : Type 0} (xs : List X) → xs ++ [] ≡ xs
-append_none [] = refl
-append_none (x ∷ xs) = ap (λ l. x ∷ l) (append_none xs)
-
 -- one request more sends what it sends after those before
 sent_push : (m : Map) (ds : List Answered) (d : Answered)
     → all_sent m (asked_by (ds ++ (d ∷ []))) (told_by (ds ++ (d ∷ []))) ≡ all_sent m (asked_by ds) (told_by ds) ++ sends
     (after m (map (λ x. x.1) ds)) d.0 d.1.0 d.1.1
-sent_push m [] d = append_none (sends m d.0 d.1.0 d.1.1)
+sent_push m [] d = append-nil (sends m d.0 d.1.0 d.1.1)
 sent_push m (x ∷ ds) d =
     ap (λ l. sends m x.0 x.1.0 x.1.1 ++ l) (sent_push (after_one m x.1.0 x.1.1) ds d)
-    ∙ sym (append_three (sends m x.0 x.1.0 x.1.1) (all_sent (after_one m x.1.0 x.1.1) (asked_by ds) (told_by ds))
+    ∙ sym (append_assoc (sends m x.0 x.1.0 x.1.1) (all_sent (after_one m x.1.0 x.1.1) (asked_by ds) (told_by ds))
     (sends (after m (map (λ y. y.1) (x ∷ ds))) d.0 d.1.0 d.1.1))
 
 -- requests without a reply send nothing
-sent_none : (m : Map) (ns : List (ℕ × Request)) → all_sent m ns [] ≡ []
-sent_none m [] = refl
-sent_none m (n ∷ ns) = refl
-
 sent_first : (m : Map) (ds : List Answered) (rest : List (ℕ × Request))
     → all_sent m (asked_by ds ++ rest) (told_by ds) ≡ all_sent m (asked_by ds) (told_by ds)
-sent_first m [] rest = sent_none m rest
+sent_first m [] rest = none_told m rest
 sent_first m (d ∷ ds) rest = ap (λ l. sends m d.0 d.1.0 d.1.1 ++ l) (sent_first (after_one m d.1.0 d.1.1) ds rest)
 
 -- a worker has come so far in the trace, of which these requests are left, the first of this number; what its requests
@@ -109,10 +89,6 @@ sent_past image workers worker requests left rest q number next rs told old new 
   sent = so.sent;
 }
 
-map_last : {X Y : Type 0} (f : X → Y) (xs : List X) (x : X) → map f (xs ++ (x ∷ [])) ≡ map f xs ++ (f x ∷ [])
-map_last f [] x = refl
-map_last f (y ∷ ys) x = ap (λ l. f y ∷ l) (map_last f ys x)
-
 -- the worker's requests among these, of which the first has this number
 abbrev numbers_behind : ℕ → ℕ → List Request → ℕ → List (ℕ × Request)
 numbers_behind workers worker rest k = filter (λ n. is_of_worker workers worker n.1) (numbered k rest)
@@ -128,14 +104,14 @@ pub sent_next : (image : Image) (workers worker : ℕ) (mine requests left rest 
 sent_next image workers worker mine requests left rest after_it q r number next rs told told_now old cur new v maps owned worked rs_is is count
     mine_it now has so = record {
       ds = so.ds ++ ((number, (q, r)) ∷ []);
-      rs_are = ap (λ l. l ++ ((q, r) ∷ [])) so.rs_are ∙ sym (map_last (λ d. d.1) so.ds (number, (q, r)));
-      told_are = now ∙ ap (λ l. l ++ (Some r ∷ [])) so.told_are ∙ sym (map_last (λ d. Some d.1.1) so.ds (number, (q, r)));
+      rs_are = ap (λ l. l ++ ((q, r) ∷ [])) so.rs_are ∙ sym (map_push (λ d. d.1) so.ds (number, (q, r)));
+      told_are = now ∙ ap (λ l. l ++ (Some r ∷ [])) so.told_are ∙ sym (map_push (λ d. Some d.1.1) so.ds (number, (q, r)));
       mine_are = so.mine_are
           ∙ ap (λ ls. asked_by so.ds ++ filter (λ n. is_of_worker workers worker n.1) (numbered number ls)) is
           ∙ ap (λ l. asked_by so.ds ++ l) (cond-true (is_of_worker workers worker q) ((number, q) ∷ numbers_behind workers worker rest (number + 1))
           (numbers_behind workers worker rest (number + 1)) mine_it)
-          ∙ sym (append_three (asked_by so.ds) ((number, q) ∷ []) (numbers_behind workers worker rest (number + 1)))
-          ∙ ap (λ l. l ++ numbers_behind workers worker rest (number + 1)) (sym (map_last (λ d. (d.0, d.1.0)) so.ds (number, (q, r))))
+          ∙ sym (append_assoc (asked_by so.ds) ((number, q) ∷ []) (numbers_behind workers worker rest (number + 1)))
+          ∙ ap (λ l. l ++ numbers_behind workers worker rest (number + 1)) (sym (map_push (λ d. (d.0, d.1.0)) so.ds (number, (q, r))))
           ∙ ap (λ k. asked_by (so.ds ++ ((number, (q, r)) ∷ [])) ++ numbers_behind workers worker rest k) (sym count);
       sent = λ whole is_whole. all_are whole is_whole;
     } where
@@ -160,7 +136,7 @@ sent_next image workers worker mine requests left rest after_it q r number next 
           let turned : IsPermutation ((before ++ one) ++ old) ((one ++ before) ++ old) =
           IsPermutation-append_left old (before ++ one) (one ++ before) (IsPermutation-append_comm before one) in
           let grouped : IsPermutation ((before ++ one) ++ old) (one ++ (before ++ old)) =
-          subst (IsPermutation ((before ++ one) ++ old)) (append_three one before old) turned in
+          subst (IsPermutation ((before ++ one) ++ old)) (append_assoc one before old) turned in
           let carried : IsPermutation (one ++ (before ++ old)) (one ++ cur) = IsPermutation-append_right one (before ++ old) cur (so.sent whole is_whole) in
           let all : IsPermutation ((before ++ one) ++ old) new =
           IsPermutation-trans ((before ++ one) ++ old) (one ++ cur) new (IsPermutation-trans ((before ++ one) ++ old) (one ++ (before ++ old))

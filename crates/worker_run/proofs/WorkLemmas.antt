@@ -107,10 +107,6 @@ push_between : {X : Type 0} (xs ys : List X) (y : X) → xs ++ (y ∷ ys) ≡ (x
 push_between [] ys y = refl
 push_between (x ∷ xs) ys y = ap (λ zs. x ∷ zs) (push_between xs ys y)
 
-pub map_push : {X Y : Type 0} (f : X → Y) (xs : List X) (x : X) → map f (xs ++ (x ∷ [])) ≡ map f xs ++ (f x ∷ [])
-map_push f [] x = refl
-map_push f (y ∷ ys) x = ap (λ zs. f y ∷ zs) (map_push f ys x)
-
 -- one request more
 pub work_goes_on : (image : Image) (requests left : List Request) (q : Request) (replies : Replies) (r : Reply) (v w : View) → IsSeat v
     → HasWorked image requests (q ∷ left) replies v → MayAnswer q v w → Answers q r v w → HasWorked image requests left (replies ++ (Some r ∷ [])) w
