@@ -1,8 +1,13 @@
+pub mod ArgumentLemmas
 pub mod OneCommandLemmas
 pub mod CommandLemmas
 pub mod WalkingLemmas
 pub mod FormLemmas
 pub mod RunFormLemmas
 pub mod FaultlessLemmas
+pub mod GivenLemmas
+pub mod PassingLemmas
+pub mod PlainWordLemmas
 pub mod TakenLemmas
 pub mod RuleLemmas
+pub mod WrittenLemmas

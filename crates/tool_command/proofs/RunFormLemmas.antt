@@ -11,8 +11,10 @@ use Rattle.image_run.specs.declared.options.TheConstants.{MOST_WORKERS, MOST_BUD
 use Rattle.tool_command.specs.CommandLine.{run_app, rebuild_app, image_id, map_id, workers_id, stop_id, seed_id, sum_id, option_rule, needed_option_rule, flag_rule}
 use Rattle.tool_command.specs.Command.{Command, Asks, AsksToRun, AsksToRebuild, format_image, show_image, drain_image, gen_trace, run_image, rebuild_image, replay_image, conservative_image, count_image}
 use Rattle.tool_command.specs.Forms.{IsForm, IsRunForm, IsRebuildForm, number_words, flag_words}
-use Rattle.tool_command.proofs.WalkingLemmas.{Given, by_name, AreTaken, ended, number_is_plain}
-use Rattle.tool_command.proofs.FormLemmas.{format_asks, show_asks, drain_asks, gen_asks, replay_asks, conservative_asks, count_asks, image_given, seed_given, map_given, number_given, flag_given, number_taken, flag_taken, image_taken, needed_option_fits, number_found, number_or_found, flag_found, bounded, IsWhole, IsPlainApp, is_taken, matched}
+use Rattle.tool_command.proofs.WalkingLemmas.{Given, by_name, AreTaken, ended}
+use Rattle.tool_command.proofs.PlainWordLemmas.{number_is_plain}
+use Rattle.tool_command.proofs.FormLemmas.{format_asks, show_asks, drain_asks, gen_asks, replay_asks, conservative_asks, count_asks, image_given, seed_given, map_given, image_taken, bounded}
+use Rattle.tool_command.proofs.WrittenLemmas.{number_given, flag_given, number_taken, flag_taken, needed_option_fits, number_found, number_or_found, flag_found, IsWhole, IsPlainApp, is_taken, matched}
 
 abbrev stop_given : Option ℕ → List Given
 stop_given = number_given (filled (option_rule stop_id 0 MOST_BUDGET)) (codes "--stop") stop_id
@@ -123,200 +125,36 @@ record HasRun (rows : List Row) (image : Text) (workers : ℕ) (stop seed : Opti
   summed : first_of sum_id rows ≡ Some (bool_text with_sum)
   mapped : first_of map_id rows ≡ Some (bool_text with_map)
 
+has_run : {rows : List Row} {image : Text} {workers : ℕ} {stop seed : Option ℕ} {with_sum with_map : Bool}
+    → first_of image_id rows ≡ Some image → one_of stop_id rows ≡ option_map decimal stop → first_of stop_id rows ≡ option_map decimal stop
+    → one_of seed_id rows ≡ option_map decimal seed → first_of seed_id rows ≡ option_map decimal seed
+    → one_of workers_id rows ≡ Some (decimal workers) → first_of sum_id rows ≡ Some (bool_text with_sum)
+    → first_of map_id rows ≡ Some (bool_text with_map) → HasRun rows image workers stop seed with_sum with_map
+has_run named within within_first seeded seeded_first by summed mapped = record {
+  limits = record { named = named; within = within; within_first = within_first; seeded = seeded; seeded_first = seeded_first };
+  by = by;
+  summed = summed;
+  mapped = mapped;
+}
+
 run_found : (image : Text) (workers : ℕ) (stop seed : Option ℕ) (with_sum with_map : Bool)
     → HasRun (run_rows image workers stop seed with_sum with_map) image workers stop seed with_sum with_map
-run_found image workers (Some k) (Some x) true true = record {
-  limits = record {
-    named = refl;
-    within = refl;
-    within_first = refl;
-    seeded = refl;
-    seeded_first = refl;
-  };
-  by = refl;
-  summed = refl;
-  mapped = refl;
-}
-run_found image workers (Some k) (Some x) true false = record {
-  limits = record {
-    named = refl;
-    within = refl;
-    within_first = refl;
-    seeded = refl;
-    seeded_first = refl;
-  };
-  by = refl;
-  summed = refl;
-  mapped = refl;
-}
-run_found image workers (Some k) (Some x) false true = record {
-  limits = record {
-    named = refl;
-    within = refl;
-    within_first = refl;
-    seeded = refl;
-    seeded_first = refl;
-  };
-  by = refl;
-  summed = refl;
-  mapped = refl;
-}
-run_found image workers (Some k) (Some x) false false = record {
-  limits = record {
-    named = refl;
-    within = refl;
-    within_first = refl;
-    seeded = refl;
-    seeded_first = refl;
-  };
-  by = refl;
-  summed = refl;
-  mapped = refl;
-}
-run_found image workers (Some k) None true true = record {
-  limits = record {
-    named = refl;
-    within = refl;
-    within_first = refl;
-    seeded = refl;
-    seeded_first = refl;
-  };
-  by = refl;
-  summed = refl;
-  mapped = refl;
-}
-run_found image workers (Some k) None true false = record {
-  limits = record {
-    named = refl;
-    within = refl;
-    within_first = refl;
-    seeded = refl;
-    seeded_first = refl;
-  };
-  by = refl;
-  summed = refl;
-  mapped = refl;
-}
-run_found image workers (Some k) None false true = record {
-  limits = record {
-    named = refl;
-    within = refl;
-    within_first = refl;
-    seeded = refl;
-    seeded_first = refl;
-  };
-  by = refl;
-  summed = refl;
-  mapped = refl;
-}
-run_found image workers (Some k) None false false = record {
-  limits = record {
-    named = refl;
-    within = refl;
-    within_first = refl;
-    seeded = refl;
-    seeded_first = refl;
-  };
-  by = refl;
-  summed = refl;
-  mapped = refl;
-}
-run_found image workers None (Some x) true true = record {
-  limits = record {
-    named = refl;
-    within = refl;
-    within_first = refl;
-    seeded = refl;
-    seeded_first = refl;
-  };
-  by = refl;
-  summed = refl;
-  mapped = refl;
-}
-run_found image workers None (Some x) true false = record {
-  limits = record {
-    named = refl;
-    within = refl;
-    within_first = refl;
-    seeded = refl;
-    seeded_first = refl;
-  };
-  by = refl;
-  summed = refl;
-  mapped = refl;
-}
-run_found image workers None (Some x) false true = record {
-  limits = record {
-    named = refl;
-    within = refl;
-    within_first = refl;
-    seeded = refl;
-    seeded_first = refl;
-  };
-  by = refl;
-  summed = refl;
-  mapped = refl;
-}
-run_found image workers None (Some x) false false = record {
-  limits = record {
-    named = refl;
-    within = refl;
-    within_first = refl;
-    seeded = refl;
-    seeded_first = refl;
-  };
-  by = refl;
-  summed = refl;
-  mapped = refl;
-}
-run_found image workers None None true true = record {
-  limits = record {
-    named = refl;
-    within = refl;
-    within_first = refl;
-    seeded = refl;
-    seeded_first = refl;
-  };
-  by = refl;
-  summed = refl;
-  mapped = refl;
-}
-run_found image workers None None true false = record {
-  limits = record {
-    named = refl;
-    within = refl;
-    within_first = refl;
-    seeded = refl;
-    seeded_first = refl;
-  };
-  by = refl;
-  summed = refl;
-  mapped = refl;
-}
-run_found image workers None None false true = record {
-  limits = record {
-    named = refl;
-    within = refl;
-    within_first = refl;
-    seeded = refl;
-    seeded_first = refl;
-  };
-  by = refl;
-  summed = refl;
-  mapped = refl;
-}
-run_found image workers None None false false = record {
-  limits = record {
-    named = refl;
-    within = refl;
-    within_first = refl;
-    seeded = refl;
-    seeded_first = refl;
-  };
-  by = refl;
-  summed = refl;
-  mapped = refl;
-}
+run_found image workers (Some k) (Some x) true true = has_run refl refl refl refl refl refl refl refl
+run_found image workers (Some k) (Some x) true false = has_run refl refl refl refl refl refl refl refl
+run_found image workers (Some k) (Some x) false true = has_run refl refl refl refl refl refl refl refl
+run_found image workers (Some k) (Some x) false false = has_run refl refl refl refl refl refl refl refl
+run_found image workers (Some k) None true true = has_run refl refl refl refl refl refl refl refl
+run_found image workers (Some k) None true false = has_run refl refl refl refl refl refl refl refl
+run_found image workers (Some k) None false true = has_run refl refl refl refl refl refl refl refl
+run_found image workers (Some k) None false false = has_run refl refl refl refl refl refl refl refl
+run_found image workers None (Some x) true true = has_run refl refl refl refl refl refl refl refl
+run_found image workers None (Some x) true false = has_run refl refl refl refl refl refl refl refl
+run_found image workers None (Some x) false true = has_run refl refl refl refl refl refl refl refl
+run_found image workers None (Some x) false false = has_run refl refl refl refl refl refl refl refl
+run_found image workers None None true true = has_run refl refl refl refl refl refl refl refl
+run_found image workers None None true false = has_run refl refl refl refl refl refl refl refl
+run_found image workers None None false true = has_run refl refl refl refl refl refl refl refl
+run_found image workers None None false false = has_run refl refl refl refl refl refl refl refl
 
 pub run_asks : (words : List Text) (image : Text) (options : Options) → IsRunForm words image options → AsksToRun words image options
 run_asks words image options form =

@@ -9,37 +9,47 @@ use Rattle.super_block.specs.declared.layout.TheConstants.{LARGEST_CAPACITY, LAS
 use Rattle.image_run.specs.declared.options.TheConstants.{MOST_WORKERS, MOST_BUDGET}
 use Rattle.tool_command.specs.declared.trace_plan.TheConstants.{MOST_REQUESTS, GREATEST_SEED}
 
--- the arguments, by their names
+-- the names of the arguments: the image's file
 abbrev pub image_id : List ℕ
 image_id = codes "IMAGE"
 
+-- how many superblocks the image is to have
 abbrev pub capacity_id : List ℕ
 capacity_id = codes "S"
 
+-- the class that is drained
 abbrev pub class_id : List ℕ
 class_id = codes "CLASS"
 
+-- whether the heap is to be mapped
 abbrev pub map_id : List ℕ
 map_id = codes "map"
 
+-- how many requests the trace is to have
 abbrev pub requests_id : List ℕ
 requests_id = codes "N"
 
+-- the seed that the trace is made by
 abbrev pub trace_seed_id : List ℕ
 trace_seed_id = codes "SEED"
 
+-- how many workers run the trace
 abbrev pub workers_id : List ℕ
 workers_id = codes "workers"
 
+-- the budget, behind whose last ticket the run stops
 abbrev pub stop_id : List ℕ
 stop_id = codes "stop"
 
+-- the seed that its chances begin with
 abbrev pub seed_id : List ℕ
 seed_id = codes "seed"
 
+-- whether a checksum of the replies is to stand for them
 abbrev pub sum_id : List ℕ
 sum_id = codes "sum"
 
+-- whether the heap is recovered by several threads
 abbrev pub par_id : List ℕ
 par_id = codes "par"
 
