@@ -1,12 +1,13 @@
--- An answered request is one of the trace, and one that its worker answered; and an answered move is a move to its shard.
-use Rattle.std.proofs.Common.{◌≡◌, ℕ, inl, inr, Bool, true, false, cond, nat_eq, List, [], ◌∷◌, filter, None, Some, Contains, refl, subst, sym, ◌∙◌}
-use Rattle.std.proofs.lemmas.Bool.{eq-eqb, or_left, or_right}
+-- An answered request is one of the trace; and an answered move is a move to its shard.
+use Rattle.std.proofs.Common.{◌≡◌, ℕ, inl, inr, Bool, true, false, cond, nat_eq, List, [], ◌∷◌, filter, None, Some, Contains, refl, subst, sym}
+use Rattle.std.proofs.lemmas.Bool.{eq-eqb, or_left}
 use Rattle.heap_model.proofs.MemberLemmas.{in_none, in_head, in_rest, head_or_rest}
 use Rattle.dict_model.specs.Nodes.{shard_of}
-use Rattle.dict_model.specs.Requests.{Request, put, get, del, move, Reply}
+use Rattle.dict_model.specs.Requests.{Request, move, Reply}
 use Rattle.run_model.specs.Needs.{is_moved_to}
-use Rattle.run_model.specs.Runs.{answered, worker_answered}
-use Rattle.run_model.specs.Workers.{Replies, is_of_worker, worker_replies, worker_requests}
+use Rattle.run_model.specs.Runs.{answered}
+use Rattle.run_model.specs.Workers.{Replies, is_of_worker, worker_requests}
+use Rattle.run_model.proofs.TargetLemmas.{moved_behind}
 
 -- an answered request is one of the trace, and a move is one to the shard of its other key
 asked : (qs : List Request) (rs : Replies) (x : Request × Reply) → Contains (answered qs rs) x → Contains qs x.0
@@ -26,12 +27,6 @@ of_part test (q ∷ qs) x there = by_case (test q) (filter test qs) (of_part tes
       (λ _. Contains (q ∷ qs) x) [ inl same ↦ subst (Contains (q ∷ qs)) same (in_head q qs) | inr rest ↦ in_rest q x qs (later rest) ]
   by_case false some later is = in_rest q x qs (later is)
 
-moved_behind : (q : Request) (qs : List Request) (shard : ℕ) → is_moved_to qs shard ≡ true → is_moved_to (q ∷ qs) shard ≡ true
-moved_behind (put key value) qs shard is = is
-moved_behind (get key) qs shard is = is
-moved_behind (del key) qs shard is = is
-moved_behind (move key to) qs shard is = or_right (nat_eq (shard_of to) shard) (is_moved_to qs shard) is
-
 moved : (qs : List Request) (key to : ℕ) → Contains qs (move key to) → is_moved_to qs (shard_of to) ≡ true
 moved [] key to there = absurd (in_none (move key to) there)
 moved (q ∷ qs) key to there = elim (head_or_rest q (move key to) qs there) as (λ _. is_moved_to (q ∷ qs) (shard_of to) ≡ true) [
@@ -45,29 +40,3 @@ pub answered_move : (workers worker : ℕ) (requests : List Request) (replies : 
 answered_move workers worker requests replies key to a there =
     moved requests key to (of_part (is_of_worker workers worker) requests (move key to)
     (asked (worker_requests workers worker requests) replies (move key to, a) there))
-
--- an answered request is one that its worker answered
-pub answered_of : (workers worker : ℕ) (requests : List Request) (replies : Replies) (x : Request × Reply)
-    → is_of_worker workers worker x.0 ≡ true → Contains (answered requests replies) x
-    → Contains (worker_answered workers worker requests replies) x
-answered_of workers worker [] replies x mine h = absurd (in_none x h)
-answered_of workers worker (q ∷ qs) [] x mine h = absurd (in_none x h)
-answered_of workers worker (q ∷ qs) (None ∷ rs) x mine h = by_case (is_of_worker workers worker q) (answered_of workers worker qs rs x mine h) where
-  by_case : (b : Bool) → Contains (worker_answered workers worker qs rs) x
-      → Contains (answered (cond b (q ∷ worker_requests workers worker qs) (worker_requests workers worker qs))
-      (cond b (None ∷ worker_replies workers worker qs rs) (worker_replies workers worker qs rs))) x
-  by_case true later = later
-  by_case false later = later
-answered_of workers worker (q ∷ qs) (Some r ∷ rs) x mine h = by_case (answered_of workers worker qs rs x mine)
-    (is_of_worker workers worker q) refl where
-      by_case : (Contains (answered qs rs) x → Contains (worker_answered workers worker qs rs) x) → (b : Bool) → is_of_worker workers worker q ≡ b
-          → Contains (answered (cond b (q ∷ worker_requests workers worker qs) (worker_requests workers worker qs))
-          (cond b (Some r ∷ worker_replies workers worker qs rs) (worker_replies workers worker qs rs))) x
-      by_case behind true is = elim (head_or_rest (q, r) x (answered qs rs) h) as (λ _. Contains ((q, r) ∷ worker_answered workers worker qs rs) x) [
-        | inl same ↦ subst (Contains ((q, r) ∷ worker_answered workers worker qs rs)) same (in_head (q, r) (worker_answered workers worker qs rs))
-        | inr later ↦ in_rest (q, r) x (worker_answered workers worker qs rs) (behind later)
-      ]
-      by_case behind false is = elim (head_or_rest (q, r) x (answered qs rs) h) as (λ _. Contains (worker_answered workers worker qs rs) x) [
-        | inl same ↦ let e : true ≡ false = sym mine ∙ subst (λ (y : Request × Reply). is_of_worker workers worker y.0 ≡ false) same is in absurd (cc)
-        | inr later ↦ behind later
-      ]

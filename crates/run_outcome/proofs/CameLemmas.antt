@@ -4,9 +4,8 @@ use Rattle.std.proofs.Common.{◌≡◌, ◌≢◌, ℕ, ◌+◌, ◌<◌, ◌�
 use Rattle.std.specs.Prelude.{Bool, true, false}
 use Rattle.std.proofs.Math.Path.{fun_ext}
 use Rattle.std.proofs.Math.Seq.{take-append_seam, take-append-add}
-use Rattle.std.proofs.lemmas.Bool.{cases_eq, cond-true, cond-false, ne_eqb}
+use Rattle.std.proofs.lemmas.Bool.{cases_eq}
 use Rattle.std.proofs.lemmas.List.{length-map, map-append}
-use Rattle.std.proofs.lemmas.List.Elements.{filter-append}
 use Rattle.heap_model.specs.Image.{Image}
 use Rattle.heap_seat.specs.View.{View}
 use Rattle.heap_seat.specs.Words.{MixesOwn}
@@ -15,13 +14,12 @@ use Rattle.dict_model.specs.Requests.{Request, put, Reply, done, after, after_on
 use Rattle.dict_model.specs.Shards.{Map, MapOf}
 use Rattle.dict_model.proofs.ShardLemmas.{one_map_of}
 use Rattle.dict_requests.specs.Maps.{IsMapIn, GivesMap}
-use Rattle.run_model.specs.Needs.{is_to}
 use Rattle.run_model.specs.Opened.{HasMaps}
 use Rattle.run_model.specs.Progress.{MayAnswer}
 use Rattle.run_model.specs.Runs.{of_shard, IsMapLeft}
 use Rattle.run_model.specs.Sending.{Sent, put_of, puts_of}
 use Rattle.run_model.specs.Workers.{Replies, shard_asked}
-use Rattle.run_model.proofs.GoesOnLemmas.{other_gives}
+use Rattle.run_model.proofs.GoesOnLemmas.{after_push, other_gives, push_other, push_same}
 use Rattle.run_model.proofs.OneMapLemmas.{small_shard}
 use Rattle.worker_parts.specs.Ending.{HasEnded, EndsIn, at_rest, not_begun, in_request, in_arrival}
 
@@ -52,23 +50,11 @@ take_next came first others next is =
     ∙ ap (λ n. take (n + 1) (puts_of first ++ puts_of (next ∷ others))) (sym (length-map first put_of))
     ∙ take-append-add (puts_of first) (puts_of (next ∷ others)) 1
 
--- one request more to a shard, or to another
-after_push : (map : Map) (xs : List (Request × Reply)) (x : Request × Reply) → after map (xs ++ (x ∷ [])) ≡ after_one (after map xs) x.0 x.1
-after_push map [] x = refl
-after_push map (y ∷ ys) x = after_push (after_one map y.0 y.1) ys x
-
+-- one request more to a shard
 one_more : (shard : ℕ) (map : Map) (xs : List (Request × Reply)) (x : Request × Reply) → shard_asked x.0 ≡ shard
     → after map (of_shard shard (xs ++ (x ∷ []))) ≡ after_one (after map (of_shard shard xs)) x.0 x.1
 one_more shard map xs x same =
-    ap (after map) (filter-append (λ r. is_to shard r.0) xs (x ∷ [])
-    ∙ ap (λ zs. of_shard shard xs ++ zs) (cond-true (is_to shard x.0) (x ∷ []) [] (eq-eqb (shard_asked x.0) shard same)))
-    ∙ after_push map (of_shard shard xs) x
-
-none_more : (shard : ℕ) (xs : List (Request × Reply)) (x : Request × Reply) → shard_asked x.0 ≢ shard
-    → of_shard shard (xs ++ (x ∷ [])) ≡ of_shard shard xs
-none_more shard xs x other =
-    filter-append (λ r. is_to shard r.0) xs (x ∷ []) ∙ ap (λ zs. of_shard shard xs ++ zs)
-    (cond-false (is_to shard x.0) (x ∷ []) [] (ne_eqb (shard_asked x.0) shard other)) ∙ append-nil (of_shard shard xs)
+    ap (after map) (push_same shard xs x same) ∙ after_push map (of_shard shard xs) x
 
 -- one worker's part, where a map in its seat's words is the shard's map in the image that is left
 module _ (image : Image) (requests : List Request) (told : Replies) (came brought : List Sent) (halted stops stopped : Bool) (v : View)
@@ -159,7 +145,7 @@ module _ (image : Image) (requests : List Request) (told : Replies) (came brough
               (own_is (asked ++ ((request, done) ∷ [])) first of_first
               (subst (λ (m : Map). IsMapIn v left (shard_asked request) m)
               (sym (one_more (shard_asked request) first asked (request, done) refl)) has) shard same map of))
-          | inr other ↦ subst (λ xs. IsMapLeft left shard (after map xs) stopped ended.left) (sym (none_more shard asked (request, done) other))
+          | inr other ↦ subst (λ xs. IsMapLeft left shard (after map xs) stopped ended.left) (sym (push_other shard asked (request, done) other))
               (inl (to_left shard (after map (of_shard shard asked)) small (beside shard map small owned of other)))
         ]
 

@@ -9,6 +9,7 @@ use Rattle.dict_model.specs.Requests.{Request}
 use Rattle.run_model.specs.Needs.{is_brought_to, tables_needed, worker_tables}
 use Rattle.run_model.specs.Runs.{answered, unanswered, worker_unanswered}
 use Rattle.run_model.specs.Workers.{Replies, shard_asked, worker_of, is_of_worker, worker_requests, worker_replies, worker_numbers}
+use Rattle.run_model.proofs.CountLemmas.{one_count}
 use Rattle.run_model.proofs.SumLemmas.{sum_over, sum_within, sum_both, sum_one, sum_none}
 use Rattle.worker_run.proofs.SpendLemmas.{answered_none}
 
@@ -19,19 +20,13 @@ count_one tests whole owner workers only = elim (cases_lt owner workers) as (λ 
   | inl below ↦
       let one = sum_one (λ w. cond (tests w) 1 0) owner 0 workers (omega arith) (omega arith)
       (λ w other. ap (λ b. cond b 1 0) (false_from_ne_true (tests w) (λ is. other (sym (only w is).1)))) in
-      let here = least (tests owner) whole (λ is. (only owner is).0) in
+      let here = one_count (tests owner) whole (λ is. (only owner is).0) in
       omega arith
   | inr above ↦
       let none = sum_none (λ w. cond (tests w) 1 0) 0 workers (λ w low high. ap (λ b. cond b 1 0)
       (false_from_ne_true (tests w) (λ is. let e = (only w is).1 in omega arith))) in
       omega arith
 ]
-  where
-    least : (a b : Bool) → (a ≡ true → b ≡ true) → cond a 1 0 ≤ cond b 1 0
-    least true true more = let all : 1 ≤ 1 = omega arith in all
-    least true false more = let e : false ≡ true = more refl in absurd (cc)
-    least false true more = let all : 0 ≤ 1 = omega arith in all
-    least false false more = let all : 0 ≤ 0 = omega arith in all
 
 -- and so over a list, of whose members each is one worker's
 pub count_parts : {X : Type 0} (tests : ℕ → X → Bool) (whole : X → Bool) (owner : X → ℕ) (workers : ℕ) (xs : List X)

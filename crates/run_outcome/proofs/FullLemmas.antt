@@ -13,13 +13,14 @@ use Rattle.core_model.specs.View.{Setup}
 use Rattle.run_model.specs.Needs.{is_moved_to, node_span, tables_needed}
 use Rattle.run_model.specs.Runs.{answered, IsFullRightly, span_taken, spans_beside, worker_answered, worker_span}
 use Rattle.run_model.specs.Workers.{Replies, shard_asked, worker_of, worker_requests}
+use Rattle.run_model.proofs.FullLemmas.{answered_of}
 use Rattle.run_model.proofs.OneMapLemmas.{small_shard}
 use Rattle.run_model.proofs.SumLemmas.{sum_over, sum_within, sum_both, sum_beside}
 use Rattle.worker_parts.specs.Parts.{LacksTable}
 use Rattle.worker_run.proofs.SpendLemmas.{answered_none}
 use Rattle.run_outcome.specs.Together.{HaveWorked}
 use Rattle.run_outcome.proofs.CountLemmas.{tables_all, worker_below}
-use Rattle.run_outcome.proofs.AnsweredLemmas.{answered_move, answered_of}
+use Rattle.run_outcome.proofs.AnsweredLemmas.{answered_move}
 use Rattle.run_outcome.proofs.WorkerLemmas.{all_views, of_each, answered_told, opened_setup, unused, taken_of, tables_of, taken_few, used_now}
 
 cond_within : (b : Bool) (n x y : ℕ) → n ≤ x + y → cond b 0 n ≤ cond b 0 x + cond b 0 y

@@ -27,7 +27,6 @@ use Rattle.dict_model.specs.Links.{dict_links, kind_count}
 use Rattle.dict_model.specs.Requests.{Request}
 use Rattle.dict_model.specs.Shards.{LeadsTo}
 use Rattle.dict_requests.specs.Reached.{Reaches}
-use Rattle.dict_requests.specs.Seats.{MixesSeats}
 use Rattle.dict_requests.proofs.ExactLemmas.{sees_held}
 use Rattle.dict_requests.proofs.GrownLemmas.{link_own, reached_held}
 use Rattle.dict_requests.proofs.SeatsLemmas.{reached_by}
@@ -94,9 +93,6 @@ module _ (words : List ℕ) (held : List Block) (workers budget : ℕ) (requests
   closed_of i below = closes k now kept (all_views h) h.closed (slice_index left) h.left_is i (h.last i).view (below_count h i below)
       (view_at h i (h.last i).view below) (is_seat h i below)
 
-  seats : MixesSeats workers (λ i. heap_view (h.last i)) (slice_index left)
-  seats = mixes words held workers budget requests replies false now kept left h
-
   -- what loads of a seat see reached, the roots of the image reach
   module _ (i : ℕ) (below : i < workers) where
     leads_left : (at value : ℕ) (b : Block) → IsOwn (heap_view (h.last i)).held (heap_view (h.last i)).roots at
@@ -104,7 +100,7 @@ module _ (words : List ℕ) (held : List Block) (workers budget : ℕ) (requests
         → LeadsTo (Contains (heap_view (h.last i)).held) value b → Leads (slice_index left) (slice_index left at) b
     leads_left at value b own seen leads =
         subst (λ w. Leads (slice_index left) w b) (sym (seen_left (h.last i) (slice_index left) (closed_of i below) at value own seen))
-        (record { pointer = leads.1; names = seats.names i below b leads.0 })
+        (record { pointer = leads.1; names = (mixes words held workers budget requests replies false now kept left h).names i below b leads.0 })
 
     reach_left : (root : ℕ) (b : Block) (kind : ℕ) → Reaches (heap_view (h.last i)) root b kind → ReachIn (slice_index left) dict_links b kind
     reach_left root = closure_least (ReachIn (slice_index left) dict_links)
@@ -114,7 +110,7 @@ module _ (words : List ℕ) (held : List Block) (workers budget : ℕ) (requests
           root = root;
           below = small;
           is_chosen = tt;
-          kind_is = start.kind_is ∙ sym (seats.kinds i below root small);
+          kind_is = start.kind_is ∙ sym ((mixes words held workers budget requests replies false now kept left h).kinds i below root small);
           leads = leads_left (root_word root) start.value b (in_root root (root_word root) start.owned refl) start.read start.leads;
         }))
         (λ a b from kind reached has link. by_link a b from kind has (record {
@@ -134,7 +130,8 @@ module _ (words : List ℕ) (held : List Block) (workers budget : ℕ) (requests
   holds : (b : Block) → IsReachedIn (slice_index left) dict_links b → IsHeldBy (all_views h) b
   holds b is =
       let by = reached_by workers (λ i. heap_view (h.last i)) (slice_index left)
-      (share words held workers budget requests replies false now kept left h) seats AnyRoot b is.kind is.reach in
+      (share words held workers budget requests replies false now kept left h)
+      (mixes words held workers budget requests replies false now kept left h) AnyRoot b is.kind is.reach in
       of_seat by.seat b by.below (reached_held (heap_view (h.last by.seat)) by.root b is.kind by.reached)
 
   orderly : IsOrderly (Some kind_count) (8 * length left) (slice_index left)

@@ -1,7 +1,7 @@
 -- The requests to a shard that a trace answers are those that the shard's worker answers.
 use Rattle.std.proofs.Common.{◌≡◌, ℕ, List, [], ◌∷◌, None, Some, cond, refl, sym, ap, ◌∙◌}
 use Rattle.std.specs.Prelude.{Bool, true, false}
-use Rattle.std.proofs.lemmas.Bool.{cond-false, eq-eqb, eqb-true}
+use Rattle.std.proofs.lemmas.Bool.{cond-false, eq-eqb, eqb-true, false_from_ne_true, false≢true}
 use Rattle.dict_model.specs.Requests.{Request, Reply}
 use Rattle.run_model.specs.Workers.{Replies, worker_of, shard_asked, is_of_worker, worker_requests, worker_replies}
 use Rattle.run_model.specs.Needs.{is_to}
@@ -14,17 +14,14 @@ none_added : (mine : Bool) (request : Request) (requests : List Request) (replie
 none_added true request requests replies = refl
 none_added false request requests replies = refl
 
-not_so : (test : Bool) → (test ≡ true → false ≡ true) → test ≡ false
-not_so true so = sym (so refl)
-not_so false so = refl
-
 -- nor does one of another worker, which is to another shard
 one_added : (shard : ℕ) (mine : Bool) (request : Request) (reply : Reply) (requests : List Request) (replies : Replies)
     → (is_to shard request ≡ true → mine ≡ true)
     → of_shard shard ((request, reply) ∷ answered requests replies)
     ≡ of_shard shard (answered (cond mine (request ∷ requests) requests) (cond mine (Some reply ∷ replies) replies))
 one_added shard true request reply requests replies so = refl
-one_added shard false request reply requests replies so = cond-false (is_to shard request) _ _ (not_so (is_to shard request) so)
+one_added shard false request reply requests replies so = cond-false (is_to shard request) _ _
+    (false_from_ne_true (is_to shard request) (λ e. false≢true (so e)))
 
 module _ (workers shard : ℕ) where
   abbrev mine : Request → Bool

@@ -1,5 +1,5 @@
 -- What is so of each worker of a run: where its view stands, how its seat went on, that it was unused, and which of its requests are answered.
-use Rattle.std.proofs.Common.{◌≡◌, ℕ, ◌+◌, ◌<◌, ◌≤◌, Bool, List, [], ◌∷◌, ◌++◌, length, get_or, slice_index, sum_by, ap, ◌∙◌, arith}
+use Rattle.std.proofs.Common.{◌≡◌, ℕ, ◌+◌, ◌<◌, ◌≤◌, Bool, List, ◌++◌, length, get_or, slice_index, sum_by, ap, ◌∙◌, arith}
 use Rattle.std.proofs.lemmas.List.{get_or_append_left, length-append}
 use Rattle.heap_model.specs.declared.block.Block.{Block}
 use Rattle.heap_model.specs.Counting.{total}
@@ -14,15 +14,11 @@ use Rattle.core_model.specs.View.{View}
 use Rattle.run_model.specs.Needs.{worker_tables}
 use Rattle.run_model.specs.Runs.{answered, unanswered, worker_answered, worker_unanswered, worker_span, span_taken, first_span}
 use Rattle.run_model.specs.Workers.{Replies, worker_requests}
+use Rattle.seat_state.proofs.PickedLemmas.{total_append}
 use Rattle.run_model.proofs.SumLemmas.{sum_over, total_over}
 use Rattle.worker_parts.specs.Going.{GoesOn, IsUnused}
 use Rattle.run_outcome.specs.Together.{HaveWorked}
 use Rattle.run_outcome.proofs.CountLemmas.{answered_padded, unanswered_padded}
-
-total_both : {X : Type 0} (of : X → ℕ) (xs ys : List X) → total of (xs ++ ys) ≡ total of xs + total of ys
-total_both of [] ys = let all : total of ys ≡ 0 + total of ys = omega arith in all
-total_both of (x ∷ xs) ys = let rest = total_both of xs ys in let all : of x + total of (xs ++ ys) ≡ of x + total of xs + total of ys =
-    omega arith in all
 
 module _ {words : List ℕ} {held : List Block} {workers budget : ℕ} {requests : List Request} {replies : Replies} {stopped : Bool}
     {now kept left : List ℕ}
@@ -55,7 +51,7 @@ module _ {words : List ℕ} {held : List Block} {workers budget : ℕ} {requests
 
   pub seats_total : (of : View → ℕ) → ((v : View) → IsCarrier v → of v ≡ 0) → total of all_views ≡ sum_over (λ worker. of (last_view worker)) 0 workers
   seats_total of none =
-      let both = total_both of h.views h.carriers in
+      let both = total_append of h.views h.carriers in
       let nothing = total_none of h.carriers (λ v there. none v (h.carry v there)) in
       let seats = total_over of h.views (λ worker. of (last_view worker)) 0
       (λ i v below. ap of (h.views_are i v (let count = h.count in omega arith)) ∙ ap (λ n. of (last_view n)) (let e : i ≡ 0 + i = omega arith in e))
