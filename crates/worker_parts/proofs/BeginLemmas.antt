@@ -1,9 +1,9 @@
 -- A worker that begins: the state of its new seat, and what the tables of its own flags are.
 use Rattle.std.proofs.Common.{◌≡◌, ◌≢◌, ◌<◌, ◌≤◌, ◌+◌, ◌*◌, ◌↔◌, ◌⊎◌, inl, inr, ℕ, Bool, true, false, List, [], slice_index, None, Some, Result, Ok, Err, OnOk, IfErr, Contains, refl, subst, sym, ap, ◌∙◌, arith}
-use Rattle.std.specs.Prelude.{count_by, nat_eq, nat_lt, not, ◌&&◌}
+use Rattle.std.specs.Prelude.{count_by, nat_lt, not, ◌&&◌}
 use Rattle.std.specs.Bool.{⊤}
 use Rattle.std.specs.Result.{is_err}
-use Rattle.std.proofs.lemmas.Bool.{and_parts, cond-true, eqb-true, lt-ltb}
+use Rattle.std.proofs.lemmas.Bool.{cond-true, lt-ltb}
 use Rattle.heap_model.specs.Image.{Image, words_from}
 use Rattle.heap_model.proofs.ListLemmas.{numbers_below}
 use Rattle.line_memory.specs.declared.memory.Stopped.{Stopped}
@@ -18,13 +18,14 @@ use Rattle.dict_model.specs.Links.{shards}
 use Rattle.dict_model.specs.Requests.{Request}
 use Rattle.dict_requests.specs.Reached.{ReachesAllHeld}
 use Rattle.dict_requests.specs.Removal.{IsShard}
-use Rattle.run_model.specs.Needs.{is_moved_to, is_target_of}
+use Rattle.run_model.specs.Needs.{is_target_of}
 use Rattle.run_model.specs.Opened.{IsOpenedOver}
 use Rattle.run_model.specs.Progress.{HasAnswered}
 use Rattle.run_model.specs.Spending.{sees_table, tables_made, tables_missing}
 use Rattle.run_model.specs.Workers.{worker_of}
 use Rattle.run_model.proofs.CountLemmas.{count_rises}
 use Rattle.run_model.proofs.GoesOnLemmas.{asked_shard}
+use Rattle.run_model.proofs.TargetLemmas.{target_is_own}
 use Rattle.seat_model.specs.CacheState.{CacheState, CacheValue, heap_view}
 use Rattle.seat_model.proofs.HeldLemmas.{seat_law}
 use Rattle.shard_moves.specs.Tables.{is_flagged, flag_count, TellsTable}
@@ -34,12 +35,6 @@ use Rattle.worker_run.proofs.ProgressLemmas.{begins}
 use Rattle.worker_parts.specs.Begun.{IsBegun, IsOpenedFor}
 use Rattle.worker_parts.specs.Jobs.{IsFirst, image_of}
 use Rattle.worker_parts.proofs.StateLemmas.{goes_seat, none_of, tells_table, view_of}
-
--- a target of a worker is one of its own shards
-pub target_owned : (workers worker : ℕ) (requests : List Request) (shard : ℕ) → is_target_of workers worker requests shard ≡ true
-    → worker_of workers shard ≡ worker
-target_owned workers worker requests shard is = eqb-true (worker_of workers shard) worker
-    (and_parts (nat_eq (worker_of workers shard) worker) (is_moved_to requests shard) is).0
 
 -- a seat that was just made of one that was opened for a worker
 pub new_first : (shared : SharedView) (workers worker : ℕ) (seat : SeatView) (s : CacheState) → worker < workers → IsSeatOf shared seat
@@ -58,25 +53,26 @@ new_first shared workers worker seat s below of fresh new = record {
 }
 
 -- what is so of it
-module _ (shared : SharedView) (workers worker : ℕ) (s : CacheState) (first : IsFirst shared workers worker s) where
-  pub first_opened : IsOpenedOver (image_of shared) (heap_view s)
-  first_opened = subst (λ k. IsOpenedOver (slice_index k.opened) (heap_view s)) first.setup (first.fresh.opened s refl)
+module _ (shared : SharedView) (workers worker : ℕ) (first : CacheState) (is_first : IsFirst shared workers worker first) where
+  pub first_opened : IsOpenedOver (image_of shared) (heap_view first)
+  first_opened = subst (λ k. IsOpenedOver (slice_index k.opened) (heap_view first)) is_first.setup (is_first.fresh.opened first refl)
 
-  pub first_answered : HasAnswered (image_of shared) [] (heap_view s)
-  first_answered = begins (image_of shared) (heap_view s) (seat_law s) first_opened
+  pub first_answered : HasAnswered (image_of shared) [] (heap_view first)
+  first_answered = begins (image_of shared) (heap_view first) (seat_law first) first_opened
 
-  pub first_exact : ReachesAllHeld (heap_view s)
-  first_exact = all_opened (image_of shared) (heap_view s) (seat_law s) first_opened
+  pub first_exact : ReachesAllHeld (heap_view first)
+  first_exact = all_opened (image_of shared) (heap_view first) (seat_law first) first_opened
 
-  pub first_owns : (shard : ℕ) → shard < shards → worker_of workers shard ≡ worker → Contains s.view.roots shard
-  first_owns shard small is = (first.fresh.roots_own shard (omega (arith, small))).1
+  -- it owns the roots of its shards
+  pub first_owns : (shard : ℕ) → shard < shards → worker_of workers shard ≡ worker → Contains first.view.roots shard
+  first_owns shard small is = (is_first.fresh.roots_own shard (omega (arith, small))).1
       (cond-true (nat_lt shard shards) (worker_of workers shard) 0 (lt-ltb shard shards small) ∙ is)
 
   -- each target of its own may be asked
   pub first_shard : (requests : List Request) (shard : ℕ) → shard < shards → is_target_of workers worker requests shard ≡ true
-      → IsShard (heap_view s) shard
-  first_shard requests shard small is = asked_shard (image_of shared) [] (heap_view s) shard first_opened.maps small
-      (first_owns shard small (target_owned workers worker requests shard is)) first_answered
+      → IsShard (heap_view first) shard
+  first_shard requests shard small is = asked_shard (image_of shared) [] (heap_view first) shard first_opened.maps small
+      (first_owns shard small (target_is_own workers worker requests shard is)) first_answered
 
 -- where it was done, what follows from what was so before
 pub ok_then : (result : Result ⊤ Stopped) (P Q : Type 0) → P → OnOk result (P → Q) → OnOk result Q

@@ -101,11 +101,6 @@ target_is_brought workers worker requests shard is =
     let parts = and_parts (nat_eq (worker_of workers shard) worker) (is_moved_to requests shard) is in
     and_from (nat_eq (worker_of workers shard) worker) (is_brought_to requests shard) parts.0 (moved_is_brought requests shard parts.1)
 
-pub target_is_own : (workers worker : ℕ) (requests : List Request) (shard : ℕ) → is_target_of workers worker requests shard ≡ true
-    → worker_of workers shard ≡ worker
-target_is_own workers worker requests shard is = eqb-true (worker_of workers shard) worker
-    (and_parts (nat_eq (worker_of workers shard) worker) (is_moved_to requests shard) is).0
-
 -- the tables that were made before the first request, and those that are missing then, are no more than the worker's
 pub tables_both : (workers worker : ℕ) (requests : List Request) (v w : View)
     → tables_made (is_target_of workers worker requests) v w + tables_missing

@@ -12,7 +12,7 @@ use Rattle.run_model.specs.Workers.{Replies}
 use Rattle.run_model.specs.Working.{HasStopped, HasWorked, IsUnderWay, TakesRequests}
 use Rattle.shard_moves.specs.Arriving.{MayArrive}
 use Rattle.worker_run.proofs.ProgressLemmas.{still}
-use Rattle.worker_run.proofs.SpendLemmas.{unanswered_now}
+use Rattle.worker_run.proofs.SpendLemmas.{answered_none, unanswered_now}
 use Rattle.worker_parts.specs.Ending.{HasEnded, HasStepped, IsArriving, IsBehind, at_rest, in_arrival, in_request, not_begun}
 use Rattle.worker_parts.specs.Going.{GoesOn, HasSettled, TurnsAway, WasQuieted, had_stopped, is_empty, stops_now}
 use Rattle.worker_parts.proofs.StateLemmas.{goes_none, goes_then}
@@ -173,10 +173,6 @@ stop_ends image mine replies came first begun t tables stopped steps = (
 )
 
 -- and so does one that was halted before its first request
-pub answered_none : (left : List Request) → answered left [] ≡ []
-answered_none [] = refl
-answered_none (q ∷ qs) = refl
-
 pub halt_ends : (image : Image) (mine : List Request) (stopped : Bool) (first t : CacheState) → GoesOn first t → HasAnswered image [] (heap_view t)
     → (ended : HasEnded image mine [] [] [] true stopped (heap_view t))
     × (stepped : HasStepped (answered mine []) [] (unanswered mine []) ended.later true stopped first t)

@@ -1,7 +1,5 @@
 -- A worker's part of a run: its tables are made, its requests worked off, and what comes behind costs little.
-use Rattle.std.proofs.Common.{◌≡◌, ◌≢◌, ℕ, ◌+◌, ◌*◌, ◌<◌, ◌≤◌, ◌↔◌, Bool, true, false, List, [], length, slice_index, None, Some, Contains, refl, subst, sym, ap, ◌∙◌, arith}
-use Rattle.std.specs.Prelude.{nat_lt}
-use Rattle.std.proofs.lemmas.Bool.{cond-true, lt-ltb}
+use Rattle.std.proofs.Common.{◌≡◌, ◌≢◌, ℕ, ◌+◌, ◌*◌, ◌<◌, ◌≤◌, ◌↔◌, Bool, true, false, List, [], length, None, Some, Contains, refl, subst, sym, ap, ◌∙◌, arith}
 use Rattle.heap_model.specs.Geometry.{roots, root_word}
 use Rattle.heap_model.specs.Image.{Image}
 use Rattle.core_model.specs.View.{View}
@@ -16,11 +14,11 @@ use Rattle.dict_requests.specs.Reached.{ReachesAllHeld}
 use Rattle.seat_model.specs.CacheState.{CacheState, heap_view}
 use Rattle.thread_cache.specs.Quiet.{HasEmptyCaches}
 use Rattle.run_model.specs.Needs.{ListsKeysOf, is_target_of, puts_among, targets_of, worker_tables}
-use Rattle.run_model.specs.Opened.{IsOpenedOver}
 use Rattle.run_model.specs.Runs.{answered, unanswered}
 use Rattle.run_model.specs.Sending.{Sent}
 use Rattle.run_model.specs.Spending.{AreFullRightly, HasTakenFew}
 use Rattle.run_model.specs.Workers.{Replies, root_owner, worker_of, worker_requests}
+use Rattle.run_model.proofs.TargetLemmas.{target_is_own}
 use Rattle.shard_moves.specs.Tables.{TellsTable}
 use Rattle.worker_run.proofs.AgainLemmas.{has_keys}
 use Rattle.worker_run.proofs.SpendLemmas.{knows_then}
@@ -31,23 +29,18 @@ use Rattle.worker_parts.specs.Going.{GoesOn, TurnsAway}
 use Rattle.worker_parts.specs.Jobs.{IsFirst, IsPartOf, image_of}
 use Rattle.worker_parts.specs.Parts.{IsPart, LacksTable, SpendsFew}
 use Rattle.worker_parts.proofs.AskLemmas.{begun_going}
-use Rattle.worker_parts.proofs.BroughtLemmas.{tables_both, target_is_own}
+use Rattle.worker_parts.proofs.BeginLemmas.{first_opened, first_owns}
+use Rattle.worker_parts.proofs.BroughtLemmas.{tables_both}
 use Rattle.worker_parts.proofs.StateLemmas.{goes_then}
 
 -- a worker's first state
 module _ (shared : SharedView) (workers worker : ℕ) (first : CacheState) (is_first : IsFirst shared workers worker first) where
-  pub first_opened : IsOpenedOver (image_of shared) (heap_view first)
-  first_opened = subst (λ (image : Image). IsOpenedOver image (heap_view first)) (ap (λ k. slice_index k.opened) is_first.setup)
-      (is_first.fresh.opened first refl)
-
-  -- it owns the roots of its shards, whose words it sees as they are in the image
-  pub first_owns : (shard : ℕ) → shard < shards → worker_of workers shard ≡ worker → Contains first.view.roots shard
-  first_owns shard small is = (is_first.fresh.roots_own shard (omega (arith, small))).1
-      (cond-true (nat_lt shard shards) (worker_of workers shard) 0 (lt-ltb shard shards small) ∙ is)
-
+  -- it sees the roots' words of its shards as they are in the image
   pub first_sees : (shard : ℕ) → shard < shards → worker_of workers shard ≡ worker
       → (heap_view first).volatile (root_word shard) ≡ Some (image_of shared (root_word shard))
-  first_sees shard small is = (first_opened.words (root_word shard) (in_root shard (root_word shard) (first_owns shard small is) refl)).seen
+  first_sees shard small is =
+      ((first_opened shared workers worker first is_first).words (root_word shard)
+      (in_root shard (root_word shard) (first_owns shared workers worker first is_first shard small is) refl)).seen
 
   -- it goes on to a seat of the same heap, with the same roots
   pub seat_on : (t : CacheState) (seat : SeatView) → GoesOn first t → seat.table ≡ t.table → seat.view ≡ t.view → IsSeatOf shared seat

@@ -15,6 +15,7 @@ use Rattle.run_model.specs.Workers.{Replies, shard_asked, worker_requests}
 use Rattle.run_model.specs.Working.{IsUnderWay, TakesRequests}
 use Rattle.run_model.proofs.GoesOnLemmas.{asked_shard}
 use Rattle.run_model.proofs.OneMapLemmas.{small_shard}
+use Rattle.run_model.proofs.TargetLemmas.{target_is_own}
 use Rattle.shard_moves.specs.Arriving.{HaveTables}
 use Rattle.shard_moves.specs.Tables.{TellsTable}
 use Rattle.worker_run.proofs.SpendLemmas.{unanswered_now}
@@ -22,8 +23,7 @@ use Rattle.worker_parts.specs.Asking.{HasExecuted}
 use Rattle.worker_parts.specs.Begun.{IsBegun}
 use Rattle.worker_parts.specs.Going.{GoesOn, TurnsAway}
 use Rattle.worker_parts.specs.Jobs.{HasTableFor, IsFirst, image_of}
-use Rattle.worker_parts.proofs.BroughtLemmas.{target_is_own}
-use Rattle.worker_parts.proofs.PartLemmas.{first_opened, first_owns}
+use Rattle.worker_parts.proofs.BeginLemmas.{first_opened, first_owns}
 
 -- a table stays over requests
 table_stays : (shard : ℕ) (rs : List (Request × Reply)) (s t : CacheState) → TakesRequests heap_view GoesOn TurnsAway rs s t

@@ -14,18 +14,19 @@ use Rattle.run_model.specs.Spending.{AreFullRightly}
 use Rattle.run_model.specs.Workers.{Replies, worker_requests}
 use Rattle.shard_moves.specs.Arriving.{HaveTables, ListAllKeys}
 use Rattle.worker_run.proofs.AgainLemmas.{has_keys}
-use Rattle.worker_run.proofs.SpendLemmas.{knows_then, refused_none}
+use Rattle.worker_run.proofs.SpendLemmas.{answered_none, knows_then, refused_none}
 use Rattle.worker_parts.specs.Asking.{HasExecuted}
 use Rattle.worker_parts.specs.Begun.{IsBegun}
 use Rattle.worker_parts.specs.Going.{GoesOn, HasSettled}
 use Rattle.worker_parts.specs.Jobs.{IsFirst, IsPartOf, image_of}
-use Rattle.worker_parts.proofs.EndLemmas.{answered_none, arrival_ends, halt_ends, stop_ends}
+use Rattle.worker_parts.proofs.BeginLemmas.{first_opened}
+use Rattle.worker_parts.proofs.EndLemmas.{arrival_ends, halt_ends, stop_ends}
 use Rattle.worker_parts.proofs.SettleLemmas.{CostsOne, settled_costs}
 use Rattle.worker_parts.proofs.StateLemmas.{goes_none, goes_then}
 use Rattle.worker_parts.proofs.ArrivalLemmas.{BringsIn, ends_emptied, ends_exact, ends_stopped}
 use Rattle.worker_parts.proofs.BroughtLemmas.{tables_wanted}
 use Rattle.worker_parts.proofs.KeyLemmas.{arrival_keys, arrival_keys_long, arrivals_listed}
-use Rattle.worker_parts.proofs.PartLemmas.{first_opened, part_of, part_of_seat, roots_on, seat_on}
+use Rattle.worker_parts.proofs.PartLemmas.{part_of, part_of_seat, roots_on, seat_on}
 
 -- a worker that was stopped in a request, and ends so
 pub left_part : (shared : SharedView) (requests : List Request) (workers worker : ℕ) (tables : ℕ → Bool) (replies : Replies)

@@ -20,17 +20,19 @@ use Rattle.worker_parts.specs.Going.{GoesOn, HasSettled, had_stopped, is_empty, 
 use Rattle.worker_parts.specs.Jobs.{AreLeftOf, HasTableFor}
 use Rattle.worker_parts.specs.Parts.{ArrivalsAreFew, IsPart, LacksTable, SpendsFew}
 
--- "ab" on its way to key 9, and nothing on its way to key 1
+-- "ab" on its way to key 9
 abbrev third : Sent
 third = record { number = 3; key = 9; value = 97 ∷ 98 ∷ [] }
 
+-- no words on their way to key 1
 abbrev fifth : Sent
 fifth = record { number = 5; key = 1; value = [] }
 
--- a seat that draws this ticket next, and one with a root of its own
+-- a seat that draws this ticket next
 abbrev drawing : ℕ → View
 drawing next = seat_with (look_with 0 0) next
 
+-- one with a root of its own
 abbrev rooted : View
 rooted = record (drawing 7) { roots = 2 ∷ [] }
 
@@ -174,15 +176,17 @@ arrivals_none mine keys s t one few = let small = few.small in omega (arith, one
 left_over : AreLeftOf (third ∷ fifth ∷ []) (third ∷ fifth ∷ []) × AreLeftOf (third ∷ fifth ∷ []) (fifth ∷ [])
 left_over = (inl refl, inr (third, refl))
 
--- not where two were dropped, nor the last one, nor where one was added
+-- by whose request the first of them is, or 0 where there is none
 abbrev first_number : List Sent → ℕ
 first_number [] = 0
 first_number (s ∷ rest) = s.number
 
+-- by whose the second is
 abbrev second_number : List Sent → ℕ
 second_number [] = 0
 second_number (s ∷ rest) = first_number rest
 
+-- not where two were dropped, nor the last one, nor where one was added
 two_dropped : AreLeftOf (third ∷ fifth ∷ []) [] → ⊥
 two_dropped (inl same) = let e : [] ≡ third ∷ fifth ∷ [] = same in absurd (cc)
 two_dropped (inr one) = let e : third ∷ fifth ∷ [] ≡ one.0 ∷ [] = one.1 in absurd (cc)
