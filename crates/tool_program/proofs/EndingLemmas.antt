@@ -1,58 +1,62 @@
--- The status of a call of the tool, by equal words, and where memory ran out before there were words.
-use Rattle.std.proofs.Common.{◌≡◌, ℕ, ◌+◌, List, Option, inl, inr, lit<, refl, sym, subst, arith}
-use Rattle.tool_ports.specs.Left.{GivesAtMost}
-use Rattle.tool_ports.specs.Contents.{Contents}
-use Rattle.tool_run.specs.Lines.{Explains, memory_line}
-use Rattle.tool_run.specs.Making.{longest_trace}
+-- What is so of a call of the tool is so by equal words and by an equal status, and where help was told behind it.
+use Rattle.std.proofs.Common.{◌≡◌, ℕ, List, Option, sym, subst}
+use Rattle.tool_run.specs.ChancesUse.{UsesChances}
+use Rattle.tool_run.specs.Completeness.{IsComplete}
+use Rattle.tool_run.specs.Lines.{Explains}
 use Rattle.tool_run.specs.Outcome.{IsBadTrace}
-use Rattle.tool_run.specs.Status.{out_of_memory}
-use Rattle.tool_run.proofs.ReadingLemmas.{none_taken}
-use Rattle.tool_program.specs.Ending.{Seen, IsTold, IsStatusOf}
+use Rattle.tool_run.specs.Seen.{Seen, IsTold}
+use Rattle.tool_run.specs.SourceUse.{UsesSource}
+use Rattle.tool_run.specs.Status.{bad_trace}
+use Rattle.tool_run.specs.Statuses.{IsStatusOf}
+use Rattle.tool_run.specs.StoreUse.{UsesStore}
 use Rattle.tool_program.specs.Errors.{TellsHelp}
 
--- it was told, and nothing was put or read
-pub told_memory : (words : List (List ℕ)) (old new : Seen) (Explained : Option (List ℕ) → Type 0) (status : ℕ) → status ≡ out_of_memory → new.contents ≡ old.contents
-    → new.left ≡ old.left → new.source_faults ≡ old.source_faults → new.store_faults ≡ old.store_faults
-    → IsTold old new memory_line → IsStatusOf words old new Explained status
-told_memory words old new Explained status is same unread steady stands told = subst (λ (s : ℕ). IsStatusOf words old new Explained s) (sym is) (record {
-  known = (2, lit< tt, refl);
-  ok = λ e. absurd (omega (arith, e));
-  no_command = λ e. absurd (omega (arith, e));
-  failed_read = λ e. absurd (omega (arith, e));
-  failed_write = λ e. absurd (omega (arith, e));
-  absent = λ e. absurd (omega (arith, e));
-  cause = λ e. absurd (omega (arith, e));
-  points_outside = λ e. absurd (omega (arith, e));
-  no_map = λ e. absurd (omega (arith, e));
-  bad_line = λ e. absurd (omega (arith, e));
-  line = told;
-  unchanged = λ leaves. same;
-  read_at_most = subst (λ (left : Option (List ℕ)). GivesAtMost (longest_trace + 1) old.left left) (sym unread)
-      (none_taken (longest_trace + 1) old.left);
-  no_failed_read = λ other. steady;
-  no_failed_call = λ read write. stands;
-  one_failed = inl stands;
-  no_failed_write = λ e. absurd (omega (arith, e));
-  always_usage = λ asks. inr refl;
-  complete = λ command asks can store source sink. inr refl;
-})
+-- what holds of words and a status holds of equal ones
+by_equal : (P : List (List ℕ) → ℕ → Type 0) (words words' : List (List ℕ)) (status status' : ℕ) → words ≡ words' → status' ≡ status
+    → P words status → P words' status'
+by_equal P words words' status status' same equal holds =
+    subst (λ (s : ℕ). P words' s) (sym equal) (subst (λ (ws : List (List ℕ)). P ws status) same holds)
 
--- the words are those that the arguments tell
-pub by_words : (words words' : List (List ℕ)) (old new : Seen) (Explained : Option (List ℕ) → Type 0) (status : ℕ) → words ≡ words'
-    → IsStatusOf words old new Explained status → IsStatusOf words' old new Explained status
-by_words words words' old new Explained status same is = subst (λ (ws : List (List ℕ)). IsStatusOf ws old new Explained status) same is
+module _ (words words' : List (List ℕ)) (old new : Seen) (status status' : ℕ) (same : words ≡ words') (equal : status' ≡ status) where
+  pub status_by : (Explained : Option (List ℕ) → Type 0) → IsStatusOf words old new Explained status → IsStatusOf words' old new Explained status'
+  status_by Explained = by_equal (λ ws s. IsStatusOf ws old new Explained s) words words' status status' same equal
 
--- and the status is the same number
-pub same_status : (words : List (List ℕ)) (old new : Seen) (Explained : Option (List ℕ) → Type 0) (status status' : ℕ) → status' ≡ status
-    → IsStatusOf words old new Explained status → IsStatusOf words old new Explained status'
-same_status words old new Explained status status' same is = subst (λ (s : ℕ). IsStatusOf words old new Explained s) (sym same) is
+  pub store_by : UsesStore words old new status → UsesStore words' old new status'
+  store_by = by_equal (λ ws s. UsesStore ws old new s) words words' status status' same equal
+
+  pub source_by : {T : Type 0} (HasEnded : T → Type 0) (before after : T) → UsesSource words old new HasEnded before after status
+      → UsesSource words' old new HasEnded before after status'
+  source_by HasEnded before after = by_equal (λ ws s. UsesSource ws old new HasEnded before after s) words words' status status' same equal
+
+  pub chances_by : {C One : Type 0} (seed_gives : C → ℕ → C → Type 0) (chance_gives : C → ℕ → One → C → Type 0) (draw_gives : One → ℕ → One
+      → Type 0) (word_gives : C → ℕ → C → Type 0) (before after : C)
+      → UsesChances seed_gives chance_gives draw_gives word_gives words old new before after status
+      → UsesChances seed_gives chance_gives draw_gives word_gives words' old new before after status'
+  chances_by seed_gives chance_gives draw_gives word_gives before after =
+      by_equal (λ ws s. UsesChances seed_gives chance_gives draw_gives word_gives ws old new before after s) words words' status status' same equal
+
+  pub complete_by : IsComplete words old new status → IsComplete words' old new status'
+  complete_by = by_equal (λ ws s. IsComplete ws old new s) words words' status status' same equal
 
 -- what was said of a trace stands where nothing was said behind it
-pub explained_since : {H : Type 0} (faults : H → ℕ) (taken : H → Option (List ℕ)) (old mid new : H) (words : List (List ℕ)) (contents : Contents)
-    (left : Option (List ℕ)) (Told : List ℕ → Type 0) → new ≡ mid → IsBadTrace words contents left Told (Explains faults taken old mid)
-    → IsBadTrace words contents left Told (Explains faults taken old new)
-explained_since {H} faults taken old mid new words contents left Told same is =
-    subst (λ (h : H). IsBadTrace words contents left Told (Explains faults taken old h)) (sym same) is
+pub explained_since : {H : Type 0} (faults : H → ℕ) (taken : H → Option (List ℕ)) (old mid new : H) (words : List (List ℕ)) (before after : Seen)
+    (status : ℕ) → (status ≡ bad_trace → new ≡ mid) → IsStatusOf words before after (Explains faults taken old mid) status
+    → IsStatusOf words before after (Explains faults taken old new) status
+explained_since {H} faults taken old mid new words before after status same is = record {
+  known = is.known;
+  ok = is.ok;
+  no_failed_write = is.no_failed_write;
+  line = is.line;
+  usage = is.usage;
+  read_fault = is.read_fault;
+  write_fault = is.write_fault;
+  absent = is.absent;
+  cause = is.cause;
+  outside = is.outside;
+  bad_shard = is.bad_shard;
+  bad_trace = λ ten. subst (λ (h : H). IsBadTrace words before.contents before.left (IsTold before after) (Explains faults taken old h))
+      (sym (same ten)) (is.bad_trace ten);
+}
 
 -- and the help where nothing was said before it
 pub help_since : {H : Type 0} (faults : H → ℕ) (taken : H → Option (List ℕ)) (old mid new : H) → mid ≡ old

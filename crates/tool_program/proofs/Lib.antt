@@ -1,2 +1,1 @@
-mod CallsLemmas
 mod EndingLemmas

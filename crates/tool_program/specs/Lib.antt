@@ -1,5 +1,3 @@
-pub mod Calls
-pub mod Ending
 pub mod Errors
 pub mod Help
 pub mod Seeds

@@ -1,18 +1,18 @@
 //! What the program does with a command line, over any store, source and sink.
-ghost use Rattle.std.specs.Prelude.{◌≡◌, ◌≢◌, ℕ, List, IfOk, IsErrAnd};
+ghost use Rattle.std.specs.Prelude.{◌≡◌, ◌≢◌, IfOk, IsErrAnd};
 ghost use Rattle.std.specs.IoError.{error_kind};
 ghost use Rattle.std.specs.Process.{exit_status};
 ghost use Rattle.std.specs.String.{string_bytes};
-ghost use Rattle.tool_command.specs.Command.{Command, Asks, image_name};
-ghost use Rattle.tool_ports.specs.Causes.{RoseByOne};
-ghost use Rattle.tool_program.specs.Calls.{CallsStore, ReadsSourceInTurn, AsksChances};
-ghost use Rattle.tool_program.specs.Ending.{IsStatusOf};
 ghost use Rattle.tool_program.specs.Errors.{IsHelp, TellsHelp};
 ghost use Rattle.tool_program.specs.Words.{words_behind};
-ghost use Rattle.tool_run.specs.Asking.{AsksOf, IsDoneWith, IsToldCutOff};
+ghost use Rattle.tool_run.specs.ChancesUse.{UsesChances};
+ghost use Rattle.tool_run.specs.Completeness.{IsComplete};
 ghost use Rattle.tool_run.specs.Lines.{Tells, Explains};
-ghost use Rattle.tool_run.specs.Outcome.{AsksForSource};
-ghost use Rattle.tool_run.specs.Status.{done, out_of_memory, usage, write_fault, bad_trace};
+ghost use Rattle.tool_run.specs.Seen.{seen};
+ghost use Rattle.tool_run.specs.SourceUse.{UsesSource};
+ghost use Rattle.tool_run.specs.Status.{out_of_memory, usage, bad_trace};
+ghost use Rattle.tool_run.specs.Statuses.{IsStatusOf};
+ghost use Rattle.tool_run.specs.StoreUse.{UsesStore};
 
 use crate::complaint::complaint_on;
 use crate::usage::USAGE;
@@ -51,44 +51,36 @@ pub fn run_line<
     chances: &mut C,
 ) -> ExitCode
     ensures status { IsStatusOf (words_behind args)
-        (record {
-          contents = I.contents images.old;
-          left = T.left trace.old;
-          taken = O.taken out.old;
-          store_faults = I.faults images.old;
-          source_faults = T.faults trace.old;
-          sink_faults = O.faults out.old;
-        })
-        (record {
-          contents = I.contents images.new;
-          left = T.left trace.new;
-          taken = O.taken out.new;
-          store_faults = I.faults images.new;
-          source_faults = T.faults trace.new;
-          sink_faults = O.faults out.new;
-        })
+        (seen (I.contents images.old) (I.calls images.old) (I.faults images.old)
+        (T.left trace.old) (T.faults trace.old) (O.taken out.old) (O.faults out.old))
+        (seen (I.contents images.new) (I.calls images.new) (I.faults images.new)
+        (T.left trace.new) (T.faults trace.new) (O.taken out.new) (O.faults out.new))
         (Explains H.faults H.taken help.old help.new) (exit_status result) }
-    ensures has_ended { (name : List ℕ) → AsksForSource (words_behind args) name
-        → exit_status result ≡ done → T.has_ended trace.new }
-    ensures calls { CallsStore (words_behind args) (exit_status result)
-        (I.calls images.old) (I.calls images.new) }
-    ensures reading { ReadsSourceInTurn (words_behind args) (exit_status result)
-        (I.contents images.old) (T.left trace.new) trace.old trace.new }
-    ensures chances { AsksChances C.seed_gives C.chance_gives C.word_gives (words_behind args)
-        (exit_status result) chances.old chances.new }
-    ensures asked { (command : Command) → Asks (words_behind args) command
-        → exit_status result ≡ done
-        → IsDoneWith (image_name command) (I.contents images.old) (I.contents images.new)
-        (O.taken out.old) (O.taken out.new)
-        (AsksOf C.seed_gives C.chance_gives C.One.draw_gives C.word_gives command
-        (I.contents images.old) (T.left trace.old) chances.old chances.new) }
-    ensures asked_cut_off { (command : Command) → Asks (words_behind args) command
-        → exit_status result ≡ write_fault
-        → IsToldCutOff (image_name command) (I.contents images.old) (I.contents images.new)
-        (RoseByOne (I.faults images.old) (I.faults images.new))
-        (O.faults out.old) (O.faults out.new) (O.taken out.old) (O.taken out.new)
-        (AsksOf C.seed_gives C.chance_gives C.One.draw_gives C.word_gives command
-        (I.contents images.old) (T.left trace.old) chances.old chances.new) }
+    ensures store { UsesStore (words_behind args)
+        (seen (I.contents images.old) (I.calls images.old) (I.faults images.old)
+        (T.left trace.old) (T.faults trace.old) (O.taken out.old) (O.faults out.old))
+        (seen (I.contents images.new) (I.calls images.new) (I.faults images.new)
+        (T.left trace.new) (T.faults trace.new) (O.taken out.new) (O.faults out.new))
+        (exit_status result) }
+    ensures source { UsesSource (words_behind args)
+        (seen (I.contents images.old) (I.calls images.old) (I.faults images.old)
+        (T.left trace.old) (T.faults trace.old) (O.taken out.old) (O.faults out.old))
+        (seen (I.contents images.new) (I.calls images.new) (I.faults images.new)
+        (T.left trace.new) (T.faults trace.new) (O.taken out.new) (O.faults out.new))
+        T.has_ended trace.old trace.new (exit_status result) }
+    ensures chances { UsesChances C.seed_gives C.chance_gives C.One.draw_gives C.word_gives
+        (words_behind args)
+        (seen (I.contents images.old) (I.calls images.old) (I.faults images.old)
+        (T.left trace.old) (T.faults trace.old) (O.taken out.old) (O.faults out.old))
+        (seen (I.contents images.new) (I.calls images.new) (I.faults images.new)
+        (T.left trace.new) (T.faults trace.new) (O.taken out.new) (O.faults out.new))
+        chances.old chances.new (exit_status result) }
+    ensures complete { IsComplete (words_behind args)
+        (seen (I.contents images.old) (I.calls images.old) (I.faults images.old)
+        (T.left trace.old) (T.faults trace.old) (O.taken out.old) (O.faults out.old))
+        (seen (I.contents images.new) (I.calls images.new) (I.faults images.new)
+        (T.left trace.new) (T.faults trace.new) (O.taken out.new) (O.faults out.new))
+        (exit_status result) }
     ensures no_memory { IsErrAnd args (λ e. error_kind e ≡ ErrorKind.OutOfMemory)
         → exit_status result ≡ out_of_memory }
     ensures help { exit_status result ≡ usage → TellsHelp
@@ -122,43 +114,34 @@ fn answer<
     chances: &mut C,
 ) -> Status
     ensures status { IsStatusOf (words_behind args)
-        (record {
-          contents = I.contents images.old;
-          left = T.left trace.old;
-          taken = O.taken out.old;
-          store_faults = I.faults images.old;
-          source_faults = T.faults trace.old;
-          sink_faults = O.faults out.old;
-        })
-        (record {
-          contents = I.contents images.new;
-          left = T.left trace.new;
-          taken = O.taken out.new;
-          store_faults = I.faults images.new;
-          source_faults = T.faults trace.new;
-          sink_faults = O.faults out.new;
-        })
+        (seen (I.contents images.old) (I.calls images.old) (I.faults images.old)
+        (T.left trace.old) (T.faults trace.old) (O.taken out.old) (O.faults out.old))
+        (seen (I.contents images.new) (I.calls images.new) (I.faults images.new)
+        (T.left trace.new) (T.faults trace.new) (O.taken out.new) (O.faults out.new))
         (Explains H.faults H.taken help.old help.new) result }
-    ensures has_ended { (name : List ℕ) → AsksForSource (words_behind args) name
-        → result ≡ done → T.has_ended trace.new }
-    ensures calls { CallsStore (words_behind args) result
-        (I.calls images.old) (I.calls images.new) }
-    ensures reading { ReadsSourceInTurn (words_behind args) result
-        (I.contents images.old) (T.left trace.new) trace.old trace.new }
-    ensures chances { AsksChances C.seed_gives C.chance_gives C.word_gives (words_behind args)
-        result chances.old chances.new }
-    ensures asked { (command : Command) → Asks (words_behind args) command → result ≡ done
-        → IsDoneWith (image_name command) (I.contents images.old) (I.contents images.new)
-        (O.taken out.old) (O.taken out.new)
-        (AsksOf C.seed_gives C.chance_gives C.One.draw_gives C.word_gives command
-        (I.contents images.old) (T.left trace.old) chances.old chances.new) }
-    ensures asked_cut_off { (command : Command) → Asks (words_behind args) command
-        → result ≡ write_fault
-        → IsToldCutOff (image_name command) (I.contents images.old) (I.contents images.new)
-        (RoseByOne (I.faults images.old) (I.faults images.new))
-        (O.faults out.old) (O.faults out.new) (O.taken out.old) (O.taken out.new)
-        (AsksOf C.seed_gives C.chance_gives C.One.draw_gives C.word_gives command
-        (I.contents images.old) (T.left trace.old) chances.old chances.new) }
+    ensures store { UsesStore (words_behind args)
+        (seen (I.contents images.old) (I.calls images.old) (I.faults images.old)
+        (T.left trace.old) (T.faults trace.old) (O.taken out.old) (O.faults out.old))
+        (seen (I.contents images.new) (I.calls images.new) (I.faults images.new)
+        (T.left trace.new) (T.faults trace.new) (O.taken out.new) (O.faults out.new)) result }
+    ensures source { UsesSource (words_behind args)
+        (seen (I.contents images.old) (I.calls images.old) (I.faults images.old)
+        (T.left trace.old) (T.faults trace.old) (O.taken out.old) (O.faults out.old))
+        (seen (I.contents images.new) (I.calls images.new) (I.faults images.new)
+        (T.left trace.new) (T.faults trace.new) (O.taken out.new) (O.faults out.new))
+        T.has_ended trace.old trace.new result }
+    ensures chances { UsesChances C.seed_gives C.chance_gives C.One.draw_gives C.word_gives
+        (words_behind args)
+        (seen (I.contents images.old) (I.calls images.old) (I.faults images.old)
+        (T.left trace.old) (T.faults trace.old) (O.taken out.old) (O.faults out.old))
+        (seen (I.contents images.new) (I.calls images.new) (I.faults images.new)
+        (T.left trace.new) (T.faults trace.new) (O.taken out.new) (O.faults out.new))
+        chances.old chances.new result }
+    ensures complete { IsComplete (words_behind args)
+        (seen (I.contents images.old) (I.calls images.old) (I.faults images.old)
+        (T.left trace.old) (T.faults trace.old) (O.taken out.old) (O.faults out.old))
+        (seen (I.contents images.new) (I.calls images.new) (I.faults images.new)
+        (T.left trace.new) (T.faults trace.new) (O.taken out.new) (O.faults out.new)) result }
     ensures no_memory { IsErrAnd args (λ e. error_kind e ≡ ErrorKind.OutOfMemory)
         → result ≡ out_of_memory }
     ensures help { result ≡ usage → TellsHelp

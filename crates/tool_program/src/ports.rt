@@ -1,18 +1,20 @@
 //! What the program does over any store, source and sinks.
-ghost use Rattle.std.specs.Prelude.{◌≡◌, ◌≢◌, ℕ, List, IsErrAnd};
+ghost use Rattle.std.specs.Prelude.{◌≡◌, ◌≢◌, IsErrAnd};
 ghost use Rattle.std.specs.IoError.{error_kind};
 ghost use Rattle.std.specs.Process.{exit_status};
 ghost use Rattle.tool_command.specs.Command.{Command, Asks, image_name};
 ghost use Rattle.tool_ports.specs.Causes.{RoseByOne};
-ghost use Rattle.tool_program.specs.Calls.{CallsStore, ReadsSourceInTurn};
-ghost use Rattle.tool_program.specs.Ending.{IsStatusOf};
 ghost use Rattle.tool_program.specs.Errors.{TellsHelp};
 ghost use Rattle.tool_program.specs.Seeds.{IsMadeBySeed};
 ghost use Rattle.tool_program.specs.Words.{words_behind};
 ghost use Rattle.tool_run.specs.Asking.{IsDoneWith, IsToldCutOff};
+ghost use Rattle.tool_run.specs.Completeness.{IsComplete};
 ghost use Rattle.tool_run.specs.Lines.{Explains};
-ghost use Rattle.tool_run.specs.Outcome.{AsksForSource};
+ghost use Rattle.tool_run.specs.Seen.{seen};
+ghost use Rattle.tool_run.specs.SourceUse.{UsesSource};
 ghost use Rattle.tool_run.specs.Status.{done, out_of_memory, usage, write_fault, bad_trace};
+ghost use Rattle.tool_run.specs.Statuses.{IsStatusOf};
+ghost use Rattle.tool_run.specs.StoreUse.{UsesStore};
 
 use crate::ending::run_line;
 use std::alloc::Global;
@@ -36,29 +38,29 @@ pub fn run_ports<R: Threads + Wait + Sync, I: ImageStore, T: Source, O: Sink, H:
     help: &mut H,
 ) -> ExitCode
     ensures status { IsStatusOf (words_behind args)
-        (record {
-          contents = I.contents images.old;
-          left = T.left trace.old;
-          taken = O.taken out.old;
-          store_faults = I.faults images.old;
-          source_faults = T.faults trace.old;
-          sink_faults = O.faults out.old;
-        })
-        (record {
-          contents = I.contents images.new;
-          left = T.left trace.new;
-          taken = O.taken out.new;
-          store_faults = I.faults images.new;
-          source_faults = T.faults trace.new;
-          sink_faults = O.faults out.new;
-        })
+        (seen (I.contents images.old) (I.calls images.old) (I.faults images.old)
+        (T.left trace.old) (T.faults trace.old) (O.taken out.old) (O.faults out.old))
+        (seen (I.contents images.new) (I.calls images.new) (I.faults images.new)
+        (T.left trace.new) (T.faults trace.new) (O.taken out.new) (O.faults out.new))
         (Explains H.faults H.taken help.old help.new) (exit_status result) }
-    ensures has_ended { (name : List ℕ) → AsksForSource (words_behind args) name
-        → exit_status result ≡ done → T.has_ended trace.new }
-    ensures calls { CallsStore (words_behind args) (exit_status result)
-        (I.calls images.old) (I.calls images.new) }
-    ensures reading { ReadsSourceInTurn (words_behind args) (exit_status result)
-        (I.contents images.old) (T.left trace.new) trace.old trace.new }
+    ensures store { UsesStore (words_behind args)
+        (seen (I.contents images.old) (I.calls images.old) (I.faults images.old)
+        (T.left trace.old) (T.faults trace.old) (O.taken out.old) (O.faults out.old))
+        (seen (I.contents images.new) (I.calls images.new) (I.faults images.new)
+        (T.left trace.new) (T.faults trace.new) (O.taken out.new) (O.faults out.new))
+        (exit_status result) }
+    ensures source { UsesSource (words_behind args)
+        (seen (I.contents images.old) (I.calls images.old) (I.faults images.old)
+        (T.left trace.old) (T.faults trace.old) (O.taken out.old) (O.faults out.old))
+        (seen (I.contents images.new) (I.calls images.new) (I.faults images.new)
+        (T.left trace.new) (T.faults trace.new) (O.taken out.new) (O.faults out.new))
+        T.has_ended trace.old trace.new (exit_status result) }
+    ensures complete { IsComplete (words_behind args)
+        (seen (I.contents images.old) (I.calls images.old) (I.faults images.old)
+        (T.left trace.old) (T.faults trace.old) (O.taken out.old) (O.faults out.old))
+        (seen (I.contents images.new) (I.calls images.new) (I.faults images.new)
+        (T.left trace.new) (T.faults trace.new) (O.taken out.new) (O.faults out.new))
+        (exit_status result) }
     ensures by_seed { (command : Command) → Asks (words_behind args) command
         → exit_status result ≡ done
         → IsDoneWith (image_name command) (I.contents images.old) (I.contents images.new)

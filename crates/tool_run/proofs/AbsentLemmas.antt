@@ -6,7 +6,8 @@ use Rattle.tool_run.specs.declared.fault.Fault.{Fault}
 use Rattle.tool_run.specs.declared.fault.Fault.TheVariants.{Memory, ReadFault, Absent, Malformed, Outside, BadShard}
 use Rattle.tool_command.proofs.OneCommandLemmas.{one_command}
 use Rattle.tool_run.specs.Inside.{Refuses, IsCarriedOut, IsStopped, status_of}
-use Rattle.tool_run.specs.Making.{Makes, GetsImage}
+use Rattle.tool_run.specs.Making.{Makes}
+use Rattle.tool_run.specs.CommandUses.{GetsImage}
 use Rattle.tool_run.specs.Outcome.{AsksToGet}
 use Rattle.tool_run.specs.Status.{out_of_memory, read_fault, no_image}
 use Rattle.tool_run.proofs.OutsideLemmas.{of_told}

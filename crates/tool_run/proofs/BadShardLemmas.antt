@@ -9,7 +9,8 @@ use Rattle.tool_run.specs.declared.fault.Fault.{Fault}
 use Rattle.tool_run.specs.declared.fault.Fault.TheVariants.{Usage, Memory, ReadFault, WriteFault, Absent, Malformed, Outside, BadShard, BadLine, BadStep, TooLong}
 use Rattle.tool_command.proofs.OneCommandLemmas.{one_command}
 use Rattle.tool_run.specs.Inside.{Refuses, IsCarriedOut, IsStopped, status_of}
-use Rattle.tool_run.specs.Making.{Makes, Reads, ReplaysASchedule, HasMapped, PointsOutside, fault_of, fault_within}
+use Rattle.tool_run.specs.Making.{Makes, HasMapped, PointsOutside, fault_of, fault_within}
+use Rattle.tool_run.specs.CommandUses.{Reads, ReplaysASchedule}
 use Rattle.tool_run.specs.Outcome.{AsksToRead, HoldsBadShard}
 use Rattle.tool_run.specs.Status.{out_of_memory, read_fault, bad_shard}
 use Rattle.tool_run.proofs.FilterLemmas.{follows_checks, reads_follows}

@@ -9,7 +9,8 @@ use Rattle.tool_run.specs.declared.fault.Fault.{Fault}
 use Rattle.tool_run.specs.declared.fault.Fault.TheVariants.{Memory, ReadFault, BadLine, TooLong}
 use Rattle.tool_command.proofs.OneCommandLemmas.{one_command}
 use Rattle.tool_run.specs.Inside.{Refuses, IsTraceFault, IsCarriedOut, IsStopped, status_of}
-use Rattle.tool_run.specs.Making.{Options, Makes, ReplaysASchedule, HasTrace, longest_trace}
+use Rattle.tool_run.specs.Making.{Options, Makes, HasTrace, longest_trace}
+use Rattle.tool_run.specs.CommandUses.{ReplaysASchedule}
 use Rattle.tool_run.specs.Outcome.{AsksForRun, HoldsMaps, HoldsBadLine, HoldsTooMuch}
 use Rattle.tool_run.specs.Status.{out_of_memory, read_fault, bad_trace}
 use Rattle.tool_run.proofs.CompleteLemmas.{refused}

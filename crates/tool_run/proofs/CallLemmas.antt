@@ -10,7 +10,8 @@ use Rattle.tool_run.specs.declared.fault.Fault.{Fault}
 use Rattle.tool_run.specs.declared.fault.Fault.TheVariants.{Usage, Memory, ReadFault, WriteFault, Absent, Malformed, Outside, BadShard, BadLine, BadStep, TooLong}
 use Rattle.tool_run.specs.Inside.{DeliveryFails, IsStopped, Refuses, RefusesEither, status_of}
 use Rattle.dict_model.specs.Links.{kind_count}
-use Rattle.tool_run.specs.Making.{Makes, GetsImage, FollowsLinks, PutsBack, kinds_checked}
+use Rattle.tool_run.specs.Making.{Makes}
+use Rattle.tool_run.specs.CommandUses.{GetsImage, FollowsLinks, PutsBack, kinds_checked}
 use Rattle.tool_run.specs.Outcome.{IsCutOff, while_putting, while_printing}
 use Rattle.tool_run.proofs.FilterLemmas.{follows_gets, follows_checks}
 

@@ -10,7 +10,8 @@ use Rattle.tool_run.specs.declared.fault.Fault.{Fault}
 use Rattle.tool_run.specs.declared.fault.Fault.TheVariants.{Usage, Memory, ReadFault, WriteFault, Absent, Malformed, Outside, BadShard, BadLine, BadStep, TooLong}
 use Rattle.tool_command.proofs.OneCommandLemmas.{one_command}
 use Rattle.tool_run.specs.Inside.{Refuses, IsTraceFault, IsReplayFault, DeliveryFails, IsStopped, status_of}
-use Rattle.tool_run.specs.Making.{GetsImage, FollowsLinks, RefusesOutside, IsOrderlyIn, HasOutside, kinds_checked, Reads, RunsATrace, ReplaysASchedule, ReadsSource, PointsOutside, HasBadStep, HasTooMuch, fault_within, longest_trace}
+use Rattle.tool_run.specs.Making.{IsOrderlyIn, HasOutside, PointsOutside, HasBadStep, HasTooMuch, fault_within, longest_trace}
+use Rattle.tool_run.specs.CommandUses.{GetsImage, FollowsLinks, RefusesOutside, kinds_checked, Reads, RunsATrace, ReplaysASchedule, ReadsSource}
 use Rattle.tool_run.specs.Outcome.{HoldsFormed, HoldsGood, HoldsMaps, HoldsTrace, HoldsSchedule, HoldsReplay, CanBeDone, IsCutOff, while_putting, while_printing}
 use Rattle.tool_run.specs.Status.{done, out_of_memory}
 use Rattle.trace_text.specs.Trace.{lines_of, AreLines}

@@ -2,7 +2,7 @@
 use Rattle.std.proofs.Common.{◌≡◌, ℕ, List, Some, refl}
 use Rattle.dict_model.specs.Links.{kind_count}
 use Rattle.tool_command.specs.Command.{Command, format_image, show_image, gen_trace, run_image, replay_image, conservative_image, count_image}
-use Rattle.tool_run.specs.Making.{GetsImage, FollowsLinks, RefusesOutside, Reads, RunsATrace, ReplaysASchedule, kinds_checked}
+use Rattle.tool_run.specs.CommandUses.{GetsImage, FollowsLinks, RefusesOutside, Reads, RunsATrace, ReplaysASchedule, kinds_checked}
 
 pub follows_gets : (command : Command) → FollowsLinks command → GetsImage command
 follows_gets (format_image image capacity) follows = follows

@@ -23,7 +23,8 @@ use Rattle.tool_run.specs.Calls.{get_limit}
 use Rattle.tool_command.specs.Command.{Command, image_name}
 use Rattle.tool_run.specs.Inside.{Refuses, fault_of_recovery, fault_of_get}
 use Rattle.tool_run.proofs.FilterLemmas.{follows_refuses}
-use Rattle.tool_run.specs.Making.{GetsImage, FollowsLinks, kinds_checked, fault_within, image_in, Shows, IsMalformed, HasOutside, PointsOutside}
+use Rattle.tool_run.specs.Making.{fault_within, image_in, Shows, IsMalformed, HasOutside, PointsOutside}
+use Rattle.tool_run.specs.CommandUses.{GetsImage, FollowsLinks, kinds_checked}
 use Rattle.tool_run.specs.Recovering.{IsGoodImage, HoldsImage, IsRecoveredHeapOf, IsRecoveredFrom, IsRecoveredHeap, IsRecoveryFault, IsTextOf, words_in_bytes}
 use Rattle.std.specs.BTreeMap.{BTreeMap}
 use Rattle.heap_model.specs.Rest.{IsReady}

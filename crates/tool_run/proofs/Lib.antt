@@ -25,3 +25,6 @@ pub mod RebuildLemmas
 pub mod ReplayLemmas
 pub mod BadScheduleLemmas
 pub mod OutsideLeftLemmas
+pub mod IdleLemmas
+pub mod CarriedLemmas
+pub mod StoppedLemmas

@@ -8,7 +8,8 @@ use Rattle.tool_run.specs.declared.fault.Fault.TheVariants.{Usage, Memory, ReadF
 use Rattle.tool_command.proofs.OneCommandLemmas.{one_command}
 use Rattle.tool_run.specs.Inside.{Refuses, IsCarriedOut, IsStopped, status_of}
 use Rattle.dict_model.specs.Links.{kind_count}
-use Rattle.tool_run.specs.Making.{Makes, GetsImage, HasMapped, HasGood, kinds_checked, fault_within}
+use Rattle.tool_run.specs.Making.{Makes, HasMapped, HasGood, fault_within}
+use Rattle.tool_run.specs.CommandUses.{GetsImage, kinds_checked}
 use Rattle.tool_run.specs.Outcome.{AsksToGet, HoldsMalformed}
 use Rattle.tool_run.specs.Status.{out_of_memory, read_fault, bad_header}
 use Rattle.tool_run.proofs.FilterLemmas.{follows_checks, refuses_checks, reads_follows, runs_follows, replays_follows}

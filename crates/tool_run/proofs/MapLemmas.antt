@@ -16,7 +16,8 @@ use Rattle.tool_ports.specs.Contents.{Contents}
 use Rattle.tool_run.specs.declared.fault.Fault.{Fault}
 use Rattle.tool_command.specs.Command.{Command, image_name}
 use Rattle.tool_run.specs.Inside.{Refuses, fault_of_maps}
-use Rattle.tool_run.specs.Making.{Reads, HasBadShard}
+use Rattle.tool_run.specs.Making.{HasBadShard}
+use Rattle.tool_run.specs.CommandUses.{Reads}
 use Rattle.tool_run.specs.Recovering.{IsRecoveredHeapOf, IsMapped}
 
 module _ (contents : Contents) (name : List ℕ) (recovered : Recovered) (is : IsRecoveredHeapOf contents name recovered)

@@ -18,7 +18,8 @@ use Rattle.tool_run.specs.declared.fault.Fault.{Fault}
 use Rattle.tool_run.specs.declared.fault.Fault.TheVariants.{Memory, ReadFault, Outside, BadStep, TooLong}
 use Rattle.tool_command.proofs.OneCommandLemmas.{one_command}
 use Rattle.tool_run.specs.Inside.{Refuses, IsReplayFault, IsCarriedOut, IsStopped, status_of}
-use Rattle.tool_run.specs.Making.{Makes, RunsATrace, HasHeap, HasSchedule, ReplaysNamed, LeavesOutside}
+use Rattle.tool_run.specs.Making.{Makes, HasHeap, HasSchedule, ReplaysNamed, LeavesOutside}
+use Rattle.tool_run.specs.CommandUses.{RunsATrace}
 use Rattle.tool_run.specs.Outcome.{AsksForReplay, HoldsGood, HoldsSchedule, HoldsOutsideLeft}
 use Rattle.tool_run.specs.Status.{out_of_memory, read_fault, outside}
 use Rattle.tool_run.proofs.BadScheduleLemmas.{by_image}

@@ -9,7 +9,8 @@ use Rattle.tool_run.specs.declared.fault.Fault.{Fault}
 use Rattle.tool_run.specs.declared.fault.Fault.TheVariants.{Usage, Memory, ReadFault, WriteFault, Absent, Malformed, Outside, BadShard, BadLine, BadStep, TooLong}
 use Rattle.tool_command.proofs.OneCommandLemmas.{one_command}
 use Rattle.tool_run.specs.Inside.{Refuses, IsCarriedOut, IsStopped, status_of}
-use Rattle.tool_run.specs.Making.{Makes, RefusesOutside, HasMapped, HasGood, PointsOutside, fault_of, fault_within}
+use Rattle.tool_run.specs.Making.{Makes, HasMapped, HasGood, PointsOutside, fault_of, fault_within}
+use Rattle.tool_run.specs.CommandUses.{RefusesOutside}
 use Rattle.tool_run.specs.Outcome.{AsksToGet, HoldsOutside}
 use Rattle.tool_run.specs.Status.{out_of_memory, read_fault, outside}
 use Rattle.image_run.specs.Counting.{IsOrderlyImage, TellsOpened, by_anchors, traced}

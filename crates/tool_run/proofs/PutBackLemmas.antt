@@ -11,7 +11,7 @@ use Rattle.tool_run.specs.declared.fault.Fault.{Fault}
 use Rattle.tool_run.specs.declared.fault.Fault.TheVariants.{Usage, Memory, ReadFault, WriteFault, Absent, Malformed, Outside, BadShard, BadLine, BadStep, TooLong}
 use Rattle.tool_command.proofs.OneCommandLemmas.{one_command}
 use Rattle.tool_run.specs.Inside.{Refuses, DeliveryFails, IsStopped, status_of}
-use Rattle.tool_run.specs.Making.{GetsImage, PutsBack}
+use Rattle.tool_run.specs.CommandUses.{GetsImage, PutsBack}
 use Rattle.tool_run.specs.Outcome.{AsksToLook, AsksToPutBack}
 use Rattle.tool_run.specs.Status.{done, out_of_memory, write_fault}
 use Rattle.tool_run.proofs.CallLemmas.{put_back}
@@ -80,6 +80,39 @@ never_called words command before after fault asked calls requests seed asks =
     let same : command ≡ gen_trace requests seed = one_command words command (gen_trace requests seed) asked asks in
     calls ∙ ap (λ (c : Command). with_status c (status_of fault) before) same
     ∙ either (nat_eq (status_of fault) write_fault) before before before refl refl
+
+-- want of memory is before a put
+unput : (command : Command) (before after : StoreCalls) (status : ℕ) (fault : Fault) → after ≡ with_status command (status_of fault) before
+    → status ≡ status_of fault → status ≡ out_of_memory → after ≡ with_making command before
+unput command before after status fault calls is memory = subst (λ n. after ≡ with_status command n before) (sym is ∙ memory) calls
+
+-- to make a result takes one get, or none
+one_or_none : (command : Command) (before : StoreCalls)
+    → (with_making command before ≡ before) ⊎ (with_making command before ≡ with_get get_limit before)
+one_or_none (format_image image capacity) before = inl refl
+one_or_none (show_image image with_map in_parallel) before = inr refl
+one_or_none (drain_image image class) before = inr refl
+one_or_none (gen_trace requests seed) before = inl refl
+one_or_none (run_image image options) before = inr refl
+one_or_none (rebuild_image image budget seed) before = inr refl
+one_or_none (replay_image image seed) before = inr refl
+one_or_none (conservative_image image with_map) before = inr refl
+one_or_none (count_image image with_map) before = inr refl
+
+pub got_or_not : (command : Command) (before after : StoreCalls) (status : ℕ) (fault : Fault) → after ≡ with_status command (status_of fault) before
+    → status ≡ status_of fault → status ≡ out_of_memory → (after ≡ before) ⊎ (after ≡ with_get get_limit before)
+got_or_not command before after status fault calls is memory = elim (one_or_none command before) [
+  | inl none ↦ inl (unput command before after status fault calls is memory ∙ none)
+  | inr one ↦ inr (unput command before after status fault calls is memory ∙ one)
+]
+
+-- so no empty image is put then
+pub none_put : (words : List (List ℕ)) (command : Command) (before after : StoreCalls) (status : ℕ) (fault : Fault)
+    → Asks words command → after ≡ with_status command (status_of fault) before → status ≡ status_of fault
+    → (image : List ℕ) (capacity : ℕ) → AsksToFormat words image capacity → status ≡ out_of_memory → after ≡ before
+none_put words command before after status fault asked calls is image capacity asks memory =
+    let same : command ≡ format_image image capacity = one_command words command (format_image image capacity) asked asks in
+    unput command before after status fault calls is memory ∙ ap (λ (c : Command). with_making c before) same
 
 -- an empty image is refused by want of memory alone
 format_refused : (image : List ℕ) (capacity : ℕ) (contents : Contents) (A : Type 0) (fault : Fault) → status_of fault ≢ out_of_memory

@@ -4,11 +4,11 @@ use Rattle.tool_ports.specs.Contents.{Contents}
 use Rattle.tool_command.specs.Command.{Command, format_image, show_image, drain_image, gen_trace, run_image, rebuild_image, replay_image, conservative_image, count_image, image_name, Asks}
 use Rattle.tool_run.specs.declared.fault.Fault.{Fault}
 use Rattle.tool_run.specs.declared.fault.Fault.TheVariants.{Usage, Memory, ReadFault, WriteFault, Absent, Malformed, Outside, BadShard, BadLine, BadStep, TooLong}
-use Rattle.tool_run.specs.Inside.{IsStopped, IsBeforeReading, status_of, line_of, explanation_of}
+use Rattle.tool_run.specs.Inside.{DeliveryFails, IsStopped, IsBeforeReading, status_of, line_of, explanation_of}
 use Rattle.tool_run.specs.Lines.{Tells, Explains}
-use Rattle.tool_run.specs.Making.{RunsATrace, ReplaysASchedule, ReadsSource}
+use Rattle.tool_run.specs.CommandUses.{RunsATrace, ReplaysASchedule, ReadsSource}
 use Rattle.tool_run.specs.Outcome.{AsksForRun, AsksForReplay, AsksForSource, IsReadFault, at_image, at_trace, at_schedule, IsWriteFault, IsAbsent, IsBadHeader, IsOutsideAt, in_image, in_image_left, IsBadShardAt, IsBadTrace, at_line, too_long, at_step, schedule_too_long}
-use Rattle.tool_run.specs.Status.{statuses, own_line, IsBeforeTrace, usage, read_fault, write_fault, no_image, bad_header, outside, bad_shard, bad_trace}
+use Rattle.tool_run.specs.Status.{statuses, own_line, LeavesStore, IsBeforeTrace, done, usage, read_fault, write_fault, no_image, bad_header, outside, bad_shard, bad_trace}
 use Rattle.tool_run.proofs.FilterLemmas.{refuses_gets}
 
 -- a fault has a status
@@ -268,6 +268,13 @@ before_reading words command status (BadLine line cause) asked is before no_repl
 before_reading words command status (BadStep line) asked is before no_replay = too_late status 10 before is (omega arith) (inr (omega arith))
 before_reading words command status TooLong asked is before no_replay = too_late status 10 before is (omega arith) (inr (omega arith))
 
+-- a result was made later than that
+pub done_is_later : (status : ℕ) → IsBeforeTrace status → status ≡ done → ⊥
+done_is_later status before is = elim (early status before.among.0 before.among.1 before.among.2) [
+  | inl two ↦ omega (arith, two, is)
+  | inr between ↦ omega (arith, between.0, is)
+]
+
 -- where no trace is refused nothing is explained
 pub unexplained : {H : Type 0} (faults : H → ℕ) (taken : H → Option (List ℕ)) (old new : H) (status : ℕ) (fault : Fault) → status ≡ status_of fault
     → Explains faults taken old new (explanation_of fault) → status ≢ bad_trace → new ≡ old
@@ -282,3 +289,41 @@ unexplained faults taken old new status (BadShard shard at) is explained other =
 unexplained faults taken old new status (BadLine line cause) is explained other = absurd (other is)
 unexplained faults taken old new status (BadStep line) is explained other = explained
 unexplained faults taken old new status TooLong is explained other = explained
+
+-- words that ask for a command are not refused
+pub never_usage : (command : Command) (old new : Contents) (left : Option (List ℕ)) (store_failed source_failed : Type 0) (faults between : ℕ)
+    (taken mid : Option (List ℕ)) (status : ℕ) (fault : Fault)
+    → IsStopped command old new left store_failed source_failed faults between taken mid fault → status ≡ status_of fault → status ≡ usage → ⊥
+never_usage command old new left store_failed source_failed faults between taken mid status Usage stopped is two = elim stopped.cause [
+  | inl (inl why, same) ↦ absurd why
+  | inl (inr (inl trace), same) ↦ absurd trace.why
+  | inl (inr (inr replay), same) ↦ absurd replay.why
+  | inr (image, text, made, why) ↦ absurd why
+]
+never_usage command old new left store_failed source_failed faults between taken mid status other stopped is two = absurd (omega arith)
+
+-- nothing was put where no put or write failed
+not_put : (name : List ℕ) (image : Option (List ℕ)) (text : List ℕ) (old new : Contents) (put_failed : Type 0) (faults between : ℕ)
+    (taken taken' : Option (List ℕ)) (status : ℕ) (fault : Fault) → status ≡ status_of fault → status ≢ write_fault
+    → DeliveryFails name image text old new put_failed faults between taken taken' fault → new ≡ old
+not_put name image text old new put_failed faults between taken taken' status Memory is other why = why.store
+not_put name image text old new put_failed faults between taken taken' status WriteFault is other why = absurd (other is)
+not_put name image text old new put_failed faults between taken taken' status Usage is other why = absurd why
+not_put name image text old new put_failed faults between taken taken' status ReadFault is other why = absurd why
+not_put name image text old new put_failed faults between taken taken' status Absent is other why = absurd why
+not_put name image text old new put_failed faults between taken taken' status (Malformed cause) is other why = absurd why
+not_put name image text old new put_failed faults between taken taken' status (Outside at value) is other why = absurd why
+not_put name image text old new put_failed faults between taken taken' status (BadShard shard at) is other why = absurd why
+not_put name image text old new put_failed faults between taken taken' status (BadLine line cause) is other why = absurd why
+not_put name image text old new put_failed faults between taken taken' status (BadStep line) is other why = absurd why
+not_put name image text old new put_failed faults between taken taken' status TooLong is other why = absurd why
+
+pub store_left : (command : Command) (old new : Contents) (left : Option (List ℕ)) (store_failed source_failed : Type 0) (faults between : ℕ)
+    (taken mid : Option (List ℕ)) (status : ℕ) (fault : Fault)
+    → IsStopped command old new left store_failed source_failed faults between taken mid fault → status ≡ status_of fault
+    → LeavesStore status → new ≡ old
+store_left command old new left store_failed source_failed faults between taken mid status fault stopped is leaves = elim stopped.cause [
+  | inl (why, same) ↦ same.store
+  | inr (image, text, made, why) ↦
+      not_put (image_name command) image text old new store_failed faults between taken mid status fault is leaves.not_put why
+]

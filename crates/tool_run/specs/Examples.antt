@@ -12,7 +12,8 @@ use Rattle.tool_ports.specs.Calls.{no_calls, with_get, with_put}
 use Rattle.tool_run.specs.Calls.{get_limit, with_status}
 use Rattle.tool_run.specs.Lines.{no_image_line, bad_header_line, bad_line_line}
 use Rattle.tool_ports.specs.Contents.{Contents}
-use Rattle.tool_run.specs.Making.{Makes, FollowsLinks, RefusesOutside, IsOrderlyIn, kinds_checked, formatted_line, drained_text, HasLeft, HasTooMuch}
+use Rattle.tool_run.specs.Making.{Makes, IsOrderlyIn, formatted_line, drained_text, HasLeft, HasTooMuch}
+use Rattle.tool_run.specs.CommandUses.{FollowsLinks, RefusesOutside, kinds_checked}
 use Rattle.tool_run.specs.Outcome.{CanBeDone}
 use Rattle.tool_run.specs.Status.{own_line, usage, done, bad_header, write_fault, bad_trace}
 

@@ -22,7 +22,8 @@ use Rattle.dictionary.specs.declared.fault.MapFault.{MapFault}
 use Rattle.dictionary.specs.declared.fault.MapFault.TheVariants.{BadShard as NoMap, Memory as MapMemory}
 use Rattle.tool_command.specs.Command.{Command, image_name}
 use Rattle.tool_run.specs.Lines.{usage_line, memory_line, read_line, write_line, no_image_line, bad_header_line, outside_line, bad_shard_line, bad_line_line, bad_step_line, too_long_line, explained_line}
-use Rattle.tool_run.specs.Making.{Makes, GetsImage, RefusesOutside, kinds_checked, Reads, RunsATrace, ReplaysASchedule, IsMalformed, HasOutside, HasBadShard, HasMapped, HasTrace, HasBadLine, HasTooMuch, HasGood, HasBadStep, HasOutsideLeft}
+use Rattle.tool_run.specs.Making.{Makes, IsMalformed, HasOutside, HasBadShard, HasMapped, HasTrace, HasBadLine, HasTooMuch, HasGood, HasBadStep, HasOutsideLeft}
+use Rattle.tool_run.specs.CommandUses.{GetsImage, RefusesOutside, kinds_checked, Reads, RunsATrace, ReplaysASchedule}
 use Rattle.tool_run.specs.Outcome.{Puts, IsCutOff}
 use Rattle.tool_run.specs.Status.{usage, out_of_memory, read_fault, write_fault, no_image, bad_header, outside, bad_shard, bad_trace}
 

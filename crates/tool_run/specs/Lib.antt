@@ -4,8 +4,15 @@ pub mod Seeding
 pub mod SeedExamples
 pub mod Lines
 pub mod Making
+pub mod CommandUses
 pub mod Recovering
 pub mod Outcome
+pub mod Seen
+pub mod Statuses
+pub mod StoreUse
+pub mod SourceUse
+pub mod ChancesUse
+pub mod Completeness
 pub mod Inside
 pub mod Asking
 pub mod Examples

@@ -10,16 +10,19 @@ use Rattle.trace_faults.specs.Texts.{fault_text}
 use Rattle.trace_faults.specs.declared.fault.LineFault.{LineFault}
 use Rattle.trace_text.specs.Report.{line_feed}
 
--- the lines of the statuses 2 to 5
+-- the line of status 2
 abbrev pub usage_line : List ℕ
 usage_line = codes "usage" ++ line_feed
 
+-- that of 3
 abbrev pub memory_line : List ℕ
 memory_line = codes "out of memory" ++ line_feed
 
+-- that of 4
 abbrev pub read_line : List ℕ
 read_line = codes "read fault" ++ line_feed
 
+-- that of 5
 abbrev pub write_line : List ℕ
 write_line = codes "write fault" ++ line_feed
 

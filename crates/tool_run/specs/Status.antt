@@ -42,6 +42,7 @@ bad_shard = 9
 abbrev pub bad_trace : ℕ
 bad_trace = 10
 
+-- there is no other
 abbrev pub statuses : List ℕ
 statuses = done ∷ usage ∷ out_of_memory ∷ read_fault ∷ write_fault ∷ no_image ∷ bad_header ∷ outside ∷ bad_shard ∷ bad_trace ∷ []
 
@@ -64,5 +65,6 @@ pub record IsBeforeTrace (status : ℕ) : Type 0 where
 abbrev pub own_lines : List (Option (List ℕ))
 own_lines = None ∷ None ∷ Some usage_line ∷ Some memory_line ∷ Some read_line ∷ []
 
+-- the line of a status that has one line alone, if it has
 abbrev pub own_line : ℕ → Option (List ℕ)
 own_line status = slice_index_or own_lines status None

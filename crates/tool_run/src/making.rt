@@ -8,7 +8,8 @@ ghost use Rattle.tool_command.specs.Invocations.{command_of};
 ghost use Rattle.tool_run.specs.Inside.{Refuses, RefusesEither, IsBeforeReading, IsBeforeSeeding};
 ghost use Rattle.tool_command.specs.Command.{show_image, image_name};
 ghost use Rattle.tool_ports.specs.Left.{IsAtEnd, GivesAtMost};
-ghost use Rattle.tool_run.specs.Making.{Makes, RefusesOutside, ReadsSource, IsFormatted, Shows, longest_trace};
+ghost use Rattle.tool_run.specs.Making.{Makes, IsFormatted, Shows, longest_trace};
+ghost use Rattle.tool_run.specs.CommandUses.{RefusesOutside, ReadsSource};
 ghost use Rattle.tool_run.specs.Outcome.{HoldsOutside};
 ghost use Rattle.tool_run.specs.Seeding.{seed_of, BeginBy};
 

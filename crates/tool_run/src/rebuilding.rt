@@ -7,7 +7,8 @@ ghost use Rattle.tool_run.specs.Asking.{NamedRebuildAsks};
 ghost use Rattle.tool_run.specs.Calls.{get_limit};
 ghost use Rattle.tool_command.specs.Command.{Command, rebuild_image, image_name};
 ghost use Rattle.tool_run.specs.Inside.{Refuses, IsBeforeSeeding};
-ghost use Rattle.tool_run.specs.Making.{RebuildsNamed, FollowsLinks};
+ghost use Rattle.tool_run.specs.Making.{RebuildsNamed};
+ghost use Rattle.tool_run.specs.CommandUses.{FollowsLinks};
 
 use crate::fault::Fault;
 use crate::recovering::recover_words;

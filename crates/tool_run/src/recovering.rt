@@ -10,7 +10,8 @@ ghost use Rattle.tool_ports.specs.Causes.{RoseByOne};
 ghost use Rattle.tool_run.specs.Calls.{get_limit};
 ghost use Rattle.tool_command.specs.Command.{Command, image_name};
 ghost use Rattle.tool_run.specs.Inside.{Refuses};
-ghost use Rattle.tool_run.specs.Making.{GetsImage, FollowsLinks, PointsOutside, kinds_checked, image_in};
+ghost use Rattle.tool_run.specs.Making.{PointsOutside, image_in};
+ghost use Rattle.tool_run.specs.CommandUses.{GetsImage, FollowsLinks, kinds_checked};
 ghost use Rattle.tool_run.specs.Recovering.{IsGoodImage, HoldsImage, IsRecoveredHeapOf, IsRecoveredFrom, IsRecoveredHeap, IsRecoveryFault, words_in_bytes};
 
 use crate::fault::Fault;

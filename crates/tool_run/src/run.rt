@@ -1,19 +1,24 @@
 //! The top call.
-ghost use Rattle.std.specs.Prelude.{◌≡◌, ◌≢◌, ◌⊎◌, ◌≤◌, ◌+◌, Option, List, ℕ, OnOk, IfErr, IsErrOf, IfSome, Contains};
-ghost use Rattle.tool_ports.specs.Calls.{with_get, with_put};
-ghost use Rattle.tool_ports.specs.Causes.{Rose, RoseByOne};
-ghost use Rattle.tool_ports.specs.Contents.{told_of};
+ghost use Rattle.std.specs.Prelude.{◌≡◌, ◌≢◌, ◌⊎◌, ◌≤◌, ◌+◌, ℕ, OnOk, IfErr, IsErrOf};
+ghost use Rattle.tool_ports.specs.Causes.{RoseByOne};
 ghost use Rattle.tool_ports.specs.Left.{IsAtEnd, GivesAtMost};
-ghost use Rattle.tool_run.specs.Asking.{AsksOf, IsDoneWith, IsCutOffWith, IsToldCutOff};
-ghost use Rattle.tool_run.specs.Calls.{get_limit, with_command, with_status};
-ghost use Rattle.tool_command.specs.Command.{Command, Asks, AsksToFormat, AsksToGen, IsUsage, texts, image_name};
+ghost use Rattle.tool_run.specs.Asking.{AsksOf, IsDoneWith, IsCutOffWith};
+ghost use Rattle.tool_run.specs.Calls.{with_command, with_status};
+ghost use Rattle.tool_command.specs.Command.{texts, image_name};
 ghost use Rattle.tool_command.specs.Invocations.{command_of};
 ghost use Rattle.tool_run.specs.Inside.{status_of, IsCarriedOut, IsStopped, IsBeforeReading, IsBeforeSeeding};
-ghost use Rattle.tool_run.specs.Making.{RefusesOutside, ReadsSource, kinds_checked, longest_trace};
+ghost use Rattle.tool_run.specs.Making.{longest_trace};
+ghost use Rattle.tool_run.specs.CommandUses.{RefusesOutside, ReadsSource};
 ghost use Rattle.tool_run.specs.Lines.{Tells, Explains, memory_line};
+ghost use Rattle.tool_run.specs.ChancesUse.{UsesChances};
+ghost use Rattle.tool_run.specs.Completeness.{IsComplete};
+ghost use Rattle.tool_run.specs.Seen.{seen};
+ghost use Rattle.tool_run.specs.SourceUse.{UsesSource};
+ghost use Rattle.tool_run.specs.Statuses.{IsStatusOf};
+ghost use Rattle.tool_run.specs.StoreUse.{UsesStore};
 ghost use Rattle.tool_run.specs.Seeding.{seed_of, BeginBy};
-ghost use Rattle.tool_run.specs.Outcome.{IsDone, IsReadFault, IsWriteFault, AsksToGet, AsksToLook, AsksToPutBack, AsksToRead, AsksForRun, AsksForReplay, AsksForSource, IsAbsent, IsBadHeader, IsOutsideAt, IsBadShardAt, IsBadTrace, HoldsMalformed, HoldsOutside, HoldsOutsideLeft, HoldsBadShard, HoldsGood, HoldsMaps, HoldsBadLine, HoldsBadStep, HoldsTooMuch, CanBeDone};
-ghost use Rattle.tool_run.specs.Status.{done, usage, out_of_memory, read_fault, write_fault, no_image, bad_header, outside, bad_shard, bad_trace, statuses, LeavesStore, LeavesChances, IsBeforeTrace, own_line};
+ghost use Rattle.tool_run.specs.Outcome.{HoldsOutside};
+ghost use Rattle.tool_run.specs.Status.{out_of_memory, write_fault, bad_trace};
 
 use crate::delivery::deliver;
 use crate::fault::Fault;
@@ -60,154 +65,45 @@ pub fn run_tool<
     gate: &G,
     chances: &mut C,
 ) -> Status
-    ensures known { Contains statuses result }
-
     // What each status says.
-    ensures ok { result ≡ done → IsDone (texts words.now)
-        (I.contents images.old) (I.contents images.new) (T.left trace.old)
-        (O.taken out.old) (O.taken out.new) }
-    ensures usage { result ≡ usage → IsUsage (texts words.now) }
-    ensures read_fault { result ≡ read_fault → IsReadFault (texts words.now) (I.contents images.old)
-        (RoseByOne (I.faults images.old) (I.faults images.new))
-        (RoseByOne (T.faults trace.old) (T.faults trace.new)) }
-    ensures write_fault { result ≡ write_fault → IsWriteFault (texts words.now)
-        (I.contents images.old) (I.contents images.new) (T.left trace.old)
-        (RoseByOne (I.faults images.old) (I.faults images.new))
-        (O.faults out.old) (O.faults out.new) (O.taken out.old) (O.taken out.new) }
-    ensures absent { result ≡ no_image → IsAbsent (texts words.now) (I.contents images.old)
-        (λ line. Tells line (O.faults out.old) (O.faults out.new)
-        (O.taken out.old) (O.taken out.new)) }
-    ensures cause { result ≡ bad_header → IsBadHeader (texts words.now) (I.contents images.old)
-        (λ line. Tells line (O.faults out.old) (O.faults out.new)
-        (O.taken out.old) (O.taken out.new)) }
-    ensures outside { result ≡ outside → IsOutsideAt (texts words.now) (I.contents images.old)
-        (T.left trace.old)
-        (λ line. Tells line (O.faults out.old) (O.faults out.new)
-        (O.taken out.old) (O.taken out.new)) }
-    ensures bad_shard { result ≡ bad_shard → IsBadShardAt (texts words.now) (I.contents images.old)
-        (λ line. Tells line (O.faults out.old) (O.faults out.new)
-        (O.taken out.old) (O.taken out.new)) }
-    ensures bad_trace { result ≡ bad_trace → IsBadTrace (texts words.now) (I.contents images.old)
-        (T.left trace.old)
-        (λ line. Tells line (O.faults out.old) (O.faults out.new)
-        (O.taken out.old) (O.taken out.new))
-        (Explains H.faults H.taken help.old help.new) }
+    ensures status { IsStatusOf (texts words.now)
+        (seen (I.contents images.old) (I.calls images.old) (I.faults images.old)
+        (T.left trace.old) (T.faults trace.old) (O.taken out.old) (O.faults out.old))
+        (seen (I.contents images.new) (I.calls images.new) (I.faults images.new)
+        (T.left trace.new) (T.faults trace.new) (O.taken out.new) (O.faults out.new))
+        (Explains H.faults H.taken help.old help.new) result }
     ensures unexplained { result ≢ bad_trace → help.new ≡ help.old }
-    ensures line { IfSome (own_line result)
-        (λ line. Tells line (O.faults out.old) (O.faults out.new)
-        (O.taken out.old) (O.taken out.new)) }
-    ensures unchanged { LeavesStore result → I.contents images.new ≡ I.contents images.old }
 
-    // The source is read for a run or a replay alone, once its image is good, and at 0 to its end;
-    // at most one byte more is taken than a trace may have, and no failed read is passed over.
-    ensures unread { ((name : List ℕ) → ¬ (AsksForSource (texts words.now) name))
-        → trace.new ≡ trace.old }
-    ensures not_yet_read { IsBeforeTrace result
-        → (result ≡ outside → (name : List ℕ) → ¬ (AsksForReplay (texts words.now) name))
-        → trace.new ≡ trace.old }
-    ensures image_first { (name : List ℕ) (at : ℕ) (asks : AsksToGet (texts words.now) name)
-        (has : HoldsOutside (I.contents images.old) name at)
-        → RefusesOutside asks.command has.bytes → trace.new ≡ trace.old }
-    ensures read_to_the_end { (name : List ℕ) → AsksForSource (texts words.now) name
-        → result ≡ done → IsAtEnd (T.left trace.new) }
-    ensures read_at_most { GivesAtMost (longest_trace + 1) (T.left trace.old) (T.left trace.new) }
-    ensures no_failed_read { result ≢ read_fault → T.faults trace.new ≡ T.faults trace.old }
-    ensures has_ended { (name : List ℕ) → AsksForSource (texts words.now) name
-        → result ≡ done → T.has_ended trace.new }
+    // What becomes of the store, and how often it is called.
+    ensures store { UsesStore (texts words.now)
+        (seen (I.contents images.old) (I.calls images.old) (I.faults images.old)
+        (T.left trace.old) (T.faults trace.old) (O.taken out.old) (O.faults out.old))
+        (seen (I.contents images.new) (I.calls images.new) (I.faults images.new)
+        (T.left trace.new) (T.faults trace.new) (O.taken out.new) (O.faults out.new)) result }
 
-    // No failed call of the store is passed over, nor a failed write of a result; and of store and
-    // source at most one has failed.
-    ensures no_failed_call { result ≢ read_fault → result ≢ write_fault
-        → I.faults images.new ≡ I.faults images.old }
-    ensures one_failed { (I.faults images.new ≡ I.faults images.old)
-        ⊎ (T.faults trace.new ≡ T.faults trace.old) }
-    ensures no_failed_write { result ≡ done → O.faults out.new ≡ O.faults out.old }
+    // When the source is read, and how far.
+    ensures source { UsesSource (texts words.now)
+        (seen (I.contents images.old) (I.calls images.old) (I.faults images.old)
+        (T.left trace.old) (T.faults trace.old) (O.taken out.old) (O.faults out.old))
+        (seen (I.contents images.new) (I.calls images.new) (I.faults images.new)
+        (T.left trace.new) (T.faults trace.new) (O.taken out.new) (O.faults out.new))
+        T.has_ended trace.old trace.new result }
 
-    // How often the store is called: not at all, or for one get, for one put, or for both.
-    ensures no_call { IsUsage (texts words.now) → I.calls images.new ≡ I.calls images.old }
-    ensures no_call_for_a_trace { (requests seed : ℕ) → AsksToGen (texts words.now) requests seed
-        → I.calls images.new ≡ I.calls images.old }
-    ensures one_get { (name : List ℕ) → AsksToLook (texts words.now) name
-        → result ≢ out_of_memory → I.calls images.new ≡ with_get get_limit (I.calls images.old) }
-    ensures get_and_put { (name : List ℕ) → AsksToPutBack (texts words.now) name
-        → (result ≡ done) ⊎ (result ≡ write_fault)
-        → I.calls images.new ≡ with_put (with_get get_limit (I.calls images.old)) }
-    ensures get_alone { (name : List ℕ) → AsksToPutBack (texts words.now) name
-        → result ≢ done → result ≢ write_fault → result ≢ out_of_memory
-        → I.calls images.new ≡ with_get get_limit (I.calls images.old) }
-    ensures get_or_none { (name : List ℕ) → AsksToGet (texts words.now) name
-        → result ≡ out_of_memory → (I.calls images.new ≡ I.calls images.old)
-        ⊎ (I.calls images.new ≡ with_get get_limit (I.calls images.old)) }
-    ensures one_put { (image : List ℕ) (capacity : ℕ)
-        → AsksToFormat (texts words.now) image capacity
-        → result ≢ out_of_memory → I.calls images.new ≡ with_put (I.calls images.old) }
-    ensures no_put { (image : List ℕ) (capacity : ℕ) → AsksToFormat (texts words.now) image capacity
-        → result ≡ out_of_memory → I.calls images.new ≡ I.calls images.old }
+    // By which seed the chances begin, and for what they are asked.
+    ensures chances { UsesChances C.seed_gives C.chance_gives C.One.draw_gives C.word_gives
+        (texts words.now)
+        (seen (I.contents images.old) (I.calls images.old) (I.faults images.old)
+        (T.left trace.old) (T.faults trace.old) (O.taken out.old) (O.faults out.old))
+        (seen (I.contents images.new) (I.calls images.new) (I.faults images.new)
+        (T.left trace.new) (T.faults trace.new) (O.taken out.new) (O.faults out.new))
+        chances.old chances.new result }
 
-    // By which seed the chances begin, where a result was made, and for what they are asked behind
-    // that: where a run or rebuild was stopped, the image that was to be put has the words that they
-    // gave for what a crash leaves at random. What else a rebuild leaves is by the numbers that its
-    // chance gave. They are as they were where there is no seed; so they are where there is no
-    // result, but for want of memory and a replay at 8.
-    ensures seeded { (command : Command) → Asks (texts words.now) command
-        → (result ≡ done) ⊎ (result ≡ write_fault)
-        → BeginBy C.seed_gives C.chance_gives C.word_gives (seed_of command)
-        chances.old chances.new }
-    ensures asked { (command : Command) → Asks (texts words.now) command → result ≡ done
-        → IsDoneWith (image_name command) (I.contents images.old) (I.contents images.new)
-        (O.taken out.old) (O.taken out.new)
-        (AsksOf C.seed_gives C.chance_gives C.One.draw_gives C.word_gives command
-        (I.contents images.old) (T.left trace.old) chances.old chances.new) }
-    ensures asked_cut_off { (command : Command) → Asks (texts words.now) command
-        → result ≡ write_fault
-        → IsToldCutOff (image_name command) (I.contents images.old) (I.contents images.new)
-        (RoseByOne (I.faults images.old) (I.faults images.new))
-        (O.faults out.old) (O.faults out.new) (O.taken out.old) (O.taken out.new)
-        (AsksOf C.seed_gives C.chance_gives C.One.draw_gives C.word_gives command
-        (I.contents images.old) (T.left trace.old) chances.old chances.new) }
-    ensures no_chance { LeavesChances result
-        → (result ≡ outside → (name : List ℕ) → ¬ (AsksForReplay (texts words.now) name))
-        → chances.new ≡ chances.old }
-    ensures never_asked { ((command : Command) → Asks (texts words.now) command
-        → seed_of command ≡ None) → chances.new ≡ chances.old }
-
-    // When a status comes: nothing else does, but want of memory or a failure before it.
-    ensures always_usage { IsUsage (texts words.now)
-        → (result ≡ usage) ⊎ (result ≡ out_of_memory) }
-    ensures always_absent { (name : List ℕ) → AsksToGet (texts words.now) name
-        → told_of (I.contents images.old) name ≡ Some None
-        → (result ≡ no_image) ⊎ (result ≡ out_of_memory) ⊎ (result ≡ read_fault) }
-    ensures always_cause { (name : List ℕ) (asks : AsksToGet (texts words.now) name)
-        → HoldsMalformed (kinds_checked asks.command) (I.contents images.old) name
-        → (result ≡ bad_header) ⊎ (result ≡ out_of_memory) ⊎ (result ≡ read_fault) }
-    ensures always_outside { (name : List ℕ) (at : ℕ) (asks : AsksToGet (texts words.now) name)
-        (has : HoldsOutside (I.contents images.old) name at)
-        → RefusesOutside asks.command has.bytes
-        → (result ≡ outside) ⊎ (result ≡ out_of_memory) ⊎ (result ≡ read_fault) }
-    ensures always_outside_left { (name : List ℕ) (at : ℕ) → AsksForReplay (texts words.now) name
-        → HoldsOutsideLeft (I.contents images.old) name (T.left trace.old) at
-        → (result ≡ outside) ⊎ (result ≡ out_of_memory) ⊎ (result ≡ read_fault) }
-    ensures always_bad_shard { (name : List ℕ) (shard at : ℕ) → AsksToRead (texts words.now) name
-        → HoldsBadShard (I.contents images.old) name shard at
-        → (result ≡ bad_shard) ⊎ (result ≡ out_of_memory) ⊎ (result ≡ read_fault) }
-    ensures always_bad_line { (name : List ℕ) (line : ℕ) → AsksForRun (texts words.now) name
-        → HoldsMaps (I.contents images.old) name → HoldsBadLine (T.left trace.old) line
-        → (result ≡ bad_trace) ⊎ (result ≡ out_of_memory) ⊎ (result ≡ read_fault) }
-    ensures always_too_long { (name : List ℕ) → AsksForRun (texts words.now) name
-        → HoldsMaps (I.contents images.old) name → HoldsTooMuch (T.left trace.old)
-        → (result ≡ bad_trace) ⊎ (result ≡ out_of_memory) ⊎ (result ≡ read_fault) }
-    ensures always_bad_step { (name : List ℕ) (line : ℕ) → AsksForReplay (texts words.now) name
-        → HoldsGood (I.contents images.old) name → HoldsBadStep (T.left trace.old) line
-        → (result ≡ bad_trace) ⊎ (result ≡ out_of_memory) ⊎ (result ≡ read_fault) }
-    ensures always_schedule_too_long { (name : List ℕ) → AsksForReplay (texts words.now) name
-        → HoldsGood (I.contents images.old) name → HoldsTooMuch (T.left trace.old)
-        → (result ≡ bad_trace) ⊎ (result ≡ out_of_memory) ⊎ (result ≡ read_fault) }
-    ensures complete { (command : Command) → Asks (texts words.now) command
-        → CanBeDone command (I.contents images.old) (T.left trace.old)
-        → ¬ (RoseByOne (I.faults images.old) (I.faults images.new))
-        → (ReadsSource command → ¬ (RoseByOne (T.faults trace.old) (T.faults trace.new)))
-        → ¬ (Rose (O.faults out.old) (O.faults out.new))
-        → (result ≡ done) ⊎ (result ≡ out_of_memory) }
+    // When a status comes.
+    ensures complete { IsComplete (texts words.now)
+        (seen (I.contents images.old) (I.calls images.old) (I.faults images.old)
+        (T.left trace.old) (T.faults trace.old) (O.taken out.old) (O.faults out.old))
+        (seen (I.contents images.new) (I.calls images.new) (I.faults images.new)
+        (T.left trace.new) (T.faults trace.new) (O.taken out.new) (O.faults out.new)) result }
 {
     let command = match parse(alloc, words) {
         Ok(command) => command,

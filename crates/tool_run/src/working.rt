@@ -9,7 +9,8 @@ ghost use Rattle.tool_run.specs.Asking.{NamedRunAsks};
 ghost use Rattle.tool_run.specs.Calls.{get_limit};
 ghost use Rattle.tool_command.specs.Command.{Command, run_image, image_name};
 ghost use Rattle.tool_run.specs.Inside.{Refuses, RefusesEither, IsTraceFault, IsTraceLeft, IsBeforeReading, IsBeforeSeeding};
-ghost use Rattle.tool_run.specs.Making.{RunsTrace, Reads, longest_trace};
+ghost use Rattle.tool_run.specs.Making.{RunsTrace, longest_trace};
+ghost use Rattle.tool_run.specs.CommandUses.{Reads};
 ghost use Rattle.tool_run.specs.Outcome.{HoldsOutside};
 ghost use Rattle.tool_run.specs.Recovering.{IsMapped};
 
