@@ -19,10 +19,14 @@
 
 all: bin/heap_tool
 
-bin/heap_tool: crates.txt $(wildcard crates/*/src/*.rt crates/*/specs/*.antt crates/*/proofs/*.antt)
+# The gate leaves the program there too, so nothing is proved again behind `make check`.
+crates/heap_tool/out/heap_tool: crates.txt $(wildcard crates/*/src/*.rt crates/*/specs/*.antt crates/*/proofs/*.antt)
 	mkdir -p bin
 	# (what is proved is built, and then run once: it makes an example)
 	cd crates/heap_tool && rt run -- format ../../bin/example.img 1
+
+bin/heap_tool: crates/heap_tool/out/heap_tool
+	mkdir -p bin
 	cp crates/heap_tool/out/heap_tool bin/heap_tool
 	@echo "the program is bin/heap_tool"
 
