@@ -1,7 +1,7 @@
 #!/usr/bin/env python3
 """Times a move beside a get, a del and a put of the same value, by 1, 2 and 4 workers, with values of 64 bytes and of 64 KiB.
-Values of 64 bytes are timed twice more: where each node has pages of its own, and where nodes lie two superblocks apart, as
-those of 64 KiB do.
+Values of 64 bytes are timed once more with nodes that lie two superblocks apart, as those of 64 KiB do: the words that a move
+stores to then lie in pages and in sets of the processor's caches as those of 64 KiB, and the value's length alone differs.
 
 Each request is asked once of each of COUNT keys, or of as many as a trace has room for, over a heap that several runs have
 filled, and that is as it was before each call. A moved key goes to the next shard, so all shards send and receive. What is
@@ -16,7 +16,6 @@ import statistics
 import subprocess
 import sys
 import tempfile
-from functools import partial
 
 from process import shared_memory
 from stops import calls_of, can_stop, places_of
@@ -25,7 +24,7 @@ from workers import RUN_JOBS, TOOL
 WORKERS = 1, 2, 4
 OTHER_KEYS = 8 * 10**6 + 1
 # So many nodes of 64 bytes are put between two, and taken out. A superblock has 682 of them.
-OWN_PAGES, TWO_SUPERBLOCKS = 85, 2 * 682 - 1
+BETWEEN = 2 * 682 - 1
 FIRST_BETWEEN = 8 * 10**7
 LONGEST_TRACE = 1 << 24
 
@@ -67,12 +66,12 @@ def fill(image, count, asked):
             run(image, "".join(requests))
 
 
-def fill_apart(image, count, asked, between):
+def fill_apart(image, count, asked):
     """The same, but each node had so many others of its size put behind it, which are taken out at the end."""
     format_whole(image)
     mixed, gone = [], []
     for key, put in enumerate(asked["put"]):
-        others = [FIRST_BETWEEN + between * key + i for i in range(between)]
+        others = [FIRST_BETWEEN + BETWEEN * key + i for i in range(BETWEEN)]
         mixed += [put, *(f"put {other} {'cd' * 64}\n" for other in others)]
         gone += [f"del {other}\n" for other in others]
     for requests in (mixed, asked["put"], asked["del"], asked["put"], gone):
@@ -93,8 +92,7 @@ def time_of(places, room, trace, workers, runs):
 
 ROWS = (
     (64, fill, "64"),
-    (64, partial(fill_apart, between=OWN_PAGES), "64, pages of their own"),
-    (64, partial(fill_apart, between=TWO_SUPERBLOCKS), "64, two superblocks apart"),
+    (64, fill_apart, "64, two superblocks apart"),
     (65536, fill, "65,536"),
 )
 
