@@ -12,7 +12,7 @@ use Rattle.heap_table.specs.Reached.{learned}
 use Rattle.heap_table.specs.SeatViews.{SeatViews, view_in}
 use Rattle.heap_rule.specs.Fences.{Owns, SettlesOwn}
 use Rattle.heap_rule.specs.Fences as fences
-use Rattle.heap_rule.specs.Owned.{parts_of}
+use Rattle.seat_index.specs.Owned.{parts_of}
 use Rattle.heap_rule.specs.Seated.{IsSingleSeat, SeatView}
 use Rattle.heap_rule.specs.Shown.{Can}
 use Rattle.heap_rule.proofs.FenceLemmas.{rest_stays}

@@ -13,7 +13,6 @@ use Rattle.core_model.specs.Effects.{seen_word, first_of, batch_anchor, given_an
 use Rattle.core_model.specs.Guards.{IsThere}
 use Rattle.core_model.specs.Sound.{IsCutBlock}
 use Rattle.core_model.proofs.BlockLemmas.{first_there}
-use Rattle.core_model.proofs.GivenLemmas
 use Rattle.core_model.proofs.SoundLemmas.{batched}
 use Rattle.seat_state.specs.declared.notes.SeatNotes.{SeatNotes}
 use Rattle.seat_state.proofs.NewSeat.{empty_batch}
@@ -21,11 +20,12 @@ use Rattle.heap_table.specs.Plays.{HasSoundState, IsEvent}
 use Rattle.heap_rule.specs.Seated.{Fits, IsKeptOf}
 use Rattle.heap_table.specs.AtTable.{IsExchange}
 use Rattle.heap_rule.specs.Shown.{CanGive}
-use Rattle.heap_rule.proofs.FreshLemmas.{hit, missed}
+use Rattle.seat_index.proofs.ExchangeLemmas.{hit, missed}
 use Rattle.heap_rule.proofs.GuardLemmas.{give_may}
 use Rattle.heap_rule.proofs.HeadLemmas.{claims}
 use Rattle.heap_rule.proofs.SeatLemmas.{keep_fits}
-use Rattle.heap_rule.proofs.ViewLemmas.{block_class, block_cut}
+use Rattle.seat_index.proofs.ViewBlocks.{block_class, block_cut}
+use Rattle.core_model.proofs.GivenLemmas
 
 -- the index of a block in its superblock
 pub block_index : (capacity class d b : ℕ) → IsClass class → IsCutBlock capacity class d b

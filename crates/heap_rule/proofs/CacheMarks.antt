@@ -9,8 +9,8 @@ use Rattle.core_model.specs.Effects.{first_of}
 use Rattle.core_model.proofs.OwnerLemmas.{in_lists_total}
 use Rattle.seat_state.proofs.WordLemmas.{read_is}
 use Rattle.heap_table.specs.Plays.{HasSoundState}
-use Rattle.heap_rule.proofs.MarkLemmas.{entry_times}
-use Rattle.heap_rule.proofs.ViewLemmas.{block_cell, block_range}
+use Rattle.seat_index.proofs.MarkLemmas.{entry_times}
+use Rattle.seat_index.proofs.ViewBlocks.{block_cell, block_range}
 
 -- the entry at which a walk stands, and where its first word leads
 walk_on : (f : ℕ → ℕ) (from : ℕ) (bs : List ℕ) (i b : ℕ) → Walks f from bs → suc i < length bs → get_or bs i b ≡ b → get_or bs (suc i) (f b) ≡ f b

@@ -14,9 +14,9 @@ use Rattle.core_model.proofs.BothLemmas.{both_class}
 use Rattle.core_model.proofs.OwnerLemmas.{in_lists_total}
 use Rattle.core_model.proofs.PlaceLemmas.{pick}
 use Rattle.core_model.proofs.TotalLemmas.{total_where, eq-eqb-one, ne-eqb-none}
-use Rattle.heap_rule.specs.declared.owned.Holding.{Holding}
-use Rattle.heap_rule.specs.declared.owned.Holding.TheVariants as holding
-use Rattle.heap_rule.specs.Holdings.{HoldsAlone, HoldsOneSmall}
+use Rattle.seat_index.specs.declared.owned.Holding.{Holding}
+use Rattle.seat_index.specs.Holdings.{HoldsAlone, HoldsOneSmall}
+use Rattle.seat_index.specs.declared.owned.Holding.TheVariants as holding
 
 -- the block stands in the list of its class
 one_there : (u : View) (b : Block) (class : ℕ) → HoldsOneSmall u b class → 0 < times b.first_word (of_class u.small class)

@@ -1,5 +1,5 @@
 -- What is kept of a seat after an exchange of an anchor.
-use Rattle.std.proofs.Common.{◌≡◌, ◌≢◌, ℕ, zero, suc, ◌+◌, ◌*◌, ◌<◌, ◌≤◌, None, List, get_or, set, length, refl, ap, sym, subst, ◌∙◌, lt-ltb, arith}
+use Rattle.std.proofs.Common.{◌≡◌, ◌≢◌, ℕ, ◌+◌, ◌*◌, ◌<◌, None, List, get_or, set, length, refl, ap, sym, subst, ◌∙◌, lt-ltb, arith}
 use Rattle.heap_model.specs.Geometry.{lists, start_word, info_word}
 use Rattle.heap_model.specs.Sizes.{IsClass, words_of_class}
 use Rattle.heap_model.specs.Words.{anchor_first, anchor_count}
@@ -7,7 +7,7 @@ use Rattle.core_model.specs.declared.event.Event.TheVariants.{TakeAll}
 use Rattle.core_model.specs.Cells.{info_cell}
 use Rattle.core_model.specs.Memory.{Memory, memory_of, volatile_at, info, next}
 use Rattle.core_model.specs.View.{View, times_classed}
-use Rattle.core_model.specs.Effects.{seen_word, claim_class, chain, first_of, anchored_blocks, taken_all}
+use Rattle.core_model.specs.Effects.{seen_word, claim_class, anchored_blocks, taken_all}
 use Rattle.core_model.proofs.SoundLemmas.{taken}
 use Rattle.seat_state.specs.declared.notes.Cache.{Cache}
 use Rattle.seat_state.specs.declared.notes.SeatNotes.{SeatNotes}
@@ -17,7 +17,7 @@ use Rattle.seat_state.proofs.WordLemmas.{read_is}
 use Rattle.heap_table.specs.Plays.{HasSoundState, IsEvent}
 use Rattle.heap_rule.specs.Seated.{IsKeptOf}
 use Rattle.heap_rule.proofs.SeatLemmas.{keep_fits}
-use Rattle.heap_rule.proofs.FreshLemmas.{hit, missed}
+use Rattle.seat_index.proofs.ExchangeLemmas.{hit, missed, chain_length, chain_first}
 
 -- the info that is read
 pub info_read : (v : View) (s : HasSoundState v) (d place found : ℕ) → d < v.setup.capacity → place ≡ info_word d
@@ -32,15 +32,6 @@ class_read v s d place found claimed place_is found_is =
     let claim = (s.sound.good.claims s.seat v s.below s.at).is_classed d claimed in
     let less = taken v.setup (memory_of v.setup.capacity s.words) s.views s.seat v s.below s.at s.sound.good d (omega arith) in
     (info_read v s d place found less place_is found_is ∙ claim.1, claim.0)
-
--- blocks that lead along one another are so many, from the first one on
-pub chain_length : (f : ℕ → ℕ) (from n : ℕ) → length (chain f from n) ≡ n
-chain_length f from zero = refl
-chain_length f from (suc n) = ap suc (chain_length f (f from) n)
-
-pub chain_first : (f : ℕ → ℕ) (from n : ℕ) → 1 ≤ length (chain f from n) → first_of (chain f from n) ≡ from
-chain_first f from zero some = absurd (omega arith)
-chain_first f from (suc n) some = refl
 
 pub all_taken : (notes : SeatNotes) (v w : View) (d found anchor class : ℕ) (cache : Cache) → IsKeptOf notes v → IsEvent (TakeAll d) v found w
     → HasSoundState w → seen_word v.seen_anchor ≡ anchor → found ≡ anchor

@@ -21,20 +21,21 @@ use Rattle.core_model.proofs.OwnerLemmas.{in_lists_total}
 use Rattle.core_model.proofs.RangeLemmas.{block_of}
 use Rattle.core_model.proofs.TotalLemmas.{eq-eqb-one, ne-eqb-none}
 use Rattle.seat_state.proofs.BlockRanges.{cut_range}
-use Rattle.heap_rule.specs.declared.owned.Change.{Change}
-use Rattle.heap_rule.specs.declared.owned.Change.TheVariants as change
-use Rattle.heap_rule.specs.declared.owned.Owned.{Owned}
-use Rattle.heap_rule.specs.Changed.{IsChanged, FitsChange}
-use Rattle.heap_rule.specs.Owned.{OwnedParts, HasOwned, most_blocks, parts_of}
+use Rattle.seat_index.specs.declared.owned.Change.{Change}
+use Rattle.seat_index.specs.declared.owned.Owned.{Owned}
+use Rattle.seat_index.specs.Changed.{IsChanged}
+use Rattle.heap_rule.specs.Noted.{FitsChange}
+use Rattle.seat_index.specs.Owned.{OwnedParts, HasOwned, most_blocks, parts_of}
 use Rattle.heap_table.specs.Plays.{HasSoundState, IsEvent}
-use Rattle.heap_rule.specs.Stacks.{IsRestacked}
+use Rattle.seat_index.specs.Stacks.{IsRestacked}
 use Rattle.heap_rule.specs.Shown.{CanFree, CanLift, CanCut, CanHoldLarge}
 use Rattle.heap_rule.proofs.OwnedShifts.{alloc_owned, free_owned, lift_owned, cut_owned, large_owned, split_owned}
-use Rattle.heap_rule.proofs.OwnedSteps.{quiet, taken_below}
+use Rattle.seat_index.proofs.OwnedViews.{quiet, taken_below}
 use Rattle.heap_rule.proofs.ShiftLemmas.{free_class, free_own}
-use Rattle.heap_rule.proofs.StackLemmas.{has_stack}
+use Rattle.seat_index.proofs.StackLemmas.{has_stack}
 use Rattle.heap_rule.proofs.TickLemmas.{drawn, spent}
-use Rattle.heap_rule.proofs.ViewLemmas.{below_capacity, block_cut, block_once, block_range}
+use Rattle.seat_index.proofs.ViewBlocks.{below_capacity, block_cut, block_once, block_range}
+use Rattle.seat_index.specs.declared.owned.Change.TheVariants as change
 
 as_is : (o o' : Owned) (p : OwnedParts) → o' ≡ o → HasOwned o p → HasOwned o' p
 as_is o o' p same own = subst (λ x. HasOwned x p) (sym same) own

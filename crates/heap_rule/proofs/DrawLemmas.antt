@@ -19,7 +19,8 @@ use Rattle.heap_table.specs.Plays.{HasSoundState, IsEvent}
 use Rattle.heap_rule.specs.Shown.{Shows, ShowsDurable, ShowsEmpty, by_claim, by_anchor, by_look, ShowsLinks, CanShift, Can}
 use Rattle.heap_rule.specs.Seated.{SeatView}
 use Rattle.heap_rule.proofs.SettleLemmas.{own_below}
-use Rattle.heap_rule.proofs.ViewLemmas.{shown, below_capacity, block_cell, cut_cell, info_there}
+use Rattle.heap_rule.proofs.ViewLemmas.{shown, info_there}
+use Rattle.seat_index.proofs.ViewBlocks.{below_capacity, block_cell, cut_cell}
 use Rattle.seat_state.proofs.EndLemmas.{last_there}
 
 module _ (v w : View) (word found : ℕ) (event : IsEvent (Settle word) v found w) where

@@ -1,8 +1,8 @@
 -- A row of words that are settled one after the other.
-use Rattle.std.proofs.Common.{◌≡◌, ◌≢◌, ℕ, ◌<◌, ◌↔◌, ◌⊎◌, inl, inr, false, Some, None, List, [], ◌∷◌, ◌++◌, get_or, set, length, refl, ap, sym, subst, ◌∙◌, true≢false, arith}
+use Rattle.std.proofs.Common.{◌≡◌, ◌≢◌, ℕ, ◌<◌, ◌↔◌, ◌⊎◌, inl, inr, false, Some, None, List, [], ◌∷◌, ◌++◌, get_or, set, length, refl, ap, sym, subst, ◌∙◌, true≢false, arith, zero, suc, ◌+◌, Bool, true, ◌/◌}
 use Rattle.std.proofs.lemmas.Bool.{cases_eq, cases_lt}
 use Rattle.std.proofs.lemmas.List.{get_or-set_same, get_or-set_other}
-use Rattle.heap_model.specs.Counting.{times}
+use Rattle.heap_model.specs.Counting.{times, one_if}
 use Rattle.line_memory.specs.Marks.{mark_at, IsMarked}
 use Rattle.core_model.specs.declared.event.Event.TheVariants.{Settle}
 use Rattle.core_model.specs.Cells.{cell_at}
@@ -231,3 +231,17 @@ row_whole v w words row clear = record {
     | inl some ↦ some
     | inr left ↦ absurd (true≢false (sym left ∙ clear k))
   ]
+
+-- only words that have a mark are marked
+mark_below : (marks : List Bool) (k : ℕ) → get_or marks k false ≡ true → k < length marks
+mark_below [] k marked = let e = ap one_if marked in absurd (omega arith)
+mark_below (m ∷ marks) zero marked = omega arith
+mark_below (m ∷ marks) (suc k) marked = let rest = mark_below marks k marked in omega arith
+
+-- a line that is marked leaves the marks that there were
+pub line_kept : (old new : List Bool) (line : ℕ) → ((k : ℕ) → k < length old → k / 8 ≡ line → get_or new k false ≡ true)
+    → ((k : ℕ) → k / 8 ≢ line → get_or new k false ≡ get_or old k false) → (k : ℕ) → get_or old k false ≡ true → get_or new k false ≡ true
+line_kept old new line inside others k marked = elim (cases_eq (k / 8) line) as (λ _. get_or new k false ≡ true) [
+  | inl same ↦ inside k (mark_below old k marked) same
+  | inr other ↦ others k other ∙ marked
+]

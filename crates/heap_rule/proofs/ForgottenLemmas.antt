@@ -3,7 +3,7 @@ use Rattle.std.proofs.Common.{◌≡◌, ◌≢◌, ℕ, None, ◌⊎◌, inl, i
 use Rattle.core_model.specs.declared.event.Event.{Event}
 use Rattle.core_model.specs.declared.event.Event.TheVariants.{Tick, Load, Store, Settle, LookUsed, TakeFresh, KeepUsed, LookHead, LookLink, Pop, Push, LookAnchor, TakeAll, Give}
 use Rattle.seat_state.specs.declared.notes.SeatNotes.{SeatNotes}
-use Rattle.heap_rule.specs.Changed.{forgotten}
+use Rattle.heap_rule.specs.Noted.{forgotten}
 
 pub head_forgotten : (event : Event) (t : SeatNotes) → (event ≡ Pop) ⊎ ((d : ℕ) × (event ≡ Push d)) → record t { seen_head = None } ≡ forgotten event t
 head_forgotten event t (inl is) = subst (λ e. record t { seen_head = None } ≡ forgotten e t) (sym is) refl

@@ -1,5 +1,5 @@
 -- What is kept of a seat after an exchange of the mark.
-use Rattle.std.proofs.Common.{◌≡◌, ◌≢◌, ℕ, ◌+◌, Option, None, Some, cond, nat_eq, refl, ap, sym, ◌∙◌, eq-eqb, ne_eqb}
+use Rattle.std.proofs.Common.{◌≡◌, ◌≢◌, ℕ, ◌+◌, Option, None, Some, refl, ap, sym, ◌∙◌}
 use Rattle.core_model.specs.declared.event.Event.TheVariants.{TakeFresh}
 use Rattle.core_model.specs.View.{View}
 use Rattle.core_model.specs.Effects.{seen, cleared, taken_fresh}
@@ -9,13 +9,7 @@ use Rattle.seat_state.specs.Notes.{snapshot}
 use Rattle.heap_table.specs.Plays.{HasSoundState, IsEvent}
 use Rattle.heap_rule.specs.Seated.{IsKeptOf}
 use Rattle.heap_rule.proofs.SeatLemmas.{keep_fits}
-
--- a test that holds, and one that doesn't
-pub hit : {A : Type 0} (found seen : ℕ) (x y : A) → found ≡ seen → cond (nat_eq found seen) x y ≡ x
-hit found seen x y same = ap (λ b. cond b x y) (eq-eqb found seen same)
-
-pub missed : {A : Type 0} (found seen : ℕ) (x y : A) → found ≢ seen → cond (nat_eq found seen) x y ≡ y
-missed found seen x y other = ap (λ b. cond b x y) (ne_eqb found seen other)
+use Rattle.seat_index.proofs.ExchangeLemmas.{hit, missed}
 
 -- after the mark is exchanged
 pub fresh_taken : (notes : SeatNotes) (v w : View) (n found used new : ℕ) (anchor : Option Seen) → IsKeptOf notes v

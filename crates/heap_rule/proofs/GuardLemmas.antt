@@ -9,7 +9,8 @@ use Rattle.core_model.specs.Effects.{seen_word, seen_of, last_of}
 use Rattle.core_model.specs.Guards.{IsOwn, MayAnchor, as_empty as may_empty, as_full as may_full, MayStore, MayList, as_free as may_free, of_its_class as may_its_class, MayPush, MayGive}
 use Rattle.heap_table.specs.Plays.{HasSoundState}
 use Rattle.heap_rule.specs.Shown.{CanAnchor, as_empty, as_full, CanStore, CanList, as_free, of_its_class, CanPush, CanGive}
-use Rattle.heap_rule.proofs.ViewLemmas.{shown, below_capacity, block_cell, empty_shown}
+use Rattle.heap_rule.proofs.ViewLemmas.{shown, empty_shown}
+use Rattle.seat_index.proofs.ViewBlocks.{below_capacity, block_cell}
 use Rattle.seat_state.proofs.EndLemmas.{last_there}
 
 module _ (v : View) (s : HasSoundState v) where

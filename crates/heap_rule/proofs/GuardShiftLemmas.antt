@@ -15,7 +15,8 @@ use Rattle.core_model.specs.Guards.{MayCut, MayFree, MayLift, MayHoldLarge, MayS
 use Rattle.core_model.proofs.OwnerLemmas.{in_lists_total}
 use Rattle.heap_table.specs.Plays.{HasSoundState}
 use Rattle.heap_rule.specs.Shown.{CanCut, CanFree, CanLift, CanHoldLarge, CanShift}
-use Rattle.heap_rule.proofs.ViewLemmas.{shown, shown_durable, below_capacity, block_class, block_cell, empty_shown, blocks_walk, info_there}
+use Rattle.heap_rule.proofs.ViewLemmas.{shown, shown_durable, empty_shown, blocks_walk, info_there}
+use Rattle.seat_index.proofs.ViewBlocks.{below_capacity, block_class, block_cell}
 use Rattle.seat_state.proofs.EndLemmas.{last_there}
 
 module _ (v : View) (s : HasSoundState v) where

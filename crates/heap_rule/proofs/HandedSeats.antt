@@ -21,16 +21,16 @@ use Rattle.heap_table.specs.Plays.{HasSoundState}
 use Rattle.heap_table.specs.SeatViews.{SeatViews, view_in}
 use Rattle.heap_rule.specs.Carried.{Carries, IsWholeCarrier, KnowsItsOwn}
 use Rattle.heap_rule.specs.Fences.{Owns}
-use Rattle.heap_rule.specs.declared.owned.Holding.{Holding}
-use Rattle.heap_rule.specs.declared.owned.Holding.TheVariants as holding
-use Rattle.heap_rule.specs.declared.owned.Owned.{Owned}
-use Rattle.heap_rule.specs.Holdings.{CanGain, CanLose, HasGained, HasLost, Holds, HoldsAlone, HoldsLarge, HoldsSmall}
-use Rattle.heap_rule.specs.declared.owned.Ownership.{Ownership}
-use Rattle.heap_rule.specs.Owned.{HasOwned, IsMarking, count_in, parts_of}
+use Rattle.seat_index.specs.declared.owned.Holding.{Holding}
+use Rattle.seat_index.specs.declared.owned.Owned.{Owned}
+use Rattle.seat_index.specs.Holdings.{CanGain, CanLose, HasGained, HasLost, Holds, HoldsAlone, HoldsLarge, HoldsSmall}
+use Rattle.seat_index.specs.declared.owned.Ownership.{Ownership}
+use Rattle.seat_index.specs.Owned.{HasOwned, IsMarking, count_in, parts_of}
 use Rattle.heap_rule.specs.Seated.{IsKeptOf, IsWholeSeat}
-use Rattle.heap_rule.proofs.LargeCarriers.{gain_large, gained_below, large_alone, large_below, lose_large}
-use Rattle.heap_rule.proofs.OwnedCarriers.{accept_owned, alone_own, block_there, carrier_alone, offer_owned, one_marked, small_own}
-use Rattle.heap_rule.proofs.OwnedReads.{block_there as held_there, small_held, span_of}
+use Rattle.seat_index.proofs.LargeCarriers.{gain_large, gained_below, large_alone, large_below, lose_large}
+use Rattle.seat_index.proofs.OwnedCarriers.{accept_owned, alone_own, block_there, carrier_alone, offer_owned, one_marked, small_own}
+use Rattle.seat_index.proofs.OwnedReads.{block_there as held_there, small_held, span_of}
+use Rattle.seat_index.specs.declared.owned.Holding.TheVariants as holding
 
 -- a held block that the seat keeps no span of is small, of the class that it keeps; another is large
 pub is_small : (v : View) (s : HasSoundState v) (o : Owned) (own : HasOwned o (parts_of v)) (b : Block) (d n class : ℕ) (x : Ownership)

@@ -17,7 +17,7 @@ use Rattle.seat_state.proofs.CountLemmas.{total_member}
 use Rattle.heap_table.specs.Plays.{HasSoundState, IsEvent}
 use Rattle.heap_rule.specs.Seated.{Fits, IsKeptOf}
 use Rattle.heap_rule.proofs.SeatLemmas.{keep_fits}
-use Rattle.heap_rule.proofs.FreshLemmas.{hit, missed}
+use Rattle.seat_index.proofs.ExchangeLemmas.{hit, missed, before_is}
 
 -- a head that was seen may count one pop more
 pub pops_below : (v : View) → HasSoundState v → v.setup.budget < 1099511627776 → IsThere v.ticket → IsThere v.seen_head
@@ -56,10 +56,6 @@ claims notes v d (suc class) f = record {
   caches = f.caches;
   batch = f.batch;
 }
-
-pub before_is : (n : ℕ) → before n ≡ n - 1
-before_is zero = refl
-before_is (suc n) = let e : n ≡ suc n - 1 = omega arith in e
 
 pub head_popped : (notes : SeatNotes) (v w : View) (found head_word first d : ℕ) (anchor : Option Seen) → IsKeptOf notes v
     → IsEvent Pop v found w → HasSoundState w → seen_word v.seen_head ≡ head_word → found ≡ head_word

@@ -21,16 +21,9 @@ pub mod SeatImageLemmas
 pub mod ClosedLemmas
 pub mod WordsLeftLemmas
 pub mod RawLemmas
-pub mod MarkLemmas
-pub mod OwnedLemmas
-pub mod BlockMarks
-pub mod OwnedSteps
 pub mod OwnedShifts
 pub mod CacheMarks
 pub mod ChangeLemmas
-pub mod OwnedReads
-pub mod HeldMarks
-pub mod OwnedOpening
 pub mod FenceLemmas
 pub mod AgreeLemmas
 pub mod DrawLemmas
@@ -38,10 +31,7 @@ pub mod HeldLemmas
 pub mod CrashLemmas
 pub mod TicketLemmas
 pub mod RecordLemmas
-pub mod StackLemmas
-pub mod OwnedCarriers
 pub mod HandingLemmas
-pub mod LargeCarriers
 pub mod HandedSeats
 pub mod HolderLemmas
 pub mod CarrierBlocks

@@ -7,8 +7,8 @@ use Rattle.core_model.specs.View.{View, of_class}
 use Rattle.core_model.specs.Effects.{first_of, rest_of, span_count}
 use Rattle.core_model.specs.Guards.{MayAlloc}
 use Rattle.seat_state.specs.declared.notes.SeatNotes.{SeatNotes}
-use Rattle.heap_rule.specs.declared.owned.Change.TheVariants as change
-use Rattle.heap_rule.specs.Changed.{CanUncache, FitsNotes, cache_of, uncached}
+use Rattle.seat_index.specs.declared.owned.Change.TheVariants as change
+use Rattle.heap_rule.specs.Noted.{CanUncache, FitsNotes, cache_of, uncached}
 use Rattle.heap_rule.specs.Seated.{IsKeptOf, FitsShift}
 use Rattle.heap_rule.specs.Shown.{CanFree, CanLift, CanCut}
 use Rattle.heap_rule.proofs.ShiftLemmas.{alloc_fits, batch_fits, cache_first, cached_above, count_fits, cut_below, cut_fits, free_class, free_fits, large_fits, less, lift_fits, some_count, split_fits}

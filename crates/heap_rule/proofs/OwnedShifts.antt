@@ -15,20 +15,21 @@ use Rattle.core_model.proofs.BlockLemmas.{superblock_is, first_there}
 use Rattle.core_model.proofs.OwnLemmas.{one_at_most}
 use Rattle.core_model.proofs.RangeLemmas.{block_of}
 use Rattle.core_model.proofs.TotalLemmas.{total_at}
-use Rattle.heap_rule.specs.declared.owned.Ownership.{Ownership}
-use Rattle.heap_rule.specs.declared.owned.Ownership.TheVariants as ownership
-use Rattle.heap_rule.specs.declared.owned.Owned.{Owned}
-use Rattle.heap_rule.specs.declared.stacks.Stack.{Stack}
-use Rattle.heap_rule.specs.Stacks.{AreStacks, IsRestacked}
-use Rattle.heap_rule.specs.Owned.{OwnedParts, parts_of, IsOwnership, HaveOwnership, IsMarking, AreClasses, HasOwned, times_had}
+use Rattle.seat_index.specs.declared.owned.Ownership.{Ownership}
+use Rattle.seat_index.specs.declared.owned.Owned.{Owned}
+use Rattle.seat_index.specs.declared.stacks.Stack.{Stack}
+use Rattle.seat_index.specs.Stacks.{AreStacks, IsRestacked}
+use Rattle.seat_index.specs.Owned.{OwnedParts, parts_of, IsOwnership, HaveOwnership, IsMarking, AreClasses, HasOwned, times_had}
 use Rattle.heap_table.specs.Plays.{HasSoundState}
 use Rattle.heap_rule.specs.Shown.{CanFree, CanLift, CanCut, CanHoldLarge}
-use Rattle.heap_rule.proofs.BlockMarks.{marked_alike, marked_more, alloc_times, alloc_classes, lift_times, lift_classes, free_times, free_classes, cached_times, cached_classes}
-use Rattle.heap_rule.proofs.OwnedLemmas.{cut_ownerships, large_ownerships, split_ownerships}
-use Rattle.heap_rule.proofs.OwnedSteps.{with_ownerships, taken_below}
-use Rattle.heap_rule.proofs.StackLemmas.{restacked}
+use Rattle.seat_index.proofs.BlockMarks.{marked_alike, marked_more, alloc_times, alloc_classes, lift_times, lift_classes, free_times, free_classes, cached_times, cached_classes}
+use Rattle.seat_index.proofs.OwnershipLemmas.{cut_ownerships}
+use Rattle.seat_index.proofs.SpanOwnerships.{large_ownerships, split_ownerships}
+use Rattle.seat_index.proofs.OwnedViews.{with_ownerships, taken_below}
+use Rattle.seat_index.proofs.StackLemmas.{restacked}
 use Rattle.heap_rule.proofs.ShiftLemmas.{free_info, free_class, cut_info}
-use Rattle.heap_rule.proofs.ViewLemmas.{block_cut}
+use Rattle.seat_index.proofs.ViewBlocks.{block_cut}
+use Rattle.seat_index.specs.declared.owned.Ownership.TheVariants as ownership
 
 -- where blocks go from one place to another, and the seat's are the same
 moved : (o : Owned) (batch : Vec ℕ Global) (stacks : Vec Stack Global) (p : OwnedParts) (small caches : List (List ℕ)) (blocks : List ℕ)

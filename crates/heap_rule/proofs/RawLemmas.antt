@@ -15,7 +15,8 @@ use Rattle.core_model.proofs.TotalLemmas.{total_at}
 use Rattle.heap_table.specs.Plays.{HasSoundState, IsEvent}
 use Rattle.heap_rule.specs.Shown.{Shows}
 use Rattle.heap_rule.proofs.SettleLemmas.{own_there, own_index, own_below}
-use Rattle.heap_rule.proofs.ViewLemmas.{block_cut, shown}
+use Rattle.seat_index.proofs.ViewBlocks.{block_cut}
+use Rattle.heap_rule.proofs.ViewLemmas.{shown}
 
 module _ (v : View) (s : HasSoundState v) where
   abbrev m : Memory

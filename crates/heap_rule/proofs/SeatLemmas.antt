@@ -8,7 +8,8 @@ use Rattle.core_model.specs.View.{Setup, View}
 use Rattle.seat_state.specs.declared.notes.SeatNotes.{SeatNotes}
 use Rattle.core_model.specs.Effects.{used_up}
 use Rattle.seat_state.specs.Notes.{HasNotes}
-use Rattle.heap_rule.specs.declared.owned.Owned.{Owned}
+use Rattle.seat_index.specs.declared.owned.Owned.{Owned}
+use Rattle.seat_index.specs.Owned.{IsIndexOf}
 use Rattle.heap_table.specs.Plays.{HasSoundState, IsEvent}
 use Rattle.heap_table.specs.AtTable.{SharedView, IsAt}
 use Rattle.heap_rule.specs.Seated.{Fits, IsKeptOf, IsSingleSeat, IsWholeSeat}
@@ -93,3 +94,12 @@ loaded notes v w word found kept event has = keep_fits _ _ w event.after has (re
 pub whole_at : (me me' : Me ℕ SeatViews) (notes : SeatNotes) (owned : Owned) (marks : List Bool) (capacity budget : ℕ) → me' ≡ me
     → IsWholeSeat me notes owned marks capacity budget → IsWholeSeat me' notes owned marks capacity budget
 whole_at me me' notes owned marks capacity budget same whole = subst (λ m. IsWholeSeat m notes owned marks capacity budget) (sym same) whole
+
+-- what a seat keeps to tell its own words is that of its view
+pub index_of : (me : Me ℕ SeatViews) (notes : SeatNotes) (owned : Owned) (marks : List Bool) (capacity budget : ℕ)
+    → IsWholeSeat me notes owned marks capacity budget → IsIndexOf owned capacity (view_in me.0)
+index_of me notes owned marks capacity budget whole = record {
+  has = whole.seat.kept.has;
+  own = whole.own;
+  capacity_is = whole.seat.capacity_is;
+}

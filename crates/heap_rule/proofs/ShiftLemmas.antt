@@ -1,16 +1,14 @@
 -- What is kept of a seat once a change of its parts is done, which goes with a draw.
-use Rattle.std.proofs.Common.{◌≡◌, ℕ, suc, ◌+◌, ◌-◌, ◌*◌, ◌<◌, ◌≤◌, inl, inr, true, cond, nat_eq, Option, Some, List, ◌∷◌, get_or, set, length, refl, ap, ap₂, sym, subst, ◌∙◌, lt-ltb, arith}
-use Rattle.std.proofs.lemmas.Bool.{cases_lt}
+use Rattle.std.proofs.Common.{◌≡◌, ℕ, suc, ◌+◌, ◌-◌, ◌*◌, ◌<◌, ◌≤◌, true, cond, nat_eq, Option, Some, List, ◌∷◌, get_or, set, length, refl, ap, ap₂, sym, subst, ◌∙◌, lt-ltb, arith}
 use Rattle.heap_model.specs.Geometry.{lists, start_word, info_word, largest_capacity_fits, superblock_of}
 use Rattle.heap_model.specs.Sizes.{IsClass, words_of_class, blocks_of}
 use Rattle.heap_model.proofs.SizeLemmas.{four_blocks}
 use Rattle.core_model.specs.declared.event.Shift.TheVariants.{Cut, Alloc, Free, Lift, Large, Split}
 use Rattle.core_model.specs.Cells.{data_cell, info_cell}
 use Rattle.core_model.specs.Memory.{memory_of, info, volatile_at, next, table_length}
-use Rattle.core_model.specs.View.{View, of_class, times_block, times_large}
+use Rattle.core_model.specs.View.{View, of_class, times_block}
 use Rattle.core_model.specs.Effects.{first_of, rest_of, cleared, span_count, class_blocks}
 use Rattle.core_model.specs.Guards.{MayAlloc}
-use Rattle.core_model.proofs.TotalLemmas.{total_at}
 use Rattle.core_model.proofs.CountLemmas.{length_steps}
 use Rattle.core_model.proofs.BlockLemmas.{first_there}
 use Rattle.core_model.proofs.OwnerLemmas.{in_lists_total}
@@ -21,14 +19,14 @@ use Rattle.seat_state.specs.declared.notes.Seen.{Seen}
 use Rattle.seat_state.specs.Notes.{HasCaches, snapshot}
 use Rattle.seat_state.proofs.CacheLemmas.{cache_set}
 use Rattle.seat_state.proofs.EndLemmas.{first_append, last_append, length_append, rest_length, rest_first}
-use Rattle.seat_state.proofs.CountLemmas.{no_span}
 use Rattle.seat_state.proofs.NewSeat.{no_cache}
 use Rattle.seat_state.proofs.WordLemmas.{entry_is, read_is}
 use Rattle.heap_table.specs.Plays.{HasSoundState}
 use Rattle.heap_rule.specs.Seated.{IsKeptOf, FitsShift}
 use Rattle.heap_rule.specs.Shown.{CanFree, CanCut}
 use Rattle.heap_rule.proofs.ChainLemmas.{info_read}
-use Rattle.heap_rule.proofs.ViewLemmas.{shown, below_capacity, first_step, block_class, block_cell, block_range, batch_short, cache_short}
+use Rattle.heap_rule.proofs.ViewLemmas.{shown, first_step}
+use Rattle.seat_index.proofs.ViewBlocks.{below_capacity, block_class, block_cell, block_range, batch_short, cache_short, span_below}
 
 -- a view has a cache for each class
 pub long_caches : (v : View) → HasSoundState v → (class : ℕ) → class < lists → class < length v.caches
@@ -185,16 +183,8 @@ info_inside capacity d place less place_is = let w = index_within capacity (info
 
 -- a held large block lies in the image, and its info says how many superblocks it takes
 module _ (v : View) (s : HasSoundState v) (d : ℕ) (some : 1 ≤ span_count d v.large) where
-  pub span_below : d < v.setup.capacity
-  span_below = elim (cases_lt 0 (times_large d v.large)) [
-    | inl takes ↦ let t = total_at (λ (u : View). times_large d u.large) s.views s.seat v s.below s.at in
-        let low = s.sound.good.shaped.durable.below d (omega arith) in
-        let q = s.sound.good.shaped.durable.behind in let r = s.sound.good.shaped.durable.room in omega arith
-    | inr none ↦ absurd (let z = no_span d v.large (omega arith) in omega arith)
-  ]
-
   pub span_read : (place found : ℕ) → place ≡ info_word d → found ≡ get_or s.words place 0 → found ≡ 255 + 256 * span_count d v.large
-  span_read place found place_is found_is = info_read v s d place found span_below place_is found_is
+  span_read place found place_is found_is = info_read v s d place found (span_below v s d some) place_is found_is
       ∙ ((s.sound.good.claims s.seat v s.below s.at).is_large d some).0
 
 pub large_fits : (notes : SeatNotes) (v : View) (d count : ℕ) (anchor : Option Seen) → IsKeptOf notes v

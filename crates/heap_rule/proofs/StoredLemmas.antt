@@ -13,7 +13,7 @@ use Rattle.seat_state.specs.Notes.{HasCaches, HasBatch}
 use Rattle.heap_table.specs.Plays.{HasSoundState, IsEvent}
 use Rattle.heap_rule.specs.Seated.{Fits, IsKeptOf}
 use Rattle.heap_rule.proofs.SeatLemmas.{keep_fits}
-use Rattle.heap_rule.proofs.ViewLemmas.{block_cell}
+use Rattle.seat_index.proofs.ViewBlocks.{block_cell}
 use Rattle.seat_state.proofs.EndLemmas.{last_there}
 
 -- no block is the last of none

@@ -9,9 +9,9 @@ use Rattle.core_model.specs.Memory.{table_length}
 use Rattle.core_model.specs.View.{View}
 use Rattle.heap_table.specs.AtTable.{SharedView}
 use Rattle.heap_table.specs.SeatViews.{SeatViews, view_in}
-use Rattle.heap_rule.specs.declared.owned.Holding.{Holding}
+use Rattle.seat_index.specs.declared.owned.Holding.{Holding}
 use Rattle.heap_rule.specs.Fences.{Owns}
-use Rattle.heap_rule.specs.Holdings.{HoldsAlone}
+use Rattle.seat_index.specs.Holdings.{HoldsAlone}
 use Rattle.heap_rule.specs.Seated.{SeatView}
 use Rattle.heap_rule.specs.Seats.{AreSeatsOf, views_of}
 
@@ -42,6 +42,7 @@ pub record IsWholeCarrier (table : TableId) (me : Me ℕ SeatViews) (b : Block) 
   pub alone : HoldsAlone (view_in me.0) b holding
   pub knows : KnowsItsOwn (view_in me.0)
 
+-- the views of these carriers
 abbrev pub carried_views : List CarrierView → List View
 carried_views carriers = map (λ (c : CarrierView). c.view) carriers
 

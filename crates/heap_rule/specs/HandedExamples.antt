@@ -4,20 +4,23 @@ use Rattle.std.proofs.Common.{ap, arith}
 use Rattle.heap_model.specs.declared.block.Block.{Block}
 use Rattle.heap_model.specs.Sizes.{class_sizes, words_of_class}
 use Rattle.core_model.specs.View.{View}
-use Rattle.heap_rule.specs.declared.owned.Holding.TheVariants as holding
+use Rattle.seat_index.specs.declared.owned.Holding.TheVariants as holding
 use Rattle.heap_rule.specs.Examples.{seat}
-use Rattle.heap_rule.specs.Holdings.{Holds, HoldsAlone}
+use Rattle.seat_index.specs.Holdings.{Holds, HoldsAlone}
 
 -- the first block of superblock 0, of class 1, and the large block of superblock 1
 abbrev pub small_block : Block
 small_block = record { first_word = 1080; words = 2 }
 
+-- a large block of one superblock
 abbrev pub large_block : Block
 large_block = record { first_word = 9272; words = 8192 }
 
+-- a seat that holds the small block
 abbrev pub with_small : View
 with_small = record seat { small = set seat.small 1 (1080 ∷ []) }
 
+-- a seat that holds the large one
 abbrev pub with_large : View
 with_large = record seat { large = record { first = 1; count = 1 } ∷ [] }
 

@@ -13,8 +13,8 @@ use Rattle.core_model.specs.View.{View}
 use Rattle.core_model.specs.Steps.{found_by}
 use Rattle.seat_state.specs.declared.notes.SeatNotes.{SeatNotes}
 use Rattle.seat_state.specs.Notes.{HasNotes, HasCaches, HasBatch}
-use Rattle.heap_rule.specs.declared.owned.Owned.{Owned}
-use Rattle.heap_rule.specs.Owned.{HasOwned, parts_of}
+use Rattle.seat_index.specs.declared.owned.Owned.{Owned}
+use Rattle.seat_index.specs.Owned.{HasOwned, parts_of}
 use Rattle.heap_table.specs.SeatViews.{SeatViews, IsSingle, view_in}
 use Rattle.heap_table.specs.Plays.{HasSoundState}
 use Rattle.heap_table.specs.AtTable.{SharedView}

@@ -25,12 +25,11 @@ ghost use Rattle.heap_rule.specs.Seated.{KeepsStores, IsSeatOf, Tells};
 ghost use Rattle.heap_rule.specs.Shown.{Can};
 
 use crate::exchanges::exchange_seen;
-use crate::owned::{Ownership, mark_all};
 use crate::seat::Seat;
-use crate::stacks::Stack;
 use anchor_word::{anchor_count, unpack};
 use core_model::Event;
 use heap_table::{Shared, TableSeat, read};
+use seat_index::{Ownership, Stack, mark_all};
 use seat_state::{
     BatchEnds, Cache, NO_BATCH, anchor_after_give, anchor_after_take_all, first_free,
 };

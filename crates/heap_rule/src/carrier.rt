@@ -4,11 +4,11 @@ ghost use Rattle.std.specs.Prelude.{◌≡◌};
 ghost use Rattle.core_model.specs.Carriers.{IsCarrier};
 ghost use Rattle.core_model.specs.Held.{IsHeld};
 ghost use Rattle.heap_model.specs.declared.block.Block.{Block};
-ghost use Rattle.heap_rule.specs.Holdings.{HoldsAlone};
-ghost use Rattle.heap_rule.specs.declared.owned.Holding.{Holding};
+ghost use Rattle.seat_index.specs.Holdings.{HoldsAlone};
+ghost use Rattle.seat_index.specs.declared.owned.Holding.{Holding};
 
-use crate::owned::Holding;
 use heap_table::TableSeat;
+use seat_index::Holding;
 use std::marker::Model;
 use super_block::Block;
 

@@ -9,7 +9,7 @@ ghost use Rattle.core_model.specs.Memory.{table_index};
 ghost use Rattle.heap_table.specs.SeatViews.{view_in};
 ghost use Rattle.heap_table.specs.Plays.{IsEvent, May};
 ghost use Rattle.heap_table.specs.AtTable.{IsAt, IsExchange};
-ghost use Rattle.heap_rule.specs.Changed.{forgotten};
+ghost use Rattle.heap_rule.specs.Noted.{forgotten};
 ghost use Rattle.heap_rule.specs.Seated.{Tells};
 
 use core_model::Event;

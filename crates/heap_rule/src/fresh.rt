@@ -15,10 +15,10 @@ ghost use Rattle.heap_rule.specs.Seated.{KeepsStores, IsSeatOf, Tells};
 ghost use Rattle.heap_rule.specs.Shown.{Can};
 
 use crate::exchanges::exchange_seen;
-use crate::owned::{Ownership, own_range};
 use crate::seat::Seat;
 use core_model::Event;
 use heap_table::{Shared, raise};
+use seat_index::{Ownership, own_range};
 use seat_state::Seen;
 use super_block::USED_WORD;
 

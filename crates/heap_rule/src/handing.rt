@@ -7,13 +7,13 @@ ghost use Rattle.std.specs.Prelude.{◌≡◌};
 ghost use Rattle.core_model.specs.Carriers.{accepted, carrier_of, MayHand, offered};
 ghost use Rattle.core_model.specs.Held.{IsHeld};
 ghost use Rattle.heap_rule.specs.Carried.{Carries};
-ghost use Rattle.heap_rule.specs.Holdings.{Holds};
+ghost use Rattle.seat_index.specs.Holdings.{Holds};
 ghost use Rattle.heap_rule.specs.Seated.{IsSeatOf, KeepsStores};
 
 use crate::carrier::Carrier;
-use crate::owned::Holding;
 use crate::seat::Seat;
 use heap_table::{Shared, accept, offer};
+use seat_index::Holding;
 use super_block::Block;
 
 impl Seat {

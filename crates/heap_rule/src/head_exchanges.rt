@@ -17,10 +17,10 @@ ghost use Rattle.heap_rule.specs.Seated.{KeepsStores, IsSeatOf, Tells};
 ghost use Rattle.heap_rule.specs.Shown.{Can};
 
 use crate::exchanges::exchange_seen;
-use crate::owned::Ownership;
 use crate::seat::Seat;
 use core_model::Event;
 use heap_table::Shared;
+use seat_index::Ownership;
 use seat_state::{Seen, head_after_pop, head_after_push, head_first};
 use super_block::HEAD_WORD;
 

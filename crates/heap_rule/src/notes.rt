@@ -2,9 +2,9 @@
 //! are long, and a change is of a few words.
 
 ghost use Rattle.std.specs.Prelude.{◌<◌, ◌≤◌, ◌+◌, length};
-ghost use Rattle.heap_rule.specs.Changed.{CanNote, CanUncache, IsNoted, IsUncached};
+ghost use Rattle.heap_rule.specs.Noted.{CanNote, CanUncache, IsNoted, IsUncached};
 
-use crate::owned::Change;
+use seat_index::Change;
 use seat_state::{BatchEnds, Cache, SeatNotes, Seen};
 use size_table::blocks_of;
 use super_block::Geometry;

@@ -3,15 +3,15 @@
 ghost use Rattle.std.specs.Prelude.{◌≡◌, ◌<◌, ◌≤◌, ℕ, [], get_or, length, IfOk};
 ghost use Rattle.core_model.specs.Opening.{AreOwners, setup_of, opened_view};
 ghost use Rattle.heap_model.specs.Geometry.{image_words};
-ghost use Rattle.heap_rule.specs.declared.owned_opening.Room.{Room};
-ghost use Rattle.heap_rule.specs.Owned.{parts_of};
-ghost use Rattle.heap_rule.specs.Rooms.{IsOpenedRoom};
+ghost use Rattle.seat_index.specs.declared.owned_opening.Room.{Room};
+ghost use Rattle.seat_index.specs.Owned.{parts_of};
+ghost use Rattle.seat_index.specs.Rooms.{IsOpenedRoom};
 ghost use Rattle.heap_table.specs.Rule.{IsOpened, opening_of, setup_for, opened_views, opened_view_of};
 ghost use Rattle.heap_rule.specs.Seats.{AreOpenedSeats, dealt_seats};
 
-use crate::owned_opening::{Room, opened_rooms};
 use crate::seat::Seat;
 use heap_table::{Shared, TableSeat, open_table, split_first};
+use seat_index::{Room, opened_rooms};
 use seat_state::{NEW_SEAT, Owners};
 use std::alloc::{AllocError, Global};
 use std::collections::VecDeque;

@@ -1,8 +1,8 @@
 //! A seat of a shared heap: one thread's part of it.
 
-use crate::owned::Owned;
 use heap_table::TableSeat;
 use line_memory::{Pending, RecentStores};
+use seat_index::Owned;
 use seat_state::SeatNotes;
 use std::marker::Model;
 use super_block::Geometry;

@@ -3,14 +3,14 @@
 ghost use Rattle.std.specs.Prelude.{◌≡◌, Some};
 ghost use Rattle.core_model.specs.declared.event.Shift.TheVariants.{Cut, Alloc, Free, Lift, Split};
 ghost use Rattle.core_model.specs.Guards.{MayAlloc, MaySplit};
-ghost use Rattle.heap_rule.specs.Changed.{FitsChange, FitsNotes};
+ghost use Rattle.heap_rule.specs.Noted.{FitsChange, FitsNotes};
 ghost use Rattle.heap_rule.specs.Seated.{IsSeatOf};
 ghost use Rattle.heap_rule.specs.Shown.{CanFree, CanLift, CanCut, CanShift};
 
-use crate::owned::Change;
 use crate::seat::Seat;
 use core_model::Shift;
 use heap_table::Shared;
+use seat_index::Change;
 
 impl Seat {
     /// The first block of the cache is held.

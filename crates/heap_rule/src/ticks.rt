@@ -2,17 +2,17 @@
 
 ghost use Rattle.std.specs.Prelude.{◌≡◌, ℕ, Some, None};
 ghost use Rattle.core_model.specs.declared.event.Event.TheVariants.{Tick};
-ghost use Rattle.heap_rule.specs.Changed.{FitsChange, FitsNotes};
+ghost use Rattle.heap_rule.specs.Noted.{FitsChange, FitsNotes};
 ghost use Rattle.heap_table.specs.Plays.{IsEvent};
 ghost use Rattle.heap_rule.specs.Seated.{KeepsStores, IsSeatOf, TellsDraw};
 ghost use Rattle.heap_rule.specs.Shown.{Can};
 
 use crate::notes::note;
-use crate::owned::Change;
 use crate::seat::Seat;
 use core_model::{Event, Shift};
 use heap_table::{Shared, draw};
 use line_memory::Stopped;
+use seat_index::Change;
 use seat_state::ticket_place;
 
 impl Seat {

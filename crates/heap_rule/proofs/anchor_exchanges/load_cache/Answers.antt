@@ -7,7 +7,7 @@ use Rattle.core_model.specs.View.{of_class}
 use Rattle.heap_table.specs.SeatViews.{SeatViews, view_in}
 use Rattle.heap_table.specs.Plays.{HasSoundState}
 use Rattle.heap_rule.proofs.CacheMarks.{cached_below, next_at}
-use Rattle.heap_rule.proofs.StackLemmas.{filled_more}
+use Rattle.seat_index.proofs.StackLemmas.{filled_more}
 use Rattle.heap_rule.proofs.anchor_exchanges.load_cache.Goals as goal
 
 pub read-block-requires-clause-inside : goal.read-block-requires-clause-inside

@@ -1,5 +1,5 @@
 use Rattle.std.proofs.Common.{◌≡◌, None, refl, sym, subst}
-use Rattle.heap_rule.specs.Changed.{forgotten}
+use Rattle.heap_rule.specs.Noted.{forgotten}
 use Rattle.heap_rule.proofs.ForgottenLemmas.{head_forgotten, anchor_forgotten, nothing_forgotten}
 use Rattle.heap_rule.proofs.exchanges.forget.Goals as goal
 

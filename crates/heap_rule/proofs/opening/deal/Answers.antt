@@ -3,10 +3,10 @@ use Rattle.atomic_table.specs.Table.{Me}
 use Rattle.core_model.specs.Opening.{tabulate}
 use Rattle.heap_model.specs.Geometry.{image_words}
 use Rattle.std.proofs.lemmas.List.{length-replicate}
-use Rattle.heap_rule.specs.declared.owned_opening.Room.{Room}
-use Rattle.heap_rule.specs.Rooms.{IsOpenedRoom}
-use Rattle.heap_rule.specs.Owned.{HasOwned, parts_of}
-use Rattle.heap_rule.proofs.OwnedOpening.{each_rest}
+use Rattle.seat_index.specs.declared.owned_opening.Room.{Room}
+use Rattle.seat_index.specs.Rooms.{IsOpenedRoom}
+use Rattle.seat_index.specs.Owned.{HasOwned, parts_of}
+use Rattle.seat_index.proofs.EntryLemmas.{each_rest}
 use Rattle.heap_table.specs.SeatViews.{SeatViews, first_view, other_views, view_in}
 use Rattle.heap_table.specs.Rule.{opened_view_of}
 use Rattle.heap_rule.specs.Seated.{SeatView}

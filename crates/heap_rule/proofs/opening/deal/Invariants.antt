@@ -2,9 +2,9 @@ use Rattle.std.specs.VecDeque.{deque_len}
 use Rattle.std.proofs.Common.{◌≡◌, ◌-◌, ◌+◌, ◌<◌, ℕ, [], get_or, length, vec_len, vec_capacity}
 use Rattle.core_model.specs.Opening.{tabulate}
 use Rattle.heap_model.specs.Geometry.{image_words}
-use Rattle.heap_rule.specs.declared.owned_opening.Room.{Room}
-use Rattle.heap_rule.specs.Owned.{parts_of}
-use Rattle.heap_rule.specs.Rooms.{IsOpenedRoom}
+use Rattle.seat_index.specs.declared.owned_opening.Room.{Room}
+use Rattle.seat_index.specs.Owned.{parts_of}
+use Rattle.seat_index.specs.Rooms.{IsOpenedRoom}
 use Rattle.heap_table.specs.Rule.{opened_view_of}
 use Rattle.heap_rule.specs.Seats.{dealt_seats}
 use Rattle.heap_rule.proofs.opening.deal.Given as goal

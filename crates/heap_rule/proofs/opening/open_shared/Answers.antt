@@ -1,9 +1,9 @@
 use Rattle.std.proofs.Common.{ap, sym, subst, ◌∙◌}
 use Rattle.heap_model.specs.Geometry.{image_words}
 use Rattle.heap_table.specs.Rule.{Opening, opening_of, opened_view_of}
-use Rattle.heap_rule.specs.Owned.{parts_of}
-use Rattle.heap_rule.specs.Rooms.{IsOpenedRoom}
-use Rattle.heap_rule.proofs.OwnedOpening.{opened_parts_are}
+use Rattle.seat_index.specs.Owned.{parts_of}
+use Rattle.seat_index.specs.Rooms.{IsOpenedRoom}
+use Rattle.seat_index.proofs.OwnedOpening.{opened_parts_are}
 use Rattle.heap_rule.proofs.OpeningLemmas.{opened_seats}
 use Rattle.heap_rule.proofs.opening.open_shared.Goals as goal
 

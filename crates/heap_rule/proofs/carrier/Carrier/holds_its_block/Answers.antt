@@ -4,8 +4,8 @@ use Rattle.core_model.specs.Carriers.{IsCarrier}
 use Rattle.core_model.specs.Held.{IsHeld}
 use Rattle.heap_table.specs.SeatViews.{view_in}
 use Rattle.heap_rule.specs.Carried.{CarrierView}
-use Rattle.heap_rule.specs.declared.owned.Holding.{Holding}
-use Rattle.heap_rule.specs.Holdings.{HoldsAlone}
+use Rattle.seat_index.specs.declared.owned.Holding.{Holding}
+use Rattle.seat_index.specs.Holdings.{HoldsAlone}
 use Rattle.heap_rule.proofs.CarrierBlocks.{carrier_holds, only_block}
 use Rattle.heap_rule.proofs.carrier.Carrier.holds_its_block.Goals as goal
 

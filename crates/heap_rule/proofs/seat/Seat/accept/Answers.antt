@@ -6,7 +6,7 @@ use Rattle.core_model.specs.Memory.{table_length}
 use Rattle.heap_table.specs.Plays.{HasSoundState}
 use Rattle.heap_table.specs.SeatViews.{view_in}
 use Rattle.heap_rule.specs.Carried.{CarrierView, Carries}
-use Rattle.heap_rule.specs.Holdings.{CanGain, HasGained}
+use Rattle.seat_index.specs.Holdings.{CanGain, HasGained}
 use Rattle.heap_rule.proofs.CarrierBlocks.{acceptor_holds}
 use Rattle.heap_rule.proofs.HandedSeats.{accepted_seat, can_gain, whole_carries}
 use Rattle.heap_rule.proofs.seat.Seat.accept.Goals as goal

@@ -5,7 +5,7 @@ use Rattle.heap_table.specs.SeatViews.{view_in}
 use Rattle.heap_rule.specs.Fences.{SettlesOwn}
 use Rattle.heap_rule.specs.Seated.{SeatView}
 use Rattle.heap_rule.proofs.AgreeLemmas.{agree_put, agreed, learned_only, stood_only, only_then, only_parts, only_seat}
-use Rattle.heap_rule.proofs.OwnedSteps.{quiet}
+use Rattle.seat_index.proofs.OwnedViews.{quiet}
 use Rattle.heap_rule.proofs.seat.Seat.agrees.Goals as goal
 
 pub overflow_add-place : goal.overflow_add-place

@@ -1,7 +1,7 @@
 use Rattle.std.proofs.Common.{Some, sym, subst}
 use Rattle.core_model.specs.declared.event.Shift.{Shift}
-use Rattle.heap_rule.specs.declared.owned.Change.TheVariants as change
-use Rattle.heap_rule.specs.Changed.{FitsChange, FitsNotes}
+use Rattle.seat_index.specs.declared.owned.Change.TheVariants as change
+use Rattle.heap_rule.specs.Noted.{FitsChange, FitsNotes}
 use Rattle.heap_rule.specs.Shown.{CanShift}
 use Rattle.heap_rule.proofs.ChangeLemmas.{large_change}
 use Rattle.heap_rule.proofs.NoteLemmas.{large_notes}

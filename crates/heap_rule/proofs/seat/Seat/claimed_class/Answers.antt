@@ -3,7 +3,7 @@ use Rattle.core_model.specs.View.{times_classed}
 use Rattle.core_model.specs.Effects.{claim_class}
 use Rattle.heap_table.specs.SeatViews.{view_in}
 use Rattle.heap_rule.specs.Seated.{SeatView}
-use Rattle.heap_rule.proofs.OwnedReads.{classed_below, claim_of}
+use Rattle.seat_index.proofs.OwnedReads.{classed_below, claim_of}
 use Rattle.heap_rule.proofs.seat.Seat.claimed_class.Goals as goal
 
 pub index-requires : goal.index-requires

@@ -4,7 +4,8 @@ use Rattle.heap_table.specs.SeatViews.{view_in}
 use Rattle.heap_rule.specs.Seated.{SeatView}
 use Rattle.heap_rule.specs.Shown.{Can}
 use Rattle.heap_rule.proofs.ShownLemmas.{may_of}
-use Rattle.heap_rule.specs.Changed.{CanChange, CanNote, FitsChange, FitsNotes, IsNoted}
+use Rattle.seat_index.specs.Changed.{CanChange}
+use Rattle.heap_rule.specs.Noted.{CanNote, FitsChange, FitsNotes, IsNoted}
 use Rattle.heap_rule.proofs.ChangeLemmas.{draw_stays, draw_owned}
 use Rattle.heap_rule.proofs.SeatLemmas.{seat_after}
 use Rattle.heap_rule.proofs.TickLemmas.{draw_going, draw_stopped, draw_kept, stop_kept}

@@ -1,5 +1,5 @@
 use Rattle.std.proofs.Common.{Some, sym, subst}
-use Rattle.heap_rule.specs.Changed.{FitsChange, FitsNotes}
+use Rattle.heap_rule.specs.Noted.{FitsChange, FitsNotes}
 use Rattle.heap_rule.specs.Seated.{SeatView}
 use Rattle.heap_rule.proofs.seat.Seat.draw_with.Goals as goal
 

@@ -6,7 +6,7 @@ use Rattle.heap_table.specs.SeatViews.{view_in}
 use Rattle.heap_rule.specs.Seated.{SeatView}
 use Rattle.heap_rule.specs.Shown.{CanFree}
 use Rattle.heap_rule.proofs.ShiftLemmas.{free_own, free_class}
-use Rattle.heap_rule.proofs.ViewLemmas.{block_below, block_range}
+use Rattle.seat_index.proofs.ViewBlocks.{block_below, block_range}
 use Rattle.heap_rule.proofs.seat.Seat.held_class.Goals as goal
 
 pub superblock_of-d-requires : goal.superblock_of-d-requires

@@ -2,14 +2,14 @@ use Rattle.std.proofs.Common.{◌≡◌, ◌-◌, ◌/◌, get_or, refl, ap, sym
 use Rattle.heap_model.specs.Geometry.{start_word, superblock_of}
 use Rattle.core_model.specs.Held.{IsHeld}
 use Rattle.seat_state.proofs.WordLemmas.{entry_is}
-use Rattle.heap_rule.specs.declared.owned.Holding.TheVariants as holding
-use Rattle.heap_rule.specs.declared.owned.Ownership.TheVariants as ownership
+use Rattle.seat_index.specs.declared.owned.Holding.TheVariants as holding
+use Rattle.seat_index.specs.declared.owned.Ownership.TheVariants as ownership
 use Rattle.heap_table.specs.SeatViews.{view_in}
-use Rattle.heap_rule.specs.Holdings.{Holds}
-use Rattle.heap_rule.specs.Owned.{count_in}
+use Rattle.seat_index.specs.Holdings.{Holds}
+use Rattle.seat_index.specs.Owned.{count_in}
 use Rattle.heap_rule.specs.Seated.{SeatView}
 use Rattle.heap_rule.proofs.HandedSeats.{is_large, is_small}
-use Rattle.heap_rule.proofs.OwnedReads.{block_there}
+use Rattle.seat_index.proofs.OwnedReads.{block_there}
 use Rattle.heap_rule.proofs.seat.Seat.holding_of.Goals as goal
 
 pub superblock_of-d-requires : goal.superblock_of-d-requires

@@ -1,8 +1,8 @@
 use Rattle.std.proofs.Common.{ap}
 use Rattle.core_model.specs.declared.event.Event.TheVariants.{Load}
 use Rattle.heap_table.specs.SeatViews.{view_in}
-use Rattle.heap_rule.specs.Owned.{parts_of}
-use Rattle.heap_rule.proofs.OwnedSteps.{quiet}
+use Rattle.seat_index.specs.Owned.{parts_of}
+use Rattle.seat_index.proofs.OwnedViews.{quiet}
 use Rattle.heap_rule.proofs.SeatLemmas.{loaded, seat_after}
 use Rattle.heap_rule.proofs.seat.Seat.load_word.Goals as goal
 

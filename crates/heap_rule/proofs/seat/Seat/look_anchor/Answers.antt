@@ -1,12 +1,11 @@
-use Rattle.std.proofs.Common.{ap}
-use Rattle.std.proofs.Common.{sym, subst, ◌<◌}
+use Rattle.std.proofs.Common.{ap, sym, subst, ◌<◌}
 use Rattle.heap_table.specs.SeatViews.{view_in}
 use Rattle.heap_rule.specs.Seated.{SeatView}
 use Rattle.core_model.specs.declared.event.Event.TheVariants.{LookAnchor}
 use Rattle.core_model.specs.Guards.{MayLookAt}
 use Rattle.heap_table.proofs.TableStepLemmas.{look_below}
-use Rattle.heap_rule.specs.Owned.{parts_of}
-use Rattle.heap_rule.proofs.OwnedSteps.{quiet}
+use Rattle.seat_index.specs.Owned.{parts_of}
+use Rattle.seat_index.proofs.OwnedViews.{quiet}
 use Rattle.heap_rule.proofs.SeatLemmas.{looked_anchor, seat_after}
 use Rattle.heap_rule.proofs.seat.Seat.look_anchor.Goals as goal
 

@@ -5,9 +5,9 @@ use Rattle.core_model.specs.declared.event.Event.TheVariants.{LookLink}
 use Rattle.core_model.specs.Effects.{seen_word}
 use Rattle.seat_state.specs.Notes.{snapshot}
 use Rattle.heap_table.specs.SeatViews.{view_in}
-use Rattle.heap_rule.specs.Owned.{parts_of}
-use Rattle.heap_rule.proofs.HeadLemmas.{before_is}
-use Rattle.heap_rule.proofs.OwnedSteps.{quiet}
+use Rattle.seat_index.specs.Owned.{parts_of}
+use Rattle.seat_index.proofs.ExchangeLemmas.{before_is}
+use Rattle.seat_index.proofs.OwnedViews.{quiet}
 use Rattle.heap_rule.proofs.SeatLemmas.{seat_after, looked_link}
 use Rattle.heap_rule.proofs.seat.Seat.look_link.Goals as goal
 

@@ -7,7 +7,7 @@ use Rattle.heap_table.specs.SeatViews.{view_in}
 use Rattle.heap_rule.specs.Seated.{SeatView}
 use Rattle.heap_rule.proofs.SeatLemmas.{whole_at}
 use Rattle.heap_rule.proofs.ShiftLemmas.{cache_count, cached_inside, less, next_read}
-use Rattle.heap_rule.proofs.StackLemmas.{has_stack}
+use Rattle.seat_index.proofs.StackLemmas.{has_stack}
 use Rattle.heap_rule.proofs.seat.Seat.next_cached.Goals as goal
 
 pub returns-then-cache-lt2-clause-next : goal.returns-then-cache-lt2-clause-next

@@ -3,7 +3,7 @@ use Rattle.atomic_table.specs.Seated.{TableId}
 use Rattle.core_model.specs.Memory.{table_length}
 use Rattle.core_model.specs.View.{Setup}
 use Rattle.heap_table.specs.SeatViews.{view_in}
-use Rattle.heap_rule.specs.Holdings.{Holds}
+use Rattle.seat_index.specs.Holdings.{Holds}
 use Rattle.heap_rule.specs.Seated.{SeatView}
 use Rattle.heap_rule.proofs.HandedSeats.{can_lose, offered_seat, whole_carrier, whole_carries}
 use Rattle.heap_rule.proofs.seat.Seat.offer.Goals as goal

@@ -1,5 +1,5 @@
-use Rattle.heap_rule.proofs.OwnedSteps.{quiet}
-use Rattle.heap_rule.specs.Owned.{parts_of}
+use Rattle.seat_index.proofs.OwnedViews.{quiet}
+use Rattle.seat_index.specs.Owned.{parts_of}
 use Rattle.std.proofs.Common.{◌≡◌, ◌+◌, ap, sym, subst, ◌∙◌, arith}
 use Rattle.heap_model.specs.Geometry.{image_words, largest_capacity_fits}
 use Rattle.core_model.specs.declared.event.Event.TheVariants.{Settle}

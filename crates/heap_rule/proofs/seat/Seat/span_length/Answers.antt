@@ -2,8 +2,8 @@ use Rattle.std.proofs.Common.{◌≤◌, sym, subst, ap, ◌∙◌, arith}
 use Rattle.core_model.specs.Effects.{span_count}
 use Rattle.heap_table.specs.SeatViews.{view_in}
 use Rattle.heap_rule.specs.Seated.{SeatView}
-use Rattle.heap_rule.proofs.OwnedReads.{span_of}
-use Rattle.heap_rule.proofs.ShiftLemmas.{span_below}
+use Rattle.seat_index.proofs.OwnedReads.{span_of}
+use Rattle.seat_index.proofs.ViewBlocks.{span_below}
 use Rattle.heap_rule.proofs.seat.Seat.span_length.Goals as goal
 
 pub index-requires : goal.index-requires

@@ -1,12 +1,11 @@
-use Rattle.std.proofs.Common.{ap, length, length-set, false, ◌∙◌, arith}
+use Rattle.std.proofs.Common.{ap, length, length-set, false, ◌∙◌, arith, sym, subst}
 use Rattle.heap_rule.proofs.SettleLemmas.{own_below}
-use Rattle.std.proofs.Common.{sym, subst}
 use Rattle.core_model.specs.declared.event.Event.TheVariants.{Store}
 use Rattle.heap_table.specs.SeatViews.{view_in}
 use Rattle.heap_rule.specs.Seated.{SeatView}
 use Rattle.heap_rule.specs.Shown.{Can}
 use Rattle.heap_rule.proofs.ShownLemmas.{may_of}
-use Rattle.heap_rule.proofs.OwnedSteps.{store_owned}
+use Rattle.seat_index.proofs.OwnedStores.{store_owned}
 use Rattle.heap_rule.proofs.SeatLemmas.{seat_after}
 use Rattle.heap_rule.proofs.StoredLemmas.{word_stored}
 use Rattle.heap_rule.proofs.seat.Seat.store_word.Goals as goal

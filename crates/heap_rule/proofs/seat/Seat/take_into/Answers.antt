@@ -1,6 +1,6 @@
 use Rattle.heap_rule.specs.Shown.{Can}
 use Rattle.std.proofs.lemmas.Result.{err_from_is_err_and}
-use Rattle.heap_rule.proofs.OwnedReads.{classed_below}
+use Rattle.seat_index.proofs.OwnedReads.{classed_below}
 use Rattle.std.proofs.Common.{ap, sym, subst, set, refl, true, ◌∙◌, ◌+◌, ◌*◌, ◌<◌, ◌≤◌, length, arith, ℕ, None, Err}
 use Rattle.heap_model.specs.Geometry.{start_word}
 use Rattle.heap_model.specs.Sizes.{words_of_class}
@@ -13,9 +13,10 @@ use Rattle.heap_table.specs.Plays.{IsEvent}
 use Rattle.heap_rule.specs.Seated.{SeatView, IsKeptOf, Tells}
 use Rattle.core_model.specs.View.{of_class}
 use Rattle.heap_model.specs.Counting.{times}
-use Rattle.heap_rule.specs.Owned.{IsMarking}
-use Rattle.heap_rule.proofs.OwnedSteps.{take_lost, taken_count, taken_first, taken_short, taken_inside, cache_taken, taken_owned}
-use Rattle.heap_rule.proofs.StackLemmas.{filled_stack, has_stack}
+use Rattle.seat_index.specs.Owned.{IsMarking}
+use Rattle.seat_index.proofs.OwnedLost.{take_lost}
+use Rattle.seat_index.proofs.OwnedTaken.{taken_count, taken_first, taken_short, taken_inside, cache_taken, taken_owned}
+use Rattle.seat_index.proofs.StackLemmas.{filled_stack, has_stack}
 use Rattle.heap_rule.proofs.SeatLemmas.{seat_after, whole_at}
 use Rattle.heap_rule.proofs.ChainLemmas.{all_taken, take_all_lost}
 use Rattle.heap_rule.proofs.seat.Seat.take_into.Goals as goal

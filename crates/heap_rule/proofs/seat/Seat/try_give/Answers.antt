@@ -15,9 +15,10 @@ use Rattle.heap_rule.specs.Seated.{SeatView, IsKeptOf, Tells}
 use Rattle.heap_rule.specs.Shown.{Can}
 use Rattle.heap_rule.proofs.ShownLemmas.{may_of}
 use Rattle.heap_model.specs.Counting.{times}
-use Rattle.heap_rule.specs.Owned.{IsMarking, listed}
-use Rattle.heap_rule.proofs.ViewLemmas.{block_range}
-use Rattle.heap_rule.proofs.OwnedSteps.{give_kept, give_full, give_lost as give_lost_own}
+use Rattle.seat_index.specs.Owned.{IsMarking, listed}
+use Rattle.seat_index.proofs.ViewBlocks.{block_range}
+use Rattle.seat_index.proofs.OwnedGifts.{give_kept, give_full}
+use Rattle.seat_index.proofs.OwnedLost.{give_lost as give_lost_own}
 use Rattle.heap_rule.proofs.SeatLemmas.{seat_after}
 use Rattle.heap_rule.proofs.BatchLemmas.{batch_class, batch_first, batch_below, give_exchange, batch_given, give_lost}
 use Rattle.heap_rule.proofs.seat.Seat.try_give.Goals as goal

@@ -11,7 +11,8 @@ use Rattle.seat_state.specs.Notes.{snapshot}
 use Rattle.heap_table.specs.SeatViews.{view_in}
 use Rattle.heap_table.specs.Plays.{IsEvent}
 use Rattle.heap_rule.specs.Seated.{SeatView, IsKeptOf, Tells}
-use Rattle.heap_rule.proofs.OwnedSteps.{popped_owned, popped_below, pop_lost as pop_lost_own}
+use Rattle.seat_index.proofs.OwnedClaims.{popped_owned, popped_below}
+use Rattle.seat_index.proofs.OwnedLost.{pop_lost as pop_lost_own}
 use Rattle.heap_rule.proofs.SeatLemmas.{seat_after}
 use Rattle.heap_rule.proofs.HeadLemmas.{pops_below, head_popped, pop_lost}
 use Rattle.heap_rule.proofs.seat.Seat.try_pop.Goals as goal

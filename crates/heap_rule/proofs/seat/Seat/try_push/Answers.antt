@@ -1,6 +1,6 @@
 use Rattle.std.specs.Vec.{with_item}
 use Rattle.std.proofs.lemmas.Result.{err_from_is_err_and}
-use Rattle.heap_rule.specs.declared.owned.Ownership.TheVariants as ownership
+use Rattle.seat_index.specs.declared.owned.Ownership.TheVariants as ownership
 use Rattle.std.proofs.Common.{refl, ap, subst, sym, ◌∙◌, arith, ℕ, None, Err}
 use Rattle.heap_model.specs.Geometry.{largest_capacity_fits}
 use Rattle.core_model.specs.declared.event.Event.TheVariants.{Push}
@@ -12,8 +12,9 @@ use Rattle.heap_table.specs.Plays.{IsEvent}
 use Rattle.heap_rule.specs.Seated.{SeatView, IsKeptOf, Tells}
 use Rattle.heap_rule.specs.Shown.{Can}
 use Rattle.heap_rule.proofs.ShownLemmas.{may_of}
-use Rattle.heap_rule.proofs.ViewLemmas.{below_capacity}
-use Rattle.heap_rule.proofs.OwnedSteps.{pushed_owned, push_lost as push_lost_own}
+use Rattle.seat_index.proofs.ViewBlocks.{below_capacity}
+use Rattle.seat_index.proofs.OwnedClaims.{pushed_owned}
+use Rattle.seat_index.proofs.OwnedLost.{push_lost as push_lost_own}
 use Rattle.heap_rule.proofs.SeatLemmas.{seat_after}
 use Rattle.heap_rule.proofs.HeadLemmas.{head_pushed, push_lost}
 use Rattle.heap_rule.proofs.seat.Seat.try_push.Goals as goal

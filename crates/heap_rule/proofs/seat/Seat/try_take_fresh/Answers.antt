@@ -6,7 +6,8 @@ use Rattle.seat_state.specs.declared.notes.SeatNotes.{SeatNotes}
 use Rattle.seat_state.specs.Notes.{snapshot}
 use Rattle.heap_table.specs.SeatViews.{view_in}
 use Rattle.heap_table.specs.Plays.{IsEvent}
-use Rattle.heap_rule.proofs.OwnedSteps.{fresh_owned, fresh_lost as fresh_lost_own}
+use Rattle.seat_index.proofs.OwnedClaims.{fresh_owned}
+use Rattle.seat_index.proofs.OwnedLost.{fresh_lost as fresh_lost_own}
 use Rattle.heap_rule.proofs.SeatLemmas.{seat_after}
 use Rattle.heap_rule.specs.Seated.{SeatView, IsKeptOf, Tells}
 use Rattle.heap_rule.proofs.FreshLemmas.{fresh_taken, fresh_lost}

@@ -2,7 +2,7 @@ use Rattle.std.proofs.Common.{◌/◌, refl, subst, arith}
 use Rattle.heap_rule.specs.Fences.{IsLineMarked}
 use Rattle.heap_table.specs.SeatViews.{view_in}
 use Rattle.heap_rule.specs.Seated.{SeatView}
-use Rattle.heap_rule.proofs.MarkLemmas.{line_kept}
+use Rattle.heap_rule.proofs.FenceLemmas.{line_kept}
 use Rattle.heap_rule.proofs.seat.Seat.write_back.Goals as goal
 
 pub returns-clause-marked : goal.returns-clause-marked

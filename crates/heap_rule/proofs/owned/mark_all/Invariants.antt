@@ -1,6 +1,0 @@
-use Rattle.std.proofs.Common.{take}
-use Rattle.heap_rule.specs.Owned.{IsMarking}
-use Rattle.heap_rule.proofs.owned.mark_all.Given as goal
-
-abbrev pub invariant-loop-block : goal.invariant-loop-block
-invariant-loop-block l = IsMarking l.initial.blocks l.blocks (take l.block-index l.list) l.mark

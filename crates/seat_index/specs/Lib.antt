@@ -1,0 +1,5 @@
+pub mod Stacks
+pub mod Owned
+pub mod Changed
+pub mod Holdings
+pub mod Rooms
