@@ -15,9 +15,9 @@ use Rattle.core_model.specs.View.{Setup, View, of_class, times_classed}
 use Rattle.core_model.proofs.TotalLemmas.{total_at}
 use Rattle.heap_rule.specs.Seated.{Tells}
 use Rattle.heap_rule.specs.Shown.{Can}
-use Rattle.heap_rule.proofs.ChainLemmas.{chain_length}
+use Rattle.seat_index.proofs.ExchangeLemmas.{chain_length}
 use Rattle.heap_rule.proofs.WordsLeftLemmas.{take_all_lost}
-use Rattle.heap_rule.proofs.OwnedSteps.{cache_taken, taken_blocks, taken_short, took}
+use Rattle.seat_index.proofs.OwnedTaken.{cache_taken, taken_blocks, taken_short, took}
 use Rattle.heap_table.specs.Plays.{IsEvent}
 use Rattle.cache_fill.specs.Takes.{HasNotTaken, HasTakenFree, TakesFree, TakesSeen, with_taken}
 use Rattle.superblock_lists.specs.Anchors.{HasSeenAnchor}

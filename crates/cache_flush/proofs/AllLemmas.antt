@@ -7,7 +7,7 @@ use Rattle.heap_model.specs.Sizes.{IsClass, last_class}
 use Rattle.core_model.specs.View.{View, of_class}
 use Rattle.core_model.proofs.OwnerLemmas.{in_lists_total}
 use Rattle.core_model.proofs.TotalLemmas.{eq-eqb-one, total_set}
-use Rattle.heap_rule.proofs.ViewLemmas.{block_class}
+use Rattle.seat_index.proofs.ViewBlocks.{block_class}
 use Rattle.heap_table.specs.Plays.{HasSoundState}
 use Rattle.seat_costs.specs.Rows.{Parts, Stops, ViewRow, parts}
 use Rattle.seat_costs.proofs.RowLemmas.{stops_later, view_row_none, view_row_then, view_row_within}

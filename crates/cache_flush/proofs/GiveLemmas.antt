@@ -22,7 +22,7 @@ use Rattle.heap_table.specs.Plays.{HasSoundState, IsEvent}
 use Rattle.heap_rule.specs.Seated.{Tells}
 use Rattle.heap_rule.specs.Shown.{Can, CanGive, CanStore, IsShownFor, Shows}
 use Rattle.heap_rule.proofs.WordsLeftLemmas.{give_lost, give_won}
-use Rattle.heap_rule.proofs.ViewLemmas.{block_below, block_class, block_once, block_range}
+use Rattle.seat_index.proofs.ViewBlocks.{block_below, block_class, block_once, block_range}
 use Rattle.superblock_lists.specs.Anchors.{anchor_seen}
 use Rattle.cache_flush.specs.Gives.{Gives, GivesSeen, HasGiven, HasLinkedLast, HasNotGiven, IsBatchOf, given_parts, with_linked}
 use Rattle.seat_costs.specs.Costs.{Costs, no_costs, one_draw, one_give}

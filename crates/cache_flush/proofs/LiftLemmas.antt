@@ -25,7 +25,7 @@ use Rattle.heap_table.specs.Plays.{HasSoundState, IsEvent}
 use Rattle.heap_rule.specs.Seated.{TellsDraw}
 use Rattle.heap_rule.specs.Shown.{Can, CanLift, Shows}
 use Rattle.heap_rule.proofs.RawLemmas.{load_shown}
-use Rattle.heap_rule.proofs.ViewLemmas.{block_cell, block_range}
+use Rattle.seat_index.proofs.ViewBlocks.{block_cell, block_range}
 use Rattle.seat_costs.specs.Draws.{Settles}
 use Rattle.seat_costs.specs.Costs.{one_draw}
 use Rattle.seat_costs.specs.Rows.{HasDrawn, Parts, Stops, ViewRow, parts}

@@ -15,7 +15,7 @@ use Rattle.heap_table.specs.Plays.{HasSoundState}
 use Rattle.heap_rule.specs.Shown.{Can, CanAnchor, CanList, CanStore, Shows, ShowsEmpty, as_empty, as_free, as_full, by_anchor, by_claim, by_look, of_its_class}
 use Rattle.heap_rule.proofs.DrawLemmas.{settled_can}
 use Rattle.heap_rule.proofs.SettleLemmas.{own_there}
-use Rattle.heap_rule.proofs.ViewLemmas.{block_cell}
+use Rattle.seat_index.proofs.ViewBlocks.{block_cell}
 use Rattle.seat_costs.specs.Draws.{Settles}
 use Rattle.seat_costs.proofs.DrawLemmas.{early_rest, early_words}
 

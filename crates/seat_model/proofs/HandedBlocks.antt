@@ -20,15 +20,15 @@ use Rattle.core_model.proofs.BothLemmas.{both_class, both_within, large_append}
 use Rattle.core_model.proofs.OwnerLemmas.{in_lists_total, which_class}
 use Rattle.core_model.proofs.TotalLemmas.{eq-eqb-one, ne-eqb-none}
 use Rattle.heap_table.specs.Plays.{HasSoundState}
-use Rattle.heap_rule.specs.declared.owned.Holding.{Holding}
-use Rattle.heap_rule.specs.declared.owned.Holding.TheVariants as holding
-use Rattle.heap_rule.specs.Holdings.{HoldsAlone}
+use Rattle.seat_index.specs.declared.owned.Holding.{Holding}
+use Rattle.seat_index.specs.Holdings.{HoldsAlone}
 use Rattle.heap_rule.proofs.HeldLemmas.{held_apart, held_placed, one_large}
 use Rattle.core_model.proofs.LinkFrameLemmas.{span_covers}
 use Rattle.seat_costs.specs.Words.{IsHeldWord, times_held}
 use Rattle.seat_model.specs.CacheState.{held_blocks, large_blocks, small_blocks}
 use Rattle.seat_model.proofs.HeldLemmas.{block_cell, small_there, word_of_block}
 use Rattle.seat_model.proofs.ChangedBlocks.{as_block, word_once}
+use Rattle.seat_index.specs.declared.owned.Holding.TheVariants as holding
 
 -- blocks that are chosen stay in their class, and the others go
 in_list : (test : ℕ → Bool) (n : ℕ) (xs : List ℕ) → times n (chosen test xs) ≡ cond (test n) (times n xs) 0

@@ -15,12 +15,12 @@ use Rattle.core_model.specs.Held.{IsHeld}
 use Rattle.core_model.specs.Splitting.{chosen_spans}
 use Rattle.core_model.specs.View.{LastLook, Role, Setup, Span, View, of_class, one_if_some}
 use Rattle.heap_table.specs.Plays.{HasSoundState}
-use Rattle.heap_rule.specs.declared.owned.Holding.{Holding}
-use Rattle.heap_rule.specs.declared.owned.Holding.TheVariants as holding
-use Rattle.heap_rule.specs.Holdings.{HoldsAlone}
+use Rattle.seat_index.specs.declared.owned.Holding.{Holding}
+use Rattle.seat_index.specs.declared.owned.Holding.TheVariants as holding
+use Rattle.seat_index.specs.Holdings.{HoldsAlone}
 use Rattle.heap_rule.specs.Carried.{CarrierView, Carries}
 use Rattle.heap_rule.specs.Seated.{SeatView}
-use Rattle.heap_rule.proofs.OwnedCarriers.{all_roots}
+use Rattle.seat_index.proofs.OwnedCarriers.{all_roots}
 use Rattle.seat_costs.specs.Costs.{NoneFalls, RisesBy, one_draw}
 use Rattle.seat_costs.specs.Rows.{HasDrawn, Passes, Row, SameLooks, Stops, after_ticket, next_of}
 use Rattle.seat_costs.specs.Words.{IsHeldWord, KeepsWord as KeepsRowWord}

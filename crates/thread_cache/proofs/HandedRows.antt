@@ -11,13 +11,12 @@ use Rattle.core_model.specs.Memory.{memory_of}
 use Rattle.core_model.specs.Splitting.{chosen, chosen_lists}
 use Rattle.core_model.specs.View.{Batch, Role, View, times_classed, times_in_classes, times_large, times_own, times_raw, times_within}
 use Rattle.core_model.proofs.BothLemmas.{both_within, large_append}
-use Rattle.core_model.proofs.HeldOnceLemmas as once
 use Rattle.core_model.proofs.ChosenLemmas.{chosen_less, spans_less}
 use Rattle.heap_table.specs.Plays.{HasSoundState}
 use Rattle.heap_rule.specs.Carried.{Carries, KnowsItsOwn}
 use Rattle.heap_rule.specs.Fences.{Owns}
 use Rattle.heap_rule.specs.Seated.{KeepsStores, SeatView}
-use Rattle.heap_rule.proofs.OwnedCarriers.{all_roots}
+use Rattle.seat_index.proofs.OwnedCarriers.{all_roots}
 use Rattle.heap_rule.proofs.RawLemmas.{volatile_long, durable_long}
 use Rattle.heap_rule.proofs.SettleLemmas.{own_below, own_index, own_there}
 use Rattle.seat_costs.specs.Costs.{one_draw}
@@ -26,6 +25,7 @@ use Rattle.seat_costs.specs.Words.{IsHeldWord, KeepsWord, times_held}
 use Rattle.seat_costs.proofs.RowLemmas.{row_held, row_holds}
 use Rattle.seat_costs.proofs.WordLemmas.{owns_held, trimmed_word, word_same, word_then}
 use Rattle.thread_cache.specs.Sending.{AcceptRow, ComesWith, GoesWith, OfferRow}
+use Rattle.core_model.proofs.HeldOnceLemmas as once
 
 -- words of chosen blocks
 within_less : (test : ℕ → Bool) (words word : ℕ) (xs : List ℕ) → times_within words word (chosen test xs) ≤ times_within words word xs

@@ -19,7 +19,7 @@ use Rattle.heap_rule.specs.Seated.{SeatView}
 use Rattle.heap_rule.specs.Shown.{Can, CanStore}
 use Rattle.heap_rule.proofs.RawLemmas.{volatile_long}
 use Rattle.heap_rule.proofs.SettleLemmas.{own_below}
-use Rattle.heap_rule.proofs.ViewLemmas.{block_class}
+use Rattle.seat_index.proofs.ViewBlocks.{block_class}
 use Rattle.seat_costs.specs.Costs.{Costs}
 use Rattle.seat_costs.specs.Rows.{HasDrawn, Row, SameLooks, Stops, ViewRow, after_ticket, parts}
 use Rattle.seat_costs.specs.Words.{IsDurableAt, IsHeldWord, KeepsWord, MayBe, seen_at, times_held}

@@ -25,7 +25,7 @@ use Rattle.heap_table.specs.Plays.{HasSoundState}
 use Rattle.heap_rule.specs.Seated.{SeatView}
 use Rattle.heap_rule.proofs.HeldLemmas.{held_placed}
 use Rattle.heap_rule.proofs.SettleLemmas.{own_index, own_there}
-use Rattle.heap_rule.proofs.ViewLemmas.{block_class}
+use Rattle.seat_index.proofs.ViewBlocks.{block_class}
 use Rattle.large_block.specs.Splits.{MayHaveSplit}
 use Rattle.seat_costs.specs.Costs.{IsWithin, no_costs, one_draw}
 use Rattle.seat_costs.specs.Rows.{HoldingRow, IsHeldBoth, Parts, Row, RowBut}

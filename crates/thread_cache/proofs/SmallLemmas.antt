@@ -29,7 +29,7 @@ use Rattle.heap_rule.proofs.WordsLeftLemmas.{draw_frees}
 use Rattle.heap_rule.proofs.RawLemmas.{store_shown}
 use Rattle.heap_rule.proofs.SettleLemmas.{own_index}
 use Rattle.heap_rule.proofs.StoredLemmas.{of_none}
-use Rattle.heap_rule.proofs.ViewLemmas.{block_once, block_range}
+use Rattle.seat_index.proofs.ViewBlocks.{block_once, block_range}
 use Rattle.heap_table.specs.Plays.{HasSoundState, IsEvent}
 use Rattle.cache_flush.specs.Flushes.{HasFlushed, cache_costs, cache_runs, with_cache}
 use Rattle.cache_flush.specs.Runs.{runs_of}
