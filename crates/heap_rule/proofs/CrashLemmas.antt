@@ -8,16 +8,16 @@ use Rattle.heap_model.specs.Header.{IsWellFormed, HasKindsBelow, capacity_of, he
 use Rattle.heap_model.specs.Image.{Image}
 use Rattle.core_model.specs.Cells.{Cell, used_cell, head_cell, info_cell, anchor_cell, link_cell, root_cell, data_cell, no_cell, cell_at, is_cell, index_of}
 use Rattle.core_model.specs.Guards.{IsOwn}
-use Rattle.core_model.specs.Held.{IsHeld, volatile_image, durable_image}
+use Rattle.core_model.specs.Held.{IsHeld, IsHeldBy, volatile_image, durable_image}
 use Rattle.core_model.specs.View.{View, times_own}
 use Rattle.core_model.proofs.HeaderLemmas.{crash_header, closed_header, kind_lasts}
-use Rattle.core_model.proofs.HeldLemmas.{crash_names, closed_names}
+use Rattle.core_model.proofs.HeldLemmas.{crash_names, closed_names, firm}
 use Rattle.heap_model.proofs.HeaderLemmas.{header_lasts}
 use Rattle.core_model.proofs.PlaceLemmas.{and_both, cell_at_index, cell_there, index_at, not-eq, pick, skip}
 use Rattle.heap_rule.specs.Left.{HasDurableRecords, HasFixedWordsButState, HasTransients, HasVolatileRecords, IsCloseOf, IsCrashOf, Lasts, an_info, a_root, a_data, MayBeLeft, mixed, crashed, closed, MixesLasting}
 use Rattle.heap_table.specs.Plays.{HasSoundState}
 use Rattle.core_model.proofs.TableLemmas.{fixed_below}
-use Rattle.heap_rule.proofs.SeatImageLemmas.{image_fixed, image_header, image_mixes, image_names, kept_recorded, now_recorded}
+use Rattle.heap_rule.proofs.SeatImageLemmas.{image_fixed, image_mixes, kept_recorded, mixed_header, now_recorded}
 use Rattle.heap_rule.proofs.SettleLemmas.{own_index, own_there}
 
 -- the word of a cell that lasts is none that a crash leaves with any value
@@ -64,57 +64,27 @@ module _ (v : View) (s : HasSoundState v) where
   lasts word own last lost = lasting v.setup.capacity (cell_at v.setup.capacity word) (own_there v word own) last word (own_index v word own)
       (subst (λ c. IsTransient c word) kept_capacity lost)
 
-module _ (v : View) (image : Image) (is : IsCrashOf v image) where
-  pub crash_named : (b : Block) → IsHeld v b → Names image (8 * b.first_word) b
-  crash_named b held = crash_names v.setup is.has.words is.has.views is.has.sound image is.crash b
-      (record { seat = is.has.seat; view = v; below = is.has.below; at = is.has.at; holds = held })
+-- what a crash leaves has the durable records, and what a close leaves the volatile ones
+pub crash_durable : (v : View) (image : Image) → IsCrashOf v image → HasDurableRecords v image
+crash_durable v image is = record {
+  each = λ word own last value shows. is.crash.others word (own_not_state v word own) (lasts v is.has word own last)
+      ∙ kept_recorded v is.has word own value shows;
+}
 
-  pub crash_durable : HasDurableRecords v image
-  crash_durable = record {
-    each = λ word own last value shows. is.crash.others word (own_not_state v word own) (lasts v is.has word own last)
-        ∙ kept_recorded v is.has word own value shows;
-  }
+pub close_volatile : (v : View) (image : Image) → IsCloseOf v image → HasVolatileRecords v image
+close_volatile v image is = record {
+  each = λ word own value shows. is.close.others word (own_not_state v word own) ∙ now_recorded v is.has word own value shows;
+}
 
-  pub crash_fixed : HasFixedWordsButState v.setup image
-  crash_fixed = record {
-    each = λ word fixed other. is.crash.others word other (λ lost. fixed_lasts v.setup.capacity word fixed
-        (subst (λ c. IsTransient c word) (kept_capacity v is.has) lost))
-        ∙ pick (nat_lt word (image_words v.setup.capacity)) _ _ (lt-ltb word (image_words v.setup.capacity)
-        (fixed_below v.setup.capacity word fixed)) ∙ (is.has.sound.fixed word fixed).1;
-  }
+holder : (v : View) (s : HasSoundState v) (b : Block) → IsHeld v b → IsHeldBy s.views b
+holder v s b held = record { seat = s.seat; view = v; below = s.below; at = s.at; holds = held }
 
-  pub crash_good : IsWellFormed (8 * length v.setup.opened) (slice_index v.setup.opened) → (limit : Option ℕ)
-      → HasKindsBelow limit (slice_index v.setup.opened)
-      → header_fault limit (8 * image_words v.setup.capacity) image ≡ None
-  crash_good good = crash_header v.setup is.has.words is.has.views is.has.sound image is.crash good
-
-module _ (v : View) (image : Image) (is : IsCloseOf v image) where
-  pub close_named : (b : Block) → IsHeld v b → Names image (8 * b.first_word) b
-  close_named b held = closed_names v.setup is.has.words is.has.views is.has.sound image is.close b
-      (record { seat = is.has.seat; view = v; below = is.has.below; at = is.has.at; holds = held })
-
-  pub close_volatile : HasVolatileRecords v image
-  close_volatile = record {
-    each = λ word own value shows. is.close.others word (own_not_state v word own) ∙ now_recorded v is.has word own value shows;
-  }
-
-  pub close_fixed : HasFixedWordsButState v.setup image
-  close_fixed = record {
-    each = λ word fixed other. is.close.others word other
-        ∙ pick (nat_lt word (image_words v.setup.capacity)) _ _ (lt-ltb word (image_words v.setup.capacity)
-        (fixed_below v.setup.capacity word fixed)) ∙ (is.has.sound.fixed word fixed).0;
-  }
-
-  pub close_good : IsWellFormed (8 * length v.setup.opened) (slice_index v.setup.opened) → (limit : Option ℕ)
-      → HasKindsBelow limit (slice_index v.setup.opened)
-      → header_fault limit (8 * image_words v.setup.capacity) image ≡ None
-  close_good good = closed_header v.setup is.has.words is.has.views is.has.sound image is.close good
-
+-- of each kind of what may be left
 module _ (v : View) (image : Image) where
   pub left_named : MayBeLeft v image → (b : Block) → IsHeld v b → Names image (8 * b.first_word) b
-  left_named (mixed is) = image_names v image is
-  left_named (crashed is) = crash_named v image is
-  left_named (closed is) = close_named v image is
+  left_named (mixed is) b held = (firm v.setup is.has.words is.has.views is.has.sound).each image is.mixed b (holder v is.has b held)
+  left_named (crashed is) b held = crash_names v.setup is.has.words is.has.views is.has.sound image is.crash b (holder v is.has b held)
+  left_named (closed is) b held = closed_names v.setup is.has.words is.has.views is.has.sound image is.close b (holder v is.has b held)
 
   pub left_mixes : MayBeLeft v image → MixesLasting v image
   left_mixes (mixed is) = record { each = λ word own last. (image_mixes v image is).each word own }
@@ -123,14 +93,23 @@ module _ (v : View) (image : Image) where
 
   pub left_fixed : MayBeLeft v image → HasFixedWordsButState v.setup image
   left_fixed (mixed is) = record { each = λ word fixed other. (image_fixed v image is).each word fixed }
-  left_fixed (crashed is) = crash_fixed v image is
-  left_fixed (closed is) = close_fixed v image is
+  left_fixed (crashed is) = record {
+    each = λ word fixed other. is.crash.others word other (λ lost. fixed_lasts v.setup.capacity word fixed
+        (subst (λ c. IsTransient c word) (kept_capacity v is.has) lost))
+        ∙ pick (nat_lt word (image_words v.setup.capacity)) _ _ (lt-ltb word (image_words v.setup.capacity)
+        (fixed_below v.setup.capacity word fixed)) ∙ (is.has.sound.fixed word fixed).1;
+  }
+  left_fixed (closed is) = record {
+    each = λ word fixed other. is.close.others word other
+        ∙ pick (nat_lt word (image_words v.setup.capacity)) _ _ (lt-ltb word (image_words v.setup.capacity)
+        (fixed_below v.setup.capacity word fixed)) ∙ (is.has.sound.fixed word fixed).0;
+  }
 
   pub left_good : MayBeLeft v image → IsWellFormed (8 * length v.setup.opened) (slice_index v.setup.opened) → (limit : Option ℕ)
       → HasKindsBelow limit (slice_index v.setup.opened) → header_fault limit (8 * image_words v.setup.capacity) image ≡ None
-  left_good (mixed is) = image_header v image is
-  left_good (crashed is) = crash_good v image is
-  left_good (closed is) = close_good v image is
+  left_good (mixed is) good = mixed_header v.setup is.has.words is.has.views is.has.sound image is.mixed good
+  left_good (crashed is) good = crash_header v.setup is.has.words is.has.views is.has.sound image is.crash good
+  left_good (closed is) good = closed_header v.setup is.has.words is.has.views is.has.sound image is.close good
 
 -- a head, an anchor or a link has any value, another word the kept one
 crash_value : Cell → ℕ → ℕ → ℕ

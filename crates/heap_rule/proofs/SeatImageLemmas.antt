@@ -1,18 +1,15 @@
 -- The mixed images of a sound state, and what a seat's view tells of them.
 use Rattle.std.proofs.Common.{◌≡◌, ◌⊎◌, ℕ, ◌+◌, ◌*◌, ◌<◌, inl, inr, Bool, true, false, cond, nat_lt, List, length, slice_index, get_or, Option, None, refl, ap, sym, ◌∙◌, lt-ltb, arith}
-use Rattle.heap_model.specs.declared.block.Block.{Block}
-use Rattle.heap_model.specs.Blocks.{Names}
 use Rattle.heap_model.specs.Durability.{Mixes}
 use Rattle.heap_model.specs.Geometry.{image_words, IsFixed}
 use Rattle.heap_model.specs.Header.{IsWellFormed, HasKindsBelow, header_fault}
 use Rattle.heap_model.specs.Image.{Image}
 use Rattle.core_model.specs.Cells.{cell_at, is_cell}
 use Rattle.core_model.specs.Guards.{IsOwn}
-use Rattle.core_model.specs.Held.{IsHeld, volatile_image, durable_image}
+use Rattle.core_model.specs.Held.{volatile_image, durable_image}
 use Rattle.core_model.specs.Sound.{Sound}
 use Rattle.core_model.specs.View.{Setup, View}
 use Rattle.core_model.proofs.HeaderLemmas.{mixture_header}
-use Rattle.core_model.proofs.HeldLemmas.{firm}
 use Rattle.core_model.proofs.PlaceLemmas.{pick}
 use Rattle.core_model.proofs.TableLemmas.{fixed_below}
 use Rattle.heap_rule.specs.Images.{Agrees, HasPickedRecords, HasRecorded, IsImageOf, HasFixedWords, MixesRecorded}
@@ -104,10 +101,6 @@ module _ (v : View) (s : HasSoundState v) where
     one_of word own false = kept_recorded word own
 
 module _ (v : View) (image : Image) (is : IsImageOf v image) where
-  pub image_names : (b : Block) → IsHeld v b → Names image (8 * b.first_word) b
-  image_names b held = (firm v.setup is.has.words is.has.views is.has.sound).each image is.mixed b
-      (record { seat = is.has.seat; view = v; below = is.has.below; at = is.has.at; holds = held })
-
   pub image_mixes : MixesRecorded v image
   image_mixes = record {
     each = λ word own. elim (is.mixed.each word) [
@@ -118,8 +111,3 @@ module _ (v : View) (image : Image) (is : IsImageOf v image) where
 
   pub image_fixed : HasFixedWords v.setup image
   image_fixed = mixed_fixed v.setup is.has.words is.has.views is.has.sound image is.mixed
-
-  pub image_header : IsWellFormed (8 * length v.setup.opened) (slice_index v.setup.opened) → (limit : Option ℕ)
-      → HasKindsBelow limit (slice_index v.setup.opened)
-      → header_fault limit (8 * image_words v.setup.capacity) image ≡ None
-  image_header good = mixed_header v.setup is.has.words is.has.views is.has.sound image is.mixed good

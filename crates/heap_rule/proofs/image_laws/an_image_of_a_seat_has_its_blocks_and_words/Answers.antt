@@ -1,8 +1,10 @@
-use Rattle.heap_rule.proofs.SeatImageLemmas.{image_names, image_mixes, image_fixed, image_header}
+use Rattle.heap_rule.proofs.CrashLemmas.{left_good, left_named}
+use Rattle.heap_rule.proofs.SeatImageLemmas.{image_fixed, image_mixes}
+use Rattle.heap_rule.specs.Left.{mixed}
 use Rattle.heap_rule.proofs.image_laws.an_image_of_a_seat_has_its_blocks_and_words.Goals as goal
 
 pub returns-clause-named : goal.returns-clause-named
-returns-clause-named c v image is b held = image_names v image is b held
+returns-clause-named c v image is b held = left_named v image (mixed is) b held
 
 pub returns-clause-mixed : goal.returns-clause-mixed
 returns-clause-mixed c v image is = image_mixes v image is
@@ -11,4 +13,4 @@ pub returns-clause-fixed : goal.returns-clause-fixed
 returns-clause-fixed c v image is = image_fixed v image is
 
 pub returns-clause-header : goal.returns-clause-header
-returns-clause-header c v image is = image_header v image is
+returns-clause-header c v image is = left_good v image (mixed is)
