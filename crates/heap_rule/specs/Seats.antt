@@ -23,6 +23,7 @@ pub record AreSeatsOf (shared : SharedView) (seats : List SeatView) : Type 0 whe
   pub count : length seats ≡ shared.opening.seats
   pub each : (seat : SeatView) → Contains seats seat → IsSeatOf shared seat
 
+-- the views of these seats
 abbrev pub views_of : List SeatView → List View
 views_of seats = map (λ (seat : SeatView). seat.view) seats
 

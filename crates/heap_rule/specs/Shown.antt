@@ -13,10 +13,11 @@ use Rattle.core_model.specs.View.{View, of_class, times_classed, known}
 use Rattle.core_model.specs.Effects.{seen_word, seen_of, claim_class, class_blocks, first_of, last_of}
 use Rattle.core_model.specs.Guards.{IsThere, IsOwn, IsFreelyClaimed, MayChangeWord, MayTake, MayLink, MayPop, MayLookAt, MayTakeAll, MayAlloc, MaySplit, HasTicketFor}
 
--- the seat knows that loads see this value of the word, and that a crash leaves it
+-- the seat knows that loads see this value of the word
 abbrev pub Shows : View → Cell → ℕ → Type 0
 Shows v cell value = known v.volatile cell ≡ Some value
 
+-- it knows that a crash leaves this value of it
 abbrev pub ShowsDurable : View → Cell → ℕ → Type 0
 ShowsDurable v cell value = known v.durable cell ≡ Some value
 
@@ -39,6 +40,7 @@ pub data CanAnchor (v : View) (d : ℕ) : ℕ → Type 0 where
   as_empty : CanAnchor v d 0
   as_full : times d v.cutting ≡ 0 → ShowsEmpty v d ⊎ (0 < times d v.split) → CanAnchor v d full_anchor
 
+-- this value may be stored to the cell
 abbrev pub CanStore : View → Cell → ℕ → Type 0
 CanStore v (anchor_cell d) value = CanAnchor v d value
 CanStore v (link_cell d) value = times d v.cutting ≡ 0
@@ -51,12 +53,14 @@ pub data CanList (v : View) (d : ℕ) : ℕ → Type 0 where
   of_its_class : (class : ℕ) → IsClass class → 0 < times_classed d v.classed → claim_class d v.classed ≡ class
       → CanList v d class
 
+-- the superblock may go to the list whose head was seen
 pub record CanPush (v : View) (d : ℕ) : Type 0 where
   pub is_seen : IsThere v.seen_head
   pub durable : d < v.floor
   pub linked : Shows v (link_cell d) (head_first (seen_word v.seen_head))
   pub listed : CanList v d (seen_of v.seen_head)
 
+-- the batch may go to the superblock whose anchor was seen
 pub record CanGive (v : View) (d : ℕ) : Type 0 where
   pub batch : v.batch.descriptor ≡ d
   pub some : 1 ≤ length v.batch.blocks
@@ -65,6 +69,7 @@ pub record CanGive (v : View) (d : ℕ) : Type 0 where
   pub linked : anchor_count (seen_word v.seen_anchor) ≢ 0 → Shows v (data_cell (last_of v.batch.blocks))
       (start_word v.setup.capacity d + anchor_first (seen_word v.seen_anchor) * words_of_class v.batch.class)
 
+-- the superblock was made ready, all its blocks linked, and its class has no block cached
 pub record CanCut (v : View) (d : ℕ) : Type 0 where
   pub cutting : 0 < times d v.cutting
   pub class : ℕ
@@ -75,11 +80,13 @@ pub record CanCut (v : View) (d : ℕ) : Type 0 where
   pub linked : ShowsLinks v (class_blocks v.setup.capacity class d)
   pub uncached : of_class v.caches class ≡ []
 
+-- the held block is linked to the first block of its cache
 pub record CanFree (v : View) (block : ℕ) : Type 0 where
   pub class : ℕ
   pub held : 0 < times block (of_class v.small class)
   pub linked : 1 ≤ length (of_class v.caches class) → Shows v (data_cell block) (first_of (of_class v.caches class))
 
+-- the first block of the cache may come behind the batch
 pub record CanLift (v : View) (class : ℕ) : Type 0 where
   pub is_class : IsClass class
   pub cached : 1 ≤ length (of_class v.caches class)
@@ -94,11 +101,13 @@ pub record CanJoin (v : View) (d n e : ℕ) : Type 0 where
   pub info_is : Shows v (info_cell e) (cond (nat_eq e d) (large_info n) 0)
   pub durable_info_is : ShowsDurable v (info_cell e) (cond (nat_eq e d) (large_info n) 0)
 
+-- the superblocks from d on may become a large block
 pub record CanHoldLarge (v : View) (d n : ℕ) : Type 0 where
   pub some : 1 ≤ n
   pub durable : d + n ≤ v.floor
   pub each : (e : ℕ) → d ≤ e → e < d + n → CanJoin v d n e
 
+-- the parts may change so
 abbrev pub CanShift : View → Option Shift → Type 0
 CanShift v None = ⊤
 CanShift v (Some (Cut d)) = CanCut v d
