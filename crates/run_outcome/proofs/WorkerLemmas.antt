@@ -4,7 +4,7 @@ use Rattle.std.proofs.lemmas.List.{get_or_append_left, length-append}
 use Rattle.heap_model.specs.declared.block.Block.{Block}
 use Rattle.heap_model.specs.Counting.{total}
 use Rattle.heap_model.specs.Geometry.{used_word}
-use Rattle.heap_model.proofs.CountingLemmas.{total_none}
+use Rattle.heap_model.proofs.CountingLemmas.{total_none, total_append}
 use Rattle.heap_rule.proofs.ClosedLemmas.{taken_in_all}
 use Rattle.dict_model.specs.Requests.{Request}
 use Rattle.core_model.specs.Carriers.{IsCarrier}
@@ -14,7 +14,6 @@ use Rattle.core_model.specs.View.{View}
 use Rattle.run_model.specs.Needs.{worker_tables}
 use Rattle.run_model.specs.Runs.{answered, unanswered, worker_answered, worker_unanswered, worker_span, span_taken, first_span}
 use Rattle.run_model.specs.Workers.{Replies, worker_requests}
-use Rattle.seat_state.proofs.PickedLemmas.{total_append}
 use Rattle.run_model.proofs.SumLemmas.{sum_over, total_over}
 use Rattle.worker_parts.specs.Going.{GoesOn, IsUnused}
 use Rattle.run_outcome.specs.Together.{HaveWorked}

@@ -10,7 +10,8 @@ use Rattle.core_model.specs.declared.event.Event.TheVariants.{Tick, Load, Store,
 use Rattle.core_model.specs.declared.event.Shift.{Shift}
 use Rattle.core_model.specs.declared.event.Shift.TheVariants.{Cut, Alloc, Free, Lift, Large, Split}
 use Rattle.core_model.specs.Cells.{Cell, same_cell, used_cell, head_cell, info_cell, anchor_cell, link_cell, root_cell, data_cell, no_cell, cell_at}
-use Rattle.core_model.specs.Effects.{before, claimed, cleared, drew, given, look, popped, pushed, pushed_raw, pushed_classed, seen, seen_of, seen_word, shifted, stopped, stored, taken_all, taken_fresh, trimmed, won}
+use Rattle.core_model.specs.Effects.{before, claimed, cleared, drew, given, look, popped, pushed, pushed_raw, pushed_classed, seen, seen_of, seen_word, stopped, stored, taken_all, taken_fresh, trimmed, won}
+use Rattle.core_model.specs.ViewAfter.{shifted}
 use Rattle.core_model.specs.Guards.{IsOwn, MayStep}
 use Rattle.core_model.specs.Memory.{Memory, head, used, write, with_cell, volatile_at}
 use Rattle.core_model.specs.Sound.{Good}
