@@ -16,6 +16,7 @@ linked_words capacity class d batch anchor words =
     if nat_eq anchor.count 0 then words
     else slice_set words batch.last (start_word capacity d + anchor.first * words_of_class class)
 
+-- the last block of the batch leads to the chain of the anchor, by one step at most
 pub record IsLinkedTo (capacity class d : ℕ) (batch : Batch) (anchor : Anchor) (v w : View) : Type 0 where
   pub open_still : IsOpen capacity w
   pub few : w.drawn ≤ v.drawn + 1

@@ -15,9 +15,11 @@ use Rattle.block_heap.specs.BlockRuns.{BlockRun, IsRunOf, AreRunsOf, list_with, 
 abbrev four_cached : List ℕ
 four_cached = 1080 ∷ 2872 ∷ 9272 ∷ 4664 ∷ []
 
+-- the first two are one run
 abbrev two_blocks : BlockRun
 two_blocks = record { superblock = 0; blocks = 1080 ∷ 2872 ∷ [] }
 
+-- and each other is a run of its own
 abbrev one_block : ℕ → ℕ → BlockRun
 one_block d word = record { superblock = d; blocks = word ∷ [] }
 
@@ -66,12 +68,15 @@ not_by_superblock runs = let third = ap (λ words. slice_index words 2) runs.all
 abbrev other_words : Image
 other_words word = if nat_eq word 1080 then 2872 else 0
 
+-- those words, with these of the anchor and of the run's last block
 abbrev with_last : ℕ → ℕ → Image
 with_last anchor last word = if nat_eq word 1065 then anchor else if nat_eq word 2872 then last else other_words word
 
+-- before the run was given back
 abbrev one_free : Image
 one_free = with_last (anchor_of partial_state 3 1) 9272
 
+-- and after it
 abbrev three_free : Image
 three_free = with_last (anchor_of partial_state 0 3) 6456
 

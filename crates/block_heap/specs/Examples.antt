@@ -15,6 +15,7 @@ use Rattle.block_heap.specs.AllocatorWords.{IsAllocatorWord, is_used, is_head, i
 abbrev three_then_five : List ℕ
 three_then_five = 3 ∷ 5 ∷ []
 
+-- the free list as it was
 abbrev seven : List ℕ
 seven = 7 ∷ []
 
@@ -99,6 +100,7 @@ offset_at (suc (suc zero)) d below = refl
 offset_at (suc (suc (suc zero))) d below = refl
 offset_at (suc (suc (suc (suc k)))) d below = absurd (omega arith)
 
+-- the first three of them
 abbrev three_offsets : List ℕ
 three_offsets = 8576 ∷ 22912 ∷ 37248 ∷ []
 

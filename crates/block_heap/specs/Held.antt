@@ -14,6 +14,7 @@ block_of_mark start words mark = record { first_word = start + 2 * mark; words =
 abbrev pub marked_blocks : ℕ → List ℕ → List Bool → List Block
 marked_blocks start words marks = map (block_of_mark start words) (marked_words marks)
 
+-- the held blocks: those of the marks
 abbrev pub held_of : HeldBlocks → List Block
 held_of h = marked_blocks h.start h.words.items h.marks.items
 

@@ -51,6 +51,7 @@ is_placed b = elim (both (at_most fixed_words b.first_word)
       | inr not ↦ inr (λ placed. not (placed.behind, (placed.some, placed.short)))
     ]
 
+-- what lasts over a stop, of a heap
 abbrev Lasts : SeqState → Type 0
 Lasts s = IsLasting s.parts.capacity s.parts.words (held_in s.parts) s.stopped
 

@@ -32,6 +32,7 @@ pub record HasDurableInfos (capacity : ℕ) (v : View) : Type 0 where
   pub infos : (d : ℕ) → d < capacity → durable_at v (info_word d) ≡ volatile_at v (info_word d)
   pub used : durable_at v used_word ≡ volatile_at v used_word
 
+-- the parts are right: the words have a shape, which caches, sizes and the held blocks fit, and the counts are bounded
 pub record IsRunning (p : Parts) : Type 0 where
   pub words_open : IsOpen p.capacity p.words
   pub below : p.words.drawn ≤ p.words.budget

@@ -12,6 +12,7 @@ use Rattle.block_heap.specs.Parts.{Parts, held_in, head_look}
 use Rattle.block_heap.specs.Running.{IsRunning, CachesAreShort}
 use Rattle.block_heap.specs.AllocatorWords.{IsLasting}
 
+-- a heap for one thread: its parts, whether it stopped, and its counts of calls and refusals
 pub record SeqState : Type 0 where
   pub parts : Parts
   pub stopped : Option ℕ
@@ -31,6 +32,7 @@ all_roots = words_from (λ i. i) 0 roots
 unfoldable pub kinds_seen : ℕ → MemoryView → List ℕ
 kinds_seen capacity words = words_from (volatile_at words) (kind_word capacity 0) roots
 
+-- what the trait sees of it
 abbrev pub seat_of : SeqState → View
 seat_of s = record {
   held = held_in s.parts;
