@@ -26,7 +26,9 @@ use Rattle.block_heap.specs.Accounts.{AreAccounted}
 use Rattle.block_heap.specs.Held.{held_of, at_mark, block_of_mark}
 use Rattle.block_heap.specs.Links.{IsFresh}
 use Rattle.block_heap.specs.Medium.{StoresOnly, IsPersisted}
-use Rattle.block_heap.specs.Parts.{Parts, image_of, held_in}
+use Rattle.block_heap.specs.Parts.{Parts, OnlyLooks, image_of, held_in}
+use Rattle.block_heap.specs.Large.{JoinsAs, joined_words}
+use Rattle.block_heap.specs.Steps.{IsLook}
 use Rattle.block_heap.specs.Running.{IsRunning, HasDurableInfos, LeavesHeld}
 use Rattle.block_heap.specs.AllocatorWords.{UsedFits, is_info}
 use Rattle.block_heap.proofs.AccountLemmas.{accounted_same}
@@ -81,6 +83,42 @@ pub looked_accounted : (p : Parts) (count : ℕ) (fresh : Fresh) (u : View) (loo
     → AreAccounted p → AreAccounted (record p { words = u; used_look = look })
 looked_accounted p count fresh u look is none =
     accounted_same p (record p { words = u; used_look = look }) refl (fresh_none p.capacity count fresh p.words u is none).0 refl
+
+-- nor is anything stored
+pub looked_only : (p : Parts) (count : ℕ) (fresh : Fresh) (u : View) (look : Look) → IsFresh p.capacity count fresh p.words u → fresh.first ≡ None
+    → u.drawn ≡ p.words.drawn + 1 → OnlyLooks 1 p (record p { words = u; used_look = look })
+looked_only p count fresh u look is none one =
+    let got = fresh_none p.capacity count fresh p.words u is none in
+    record { volatile = got.0; stores = got.2; capacity = refl; caches = refl; blocks = refl; taken = refl; drawn = one }
+
+pub looked_is : (p : Parts) (count : ℕ) (fresh : Fresh) (u : View) (look : Look) → IsFresh p.capacity count fresh p.words u → fresh.first ≡ None
+    → look.seen ≡ fresh.used → IsNextLook p look → u.drawn ≡ p.words.drawn + 1
+    → IsLook p.words.drawn (record p { words = u; used_look = look }) look (volatile_at u used_word)
+looked_is p count fresh u look is none seen next one =
+    let same : volatile_at u used_word ≡ image_of p used_word =
+    ap (λ xs. get_or xs used_word 0) (fresh_none p.capacity count fresh p.words u is none).0 in
+    record {
+      seen_is = seen ∙ is.used ∙ sym same;
+      ticket = p.words.drawn;
+      by = next.by;
+      since = omega arith;
+      until = omega arith;
+      taken_is = next.taken;
+    }
+
+pub looked_joins : (p : Parts) (count : ℕ) (fresh : Fresh) (u : View) (look : Look) → IsFresh p.capacity count fresh p.words u → fresh.first ≡ None
+    → look.seen ≡ fresh.used → IsNextLook p look → u.drawn ≡ p.words.drawn + 1
+    → JoinsAs count None p (record p { words = u; used_look = look })
+looked_joins p count fresh u look is none seen next one =
+    let got = fresh_none p.capacity count fresh p.words u is none in
+    let used = is.used in (
+      refl,
+      omega (arith, got.1),
+      ap (λ xs. get_or xs used_word 0) got.0,
+      looked_is p count fresh u look is none seen next one,
+      refl,
+      looked_only p count fresh u look is none one,
+    )
 
 pub leaves_held_looked : (p : Parts) (count : ℕ) (fresh : Fresh) (u : View) (look : Look) → IsRunning p
     → IsFresh p.capacity count fresh p.words u → fresh.first ≡ None
@@ -301,6 +339,7 @@ module _ (p : Parts) (count d : ℕ) (fresh : Fresh) (u : View) (look : Look) (r
             → (b.words ≡ superblock_words * count) × AddsTo b (held_in p) (held_of added) × (Contains (held_in p) b → ⊥)
             × (image_of p used_word + count ≤ p.capacity)
             × (b.first_word ≡ start_word p.capacity (image_of p used_word)) × (p.taken + count ≡ p.taken + count)
+            × (w.volatile ≡ joined_words count p)
         join_answers b is =
             let words = marked_words_are added.start added.words.items (added_start ∙ divided_start) (added_words ∙ divided_words) in
             let one : b ≡ block = is ∙ same_fields (at_mark added first_word) block at words in (
@@ -310,4 +349,7 @@ module _ (p : Parts) (count d : ℕ) (fresh : Fresh) (u : View) (look : Look) (r
               let was = was_used in omega (arith, got.0, got.1),
               ap (λ (x : Block). x.first_word) one ∙ ap (λ n. start_word p.capacity n) (sym was_used),
               refl,
+              persisted.volatile
+                  ∙ ap (λ xs. set xs (info_word d) (large_info count)) (got.2 ∙ ap (λ n. set p.words.volatile used_word (n + count)) is_fresh.used)
+                  ∙ ap (λ k. set (set p.words.volatile used_word (image_of p used_word + count)) (info_word k) (large_info count)) (sym was_used),
             )

@@ -25,7 +25,7 @@ use Rattle.block_heap.specs.Running.{IsRunning, CachesAreShort}
 use Rattle.block_heap.specs.Lists.{head_at}
 use Rattle.block_heap.specs.Steps.{IsRefilling, PopsBlock}
 use Rattle.block_heap.specs.Large.{JoinsAs}
-use Rattle.block_heap.specs.Serving.{HasRoom, in_cache, in_class_list, in_free_list, in_fresh, HasRoomFor, for_class, for_large, LookedInClass, FindsNone, GetsInClass, AnswersInClass, Answers, DrainsTo, DrainsNone}
+use Rattle.block_heap.specs.Serving.{HasRoom, in_cache, in_class_list, in_free_list, in_fresh, HasRoomFor, for_class, for_large, LookedInClass, FindsNone, MissesInClass, GetsInClass, AnswersInClass, Answers, DrainsTo, DrainsNone}
 use Rattle.std.proofs.lemmas.List.{nil_from_length}
 use Rattle.block_heap.specs.Draws.{most_join_draws}
 
@@ -78,6 +78,26 @@ still_none class p q finds (in_class_list some) = some finds.looked.class_empty
 still_none class p q finds (in_free_list some) = some finds.looked.free_empty
 still_none class p q finds (in_fresh room) = let past = finds.looked.past in omega arith
 
+-- no superblock is lost on the way
+refilled : (class : ℕ) (p q : Parts) → q.capacity ≡ p.capacity → IsRefilling class p q → AreAccounted p → AreAccounted q
+refilled class p q capacity refilling before =
+    subst (λ n. IsAccounted n (image_of q) (held_in q)) (sym capacity)
+    (subst (λ (held : List Block). IsAccounted p.capacity (image_of q) held) (sym refilling.held) (refilling.drains.accounted before))
+
+-- a request of a class that found no room
+pub misses_in_class : (class : ℕ) (p q : Parts) → CachesAreShort p 0 → q.capacity ≡ p.capacity → IsRefilling class p q → FindsNone class p q
+    → MissesInClass class p q
+misses_in_class class p q short capacity refilling finds = record {
+  running = refilling.running;
+  short = short_same p q finds.only.caches short;
+  held = refilling.held;
+  taken = finds.taken;
+  none = finds.none;
+  looked = finds.looked;
+  only = finds.only;
+  accounted = refilled class p q capacity refilling;
+}
+
 -- a request of a class that got a block
 pub gets_in_class : (class : ℕ) (b : Block) (p q r : Parts) → IsClass class → CachesAreShort p 0 → q.capacity ≡ p.capacity
     → r.capacity ≡ q.capacity → IsRefilling class p q → HasRoom p class
@@ -91,8 +111,7 @@ gets_in_class class b p q r is short capacity same refilling room pops_block = r
   new = λ holds. pops_block.new (subst (λ held. Contains held b) (sym refilling.held) holds);
   room = room;
   accounted = λ before.
-      let filled : AreAccounted q = subst (λ n. IsAccounted n (image_of q) (held_in q)) (sym capacity)
-      (subst (λ (held : List Block). IsAccounted p.capacity (image_of q) held) (sym refilling.held) (refilling.drains.accounted before)) in
+      let filled = refilled class p q capacity refilling before in
       subst (λ n. IsAccounted n (image_of r) (held_in r)) (sym same)
       (subst (λ (xs : List ℕ). IsAccounted q.capacity (λ word. get_or xs word 0) (held_in r)) (sym pops_block.volatile)
       (pops_block.drains.accounted filled));
@@ -128,6 +147,7 @@ answers_small bytes class None p q least misses = record {
   none = λ room. no_room room;
   in_class = λ other is_least. subst (λ k. LookedInClass k p.words.drawn q) (one_least bytes class other least is_least) misses.looked;
   at_used = λ large. absurd (let small = least_small bytes class least in omega arith);
+  three_looks = λ _. misses.only;
   one_look = λ large. absurd (let small = least_small bytes class least in omega arith);
   accounted = misses.accounted;
 } where
@@ -149,22 +169,23 @@ answers_small bytes class (Some b) p q least gets = record {
 pub answers_large : (bytes : ℕ) (answer : Option Block) (p q : Parts) → largest_small < bytes → CachesAreShort p 0
     → JoinsAs (span_of bytes) answer p q → IsRunning q
     → (AreAccounted p → AreAccounted q) → q.caches ≡ p.caches → q.capacity ≡ p.capacity
-    → (answer ≡ None → q.words.drawn ≡ p.words.drawn + 1) → q.words.drawn ≤ p.words.drawn + most_join_draws → Answers bytes answer p q
-answers_large bytes None p q large short joins running accounted caches capacity one few = record {
+    → q.words.drawn ≤ p.words.drawn + most_join_draws → Answers bytes answer p q
+answers_large bytes None p q large short joins running accounted caches capacity few = record {
   running = running;
   short = short_same p q caches short;
   held = joins.0;
   taken = joins.4;
   none = λ room. no_room room;
   in_class = λ class least. absurd (let small = least_small bytes class least in omega arith);
-  one_look = λ _. one refl;
+  three_looks = λ small. absurd (omega arith);
+  one_look = λ _. joins.5;
   at_used = λ _. record { used_look = joins.3; past = let same = joins.2 in let past = joins.1 in omega arith };
   accounted = accounted;
 } where
   no_room : HasRoomFor p bytes → ⊥
   no_room (for_class class least room) = let small = least_small bytes class least in omega arith
   no_room (for_large _ fits) = let past = joins.1 in omega arith
-answers_large bytes (Some b) p q large short joins running accounted caches capacity one few = record {
+answers_large bytes (Some b) p q large short joins running accounted caches capacity few = record {
   running = running;
   short = short_same p q caches short;
   size =
@@ -177,6 +198,8 @@ answers_large bytes (Some b) p q large short joins running accounted caches capa
   large = λ _. record {
     few = few;
     taken = joins.5;
+    volatile = joins.6;
+    caches = caches;
     held = subst (λ (x : Block). Contains (held_in q) x)
         (same_fields b (record { first_word = start_word p.capacity (image_of p used_word); words = superblock_words * span_of bytes }) joins.4 joins.0)
         joins.1.has;

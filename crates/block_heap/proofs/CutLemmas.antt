@@ -1,5 +1,5 @@
 -- A free superblock, or one that was never taken, is cut and fills the empty cache.
-use Rattle.std.proofs.Common.{◌≡◌, ◌≢◌, ℕ, zero, suc, ◌+◌, ◌*◌, ◌/◌, ◌<◌, ◌≤◌, ◌⊎◌, inl, inr, Option, None, Some, MatchOption, List, ◌∷◌, length, get_or, set, Contains, refl, ap, sym, subst, ◌∙◌, arith, get_or-set_same, get_or-set_other, length-set}
+use Rattle.std.proofs.Common.{◌≡◌, ◌≢◌, ℕ, zero, suc, ◌+◌, ◌*◌, ◌/◌, ◌<◌, ◌≤◌, ◌⊎◌, inl, inr, Option, None, Some, false, MatchOption, List, ◌∷◌, length, get_or, set, Contains, refl, ap, sym, subst, ◌∙◌, arith, get_or-set_same, get_or-set_other, length-set}
 use Rattle.std.proofs.lemmas.Bool.{cases_eq}
 use Rattle.heap_model.specs.declared.block.Block.{Block}
 use Rattle.heap_model.specs.Geometry.{lists, head_word, info_word, link_word, used_word, start_word}
@@ -33,20 +33,21 @@ use Rattle.block_heap.specs.Held.{block_of_mark}
 use Rattle.block_heap.specs.Links.{IsPopped, IsFresh}
 use Rattle.block_heap.specs.Medium.{StoresOnly}
 use Rattle.block_heap.specs.Parts.{Parts, image_of, held_in, cache_at}
-use Rattle.block_heap.specs.Refill.{SameBut, Cuts}
+use Rattle.block_heap.specs.Refill.{SameBut, Cuts, FindsFresh}
+use Rattle.block_heap.proofs.AllocLargeLemmas.{looked_only, looked_is}
 use Rattle.block_heap.specs.Running.{IsRunning, IsCacheOf, KnowsSizes, HasDurableInfos, LeavesHeld}
-use Rattle.block_heap.specs.Lists.{head_at, IsEmptyList, LeadsAlong, IsInList}
+use Rattle.block_heap.specs.Lists.{head_at, IsEmptyList, LeadsAlong, IsInList, CountsPops}
 use Rattle.block_heap.specs.Order.{CutsAll, CutsFirst}
 use Rattle.block_heap.specs.Steps.{IsRefilling, Spends}
 use Rattle.block_heap.specs.AllocatorWords.{UsedFits, StoresAsAllocator, IsAllocatorWord}
 use Rattle.block_heap.proofs.HeldLemmas.{has_map}
 use Rattle.block_heap.proofs.MediumLemmas.{stores_then, stores_more}
-use Rattle.block_heap.proofs.OrderLemmas.{in_list_along, in_list_has, list_kept}
+use Rattle.block_heap.proofs.OrderLemmas.{in_list_along, in_list_has, list_kept, listed_is, leads_same}
 use Rattle.block_heap.proofs.RunningLemmas.{set_is, settled_kept, running_words}
 use Rattle.block_heap.proofs.SpendLemmas.{spends_none, spends_by}
 use Rattle.block_heap.proofs.StableLemmas.{as_allocator_of, as_allocator_then, as_allocator_raised}
 use Rattle.block_heap.proofs.LookLemmas.{looks_kept, IsNextLook, looked_at_head, looked_at_used}
-use Rattle.block_heap.proofs.RefillLemmas.{IsMoved, moved_word, moved_info, moved_used, leaves_held_of, drains_none, made, caches_filled, caches_other, none_cached, head_moved, popped_head, popped_of, popped_pops, popped_list, popped_place}
+use Rattle.block_heap.proofs.RefillLemmas.{IsMoved, moved_word, moved_info, moved_used, leaves_held_of, drains_none, made, caches_filled, caches_other, none_cached, head_moved, popped_head, popped_of, popped_pops, popped_list, popped_place, popped_count}
 use Rattle.block_heap.proofs.CutWordLemmas.{divide_word, divide_before, divide_info, cut_is, settled_cut, others_kept}
 
 -- no mark lies in a superblock that no held block has a part in
@@ -236,21 +237,25 @@ module _ (p : Parts) (class d : ℕ) (popped : Popped) (w : View) (look : Look) 
           stores.volatile (head_word c) (divide_before p.capacity d (head_word c) (let last = is_c.last in omega arith))
           ∙ pop_stores.volatile (head_word c) (λ at. let first = is_c.some in omega arith)
 
+      free_list : (list : ℕ) (ds : List ℕ) → list < lists → with_at run.shape.listed 0 rest list ≡ ds → LeadsAlong q list ds
+      free_list list ds less is_ds =
+          subst (λ n. Follows (λ e. image_of q (link_word e)) n (head_first (head_at q list)) ds) (sym same.capacity)
+          (subst (λ (es : List ℕ). Follows (λ e. image_of q (link_word e)) p.capacity (head_first (head_at q list)) es) is_ds
+          (free_shape.follows list less))
+
       pub free_refilling : IsRefilling class p q
       free_refilling = record {
         running = free_running;
         held = same.held;
         caches = cut_others p class d w (set p.head_looks 0 look) p.used_look p.taken q run is free_within stores same cuts;
         heads = λ c is_c other. head_kept c is_c;
+        lists = λ c is_c other ds leads.
+            let less : c < lists = let last = is_c.last in omega arith in
+            free_list c ds less
+            (with_at_other run.shape.listed 0 rest c (λ e. let from = is_c.some in omega arith) ∙ listed_is p run c ds less leads);
         drains = cut_free_drains p.capacity class d (image_of p) (λ word. volatile_at w word) (image_of q) (held_in p) run.shape rest is run.is listed
             (popped_of p 0 popped w run zero_list pop pop_stores d some) image_cut;
       }
-
-      free_list : (list : ℕ) (ds : List ℕ) → list < lists → with_at run.shape.listed 0 rest list ≡ ds → LeadsAlong q list ds
-      free_list list ds less is_ds =
-          subst (λ n. Follows (λ e. image_of q (link_word e)) n (head_first (head_at q list)) ds) (sym same.capacity)
-          (subst (λ (es : List ℕ). Follows (λ e. image_of q (link_word e)) p.capacity (head_first (head_at q list)) es) is_ds
-          (free_shape.follows list less))
 
       -- it left the free list, and no other did
       pub free_cuts : CutsFirst class d p q
@@ -259,7 +264,15 @@ module _ (p : Parts) (class d : ℕ) (popped : Popped) (w : View) (look : Look) 
         was = subst (λ (ds : List ℕ). LeadsAlong p 0 ds) listed (run.is.follows 0 zero_list);
         rest = free_list 0 rest zero_list (with_at_same run.shape.listed 0 rest);
         class_head = head_kept class is;
+        pops = record {
+          class_head = let same = head_kept class is in omega arith;
+          free_head = ap head_pops (stores.volatile (head_word 0) (divide_before p.capacity d (head_word 0) (omega arith)))
+              ∙ popped_count p 0 popped w run zero_list pop pop_stores d some;
+        };
         cuts = record {
+          within = free_within;
+          anchor = cuts.divided.anchor;
+          words = λ word inside not. cuts.divided.rest word inside not ∙ pop_stores.volatile word (λ at. let from = inside.from in omega arith);
           info = cuts.divided.info;
           linked = cuts.divided.linked;
           others = others_kept p q w d (head_word 0) free_within (omega arith) pop_stores stores;
@@ -311,6 +324,17 @@ module _ (p : Parts) (w : View) (run : IsRunning p) (stores : StoresOnly (λ wor
           (λ d. (d ≡ fresh.used) × (fresh.used + 1 ≤ p.capacity) × (w.volatile ≡ set p.words.volatile used_word (fresh.used + 1)) × (durable_at w
           used_word ≡ fresh.used + 1))) none took.words
 
+      pub none_finds : (cache_at p.caches class).count ≡ 0 → IsNextLook p look → w.drawn ≡ p.words.drawn + 1 → FindsFresh class false p none_fresh
+      none_finds empty next one = let used = took.used in (
+        empty,
+        omega (arith, no_words.1),
+        no_words.0,
+        looked_is p 1 fresh w look took none seen next one,
+        refl,
+        refl,
+        looked_only p 1 fresh w look took none one,
+      )
+
       none_running : IsRunning (record p { words = w })
       none_running = running_words p w (λ _. ⊥) run took.runs_within.running no_words.0 no_words.2 (λ e less t. t) (λ t. t) took.runs_within.below
 
@@ -338,6 +362,7 @@ module _ (p : Parts) (w : View) (run : IsRunning p) (stores : StoresOnly (λ wor
         held = refl;
         caches = λ c is_c other. refl;
         heads = λ c is_c other. ap (λ (xs : List ℕ). get_or xs (head_word c) 0) no_words.0;
+        lists = λ c is_c other ds leads. leads_same none_fresh p c ds refl (sym no_words.0) leads;
         drains = subst (λ (xs : List ℕ). DrainsSame p.capacity class (held_in p) (image_of p) (λ word. get_or xs word 0)) (sym no_words.0)
             (drains_none p.capacity class (held_in p) (image_of p));
       }
@@ -425,28 +450,38 @@ module _ (p : Parts) (w : View) (run : IsRunning p) (stores : StoresOnly (λ wor
               (let now : volatile_at w used_word ≡ d + 1 = used_set.at in let first = some_words.0 in omega arith)
               (let now : volatile_at w used_word ≡ d + 1 = used_set.at in let at = past in let least = run.few in omega arith)
 
-          pub fresh_refilling : IsRefilling class p q
-          fresh_refilling = record {
-            running = fresh_running;
-            held = same.held;
-            caches = cut_others p class d w p.head_looks look (p.taken + 1) q run is within cut_stores same cuts;
-            heads = λ c is_c other.
-                cut_stores.volatile (head_word c) (divide_before p.capacity d (head_word c) (let last = is_c.last in omega arith))
-                ∙ stores.volatile (head_word c) (λ at. let last = is_c.last in omega arith);
-            drains = cut_fresh_drains p.capacity class d (image_of p) (λ word. volatile_at w word) (image_of q)
-                (held_in p) run.shape is run.is past within
-                used_set fresh_image;
-          }
-
           fresh_list : (list : ℕ) → list < lists → LeadsAlong q list (run.shape.listed list)
           fresh_list list less =
               subst (λ n. Follows (λ e. image_of q (link_word e)) n (head_first (head_at q list)) (run.shape.listed list)) (sym same.capacity)
               (fresh_shape.follows list less)
 
+          -- no head is changed
+          head_stays : (list : ℕ) → list < lists → head_at q list ≡ head_at p list
+          head_stays list less =
+              cut_stores.volatile (head_word list) (divide_before p.capacity d (head_word list) (omega arith))
+              ∙ stores.volatile (head_word list) (λ at. omega arith)
+
+          pub fresh_refilling : IsRefilling class p q
+          fresh_refilling = record {
+            running = fresh_running;
+            held = same.held;
+            caches = cut_others p class d w p.head_looks look (p.taken + 1) q run is within cut_stores same cuts;
+            heads = λ c is_c other. head_stays c (let last = is_c.last in omega arith);
+            lists = λ c is_c other ds leads.
+                let less : c < lists = let last = is_c.last in omega arith in
+                subst (λ (es : List ℕ). LeadsAlong q c es) (listed_is p run c ds less leads) (fresh_list c less);
+            drains = cut_fresh_drains p.capacity class d (image_of p) (λ word. volatile_at w word) (image_of q)
+                (held_in p) run.shape is run.is past within
+                used_set fresh_image;
+          }
+
           -- the free list stays
-          pub fresh_cuts : CutsAll class (image_of p used_word) p q × (q.taken ≡ p.taken + 1)
+          pub fresh_cuts : CutsAll class (image_of p used_word) p q × (q.taken ≡ p.taken + 1) × CountsPops class 0 0 p q
           fresh_cuts = (
             subst (λ k. CutsAll class k p q) (sym past) (record {
+              within = within;
+              anchor = cuts.divided.anchor;
+              words = λ word inside not. cuts.divided.rest word inside not ∙ stores.volatile word (λ at. let from = inside.from in omega arith);
               info = cuts.divided.info;
               cache = cut_cache p class d w p.head_looks look (p.taken + 1) q run is within cut_stores same cuts;
               linked = cuts.divided.linked;
@@ -456,6 +491,10 @@ module _ (p : Parts) (w : View) (run : IsRunning p) (stores : StoresOnly (λ wor
                   (λ k has. has) e there;
             }),
             same.taken,
+            record {
+              class_head = let kept = head_stays class (let last = is.last in omega arith) in omega arith;
+              free_head = let kept = head_stays 0 (omega arith) in omega arith;
+            },
           )
 
           pub fresh_spends : Spends 1 class p q

@@ -67,12 +67,21 @@ module _ (capacity class d i : ℕ) (v u w : View) (before next : ℕ) (is : IsC
         drawn = omega arith;
         stores = step_stores;
         linked = λ k less. linked_at stored k less (cases_eq k i);
+        rest = λ word not.
+            stores.volatile word (λ e. not (i, omega arith, e ∙ at))
+            ∙ chained.rest word (λ linked. not (linked.0, omega (arith, linked.1), linked.2));
       }
 
 -- nothing is chained yet
 pub chain_begins : (capacity class d : ℕ) (v : View) → IsOpen capacity v → StoresOnly (IsInSuperblock capacity d) v v
     → AreInOneChain capacity class d 1 v v
-chain_begins capacity class d v open_now same = record { open_still = open_now; drawn = refl; stores = same; linked = λ k less. absurd (omega arith) }
+chain_begins capacity class d v open_now same = record {
+  open_still = open_now;
+  drawn = refl;
+  stores = same;
+  linked = λ k less. absurd (omega arith);
+  rest = λ word not. refl;
+}
 
 module _ (capacity class d count : ℕ) (v u w : View) (before next : ℕ) (is : IsClass class) (below : d < capacity) (some : 1 ≤ count)
     (few : count < blocks_of class)
@@ -182,4 +191,7 @@ module _ (capacity class d : ℕ) (v u t w : View) (info anchor value : ℕ) (is
         linked = λ k less.
             let apart : start_word capacity d + k * words_of_class class ≢ anchor = λ e. omega arith in
             anchor_stores.volatile (start_word capacity d + k * words_of_class class) apart ∙ chained.linked k less;
+        rest = λ word inside not.
+            anchor_stores.volatile word (λ e. let from = inside.from in omega arith) ∙ chained.rest word not
+            ∙ persist_stores.volatile word (λ e. let from = inside.from in omega arith);
       }

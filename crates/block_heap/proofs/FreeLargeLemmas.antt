@@ -1,10 +1,11 @@
 -- How a large block is freed: its mark is taken back, and then its superblocks go to the free list, one after another.
-use Rattle.std.proofs.Common.{◌≡◌, ◌≢◌, ℕ, ◌+◌, ◌-◌, ◌*◌, ◌/◌, ◌<◌, ◌≤◌, ◌⊎◌, inl, inr, length, get_or, Contains, refl, ap, sym, subst, ◌∙◌, arith}
+use Rattle.std.proofs.Common.{◌≡◌, ◌≢◌, ℕ, ◌+◌, ◌-◌, ◌*◌, ◌/◌, ◌<◌, ◌≤◌, ◌⊎◌, inl, inr, zero, suc, List, [], ◌∷◌, ◌++◌, length, get_or, Contains, refl, ap, sym, subst, ◌∙◌, arith}
 use Rattle.std.proofs.lemmas.Bool.{cases_eq}
 use Rattle.heap_model.specs.declared.block.Block.{Block}
-use Rattle.heap_model.specs.Geometry.{head_word, info_word, link_word, used_word, start_word, superblock_words, largest_capacity}
+use Rattle.heap_model.specs.Geometry.{head_word, info_word, anchor_word, link_word, used_word, start_word, superblock_words, largest_capacity}
 use Rattle.heap_model.specs.Sizes.{IsClass, words_of_class}
-use Rattle.heap_model.specs.Words.{head_first}
+use Rattle.heap_model.specs.Image.{words_from}
+use Rattle.heap_model.specs.Words.{head_first, head_pops}
 use Rattle.heap_model.specs.Recovered.{HasPartIn}
 use Rattle.heap_shape.specs.Shape.{in_list, in_large}
 use Rattle.heap_shape.specs.Standing.{IsTakenByLarge, IsAs}
@@ -21,13 +22,15 @@ use Rattle.block_heap.specs.declared.held.HeldBlocks.{HeldBlocks}
 use Rattle.block_heap.specs.Held.{held_of, at_mark, block_of_mark, HasMark}
 use Rattle.block_heap.specs.Accounts.{IsUsed, AreAccounted, GivesUse}
 use Rattle.block_heap.specs.Medium.{RunsWithin}
-use Rattle.block_heap.specs.Lists.{head_at, IsInList, KeepsFree}
+use Rattle.block_heap.specs.Lists.{head_at, IsInList, KeepsFree, KeepsList}
+use Rattle.block_heap.specs.Order.{Frees}
 use Rattle.block_heap.specs.Returns.{FreesLarge, FreesOne}
 use Rattle.block_heap.specs.Parts.{Parts, image_of, held_in}
 use Rattle.block_heap.specs.Running.{IsRunning, LeavesHeld}
 use Rattle.block_heap.specs.Large.{IsDropped}
 use Rattle.block_heap.proofs.HeldLemmas.{only_map, mark_block}
 use Rattle.block_heap.proofs.LookLemmas.{looks_kept}
+use Rattle.block_heap.proofs.OrderLemmas.{frees_then}
 use Rattle.block_heap.proofs.StableLemmas.{as_allocator_none}
 use Rattle.block_heap.proofs.SmallLemmas.{leaves_held_then}
 
@@ -51,6 +54,13 @@ record IsWhole (capacity : ℕ) (b : Block) : Type 0 where
   pub at : b.first_word ≡ start_word capacity first
   pub size : b.words ≡ superblock_words * count
 
+-- numbers in order, with the last one apart
+numbers_last : (from count : ℕ) → words_from (λ n. n) from (suc count) ≡ words_from (λ n. n) from count ++ (from + count) ∷ []
+numbers_last from zero = let same : from ≡ from + zero = omega arith in ap (λ n. n ∷ []) same
+numbers_last from (suc count) =
+    let same : from + 1 + count ≡ from + suc count = omega arith in
+    ap (λ ns. from ∷ ns) (numbers_last (from + 1) count ∙ ap (λ n. words_from (λ k. k) (from + 1) count ++ n ∷ []) same)
+
 -- so many superblocks of a large block, from `first` on, are to go to the free list, and those before d are there
 pub record IsFreed (first d end : ℕ) (p q : Parts) : Type 0 where
   pub some : first + 1 ≤ end
@@ -69,6 +79,12 @@ pub record IsFreed (first d end : ℕ) (p q : Parts) : Type 0 where
   pub blocks : q.blocks ≡ p.blocks
   pub caches : q.caches ≡ p.caches
   pub taken : q.taken ≡ p.taken
+  pub in_order : (count : ℕ) → first + count ≡ d → Frees (words_from (λ n. n) first count) p q
+  pub lists : (class : ℕ) → IsClass class → KeepsList p q class
+  pub anchors : (e : ℕ) → first ≤ e → e < d → image_of q (anchor_word e) ≡ 0
+  pub pops : head_pops (head_at q 0) ≡ head_pops (head_at p 0)
+  pub others : (word : ℕ) → word ≢ head_word 0 → ((e : ℕ) → first ≤ e → e < d → (word ≢ anchor_word e) × (word ≢ link_word e))
+      → image_of q word ≡ image_of p word
   pub few : q.words.drawn + 4 * first ≤ p.words.drawn + 4 * d
   pub drew : p.words.drawn + d ≤ q.words.drawn + first
 
@@ -98,6 +114,18 @@ freed_more first d end p q r below freed running others gives frees runs_within 
   free = λ e there. frees.free e (freed.free e there);
   heads = λ class is. frees.heads class is ∙ freed.heads class is;
   infos = λ e. frees.infos e ∙ freed.infos e;
+  in_order = in_order;
+  lists = λ class is ds leads. frees.lists class is ds (freed.lists class is ds leads);
+  anchors = λ e from until. elim (cases_eq e d) as (λ _. image_of r (anchor_word e) ≡ 0) [
+    | inl same ↦ subst (λ k. image_of r (anchor_word k) ≡ 0) (sym same) frees.anchor
+    | inr other ↦ frees.others (anchor_word e) (λ at. omega arith) (λ at. other (omega arith)) (λ at. omega arith)
+        ∙ freed.anchors e from (omega arith)
+  ];
+  pops = frees.pops ∙ freed.pops;
+  others = λ word not_head apart.
+      let from : first ≤ d = let few = freed.few in let more = freed.leaves_held.as_allocator.stores.drawn in omega arith in
+      let now = apart d from (omega arith) in
+      frees.others word not_head now.0 now.1 ∙ freed.others word not_head (λ e low high. apart e low (omega arith));
   leaves_held = leaves_held_then p q r (held_in p) freed.leaves_held (subst (λ (h : HeldBlocks). LeavesHeld (held_of h) q r) freed.blocks leaves_held);
   blocks = blocks ∙ freed.blocks;
   caches = caches ∙ freed.caches;
@@ -105,6 +133,13 @@ freed_more first d end p q r below freed running others gives frees runs_within 
   few = let before = freed.few in let more = runs_within.few in omega arith;
   drew = let before = freed.drew in let more = runs_within.drew in omega arith;
 } where
+  in_order : (count : ℕ) → first + count ≡ d + 1 → Frees (words_from (λ n. n) first count) p r
+  in_order zero at = absurd (let few = freed.few in let more = freed.leaves_held.as_allocator.stores.drawn in omega arith)
+  in_order (suc count) at =
+      let last : d ≡ first + count = omega arith in
+      subst (λ ns. Frees ns p r) (ap (λ k. words_from (λ n. n) first count ++ k ∷ []) last ∙ sym (numbers_last first count))
+      (frees_then (words_from (λ n. n) first count) (d ∷ []) p q r (freed.in_order count (omega arith)) frees.first)
+
   uses : (e : ℕ) → ((first ≤ e) × (e < d + 1)) ⊎ IsUsed p e → IsUsed r e
   uses e (inr before) = gives.uses e (inr (freed.uses e (inr before)))
   uses e (inl done) = elim (cases_eq e d) as (λ _. IsUsed r e) [
@@ -209,6 +244,11 @@ module _ (p : Parts) (b : Block) (run : IsRunning p) (holds : Contains (held_in 
                 list_not_large (sym there.0 ∙ place.1);
           }
 
+    none_freed : (first count : ℕ) → first + count ≡ first
+        → Frees (words_from (λ n. n) first count) (record p { blocks = h }) (record p { blocks = h })
+    none_freed first zero at = λ fs leads. leads
+    none_freed first (suc count) at = absurd (omega arith)
+
     -- none of its superblocks is in the free list yet
     pub drop_begins : (first : ℕ) → first ≡ (b.first_word - start_word p.capacity 0) / 8192
         → IsFreed first first (first + b.words / 8192) (record p { blocks = h }) (record p { blocks = h })
@@ -235,6 +275,11 @@ module _ (p : Parts) (b : Block) (run : IsRunning p) (holds : Contains (held_in 
           free = λ e there. there;
           heads = λ class is. refl;
           infos = λ e. refl;
+          in_order = none_freed first;
+          lists = λ class is ds leads. leads;
+          anchors = λ e from until. absurd (omega arith);
+          pops = refl;
+          others = λ word not_head apart. refl;
           leaves_held = record {
             capacity = refl;
             as_allocator = as_allocator_none p.capacity (held_of h) p.words;
@@ -267,6 +312,17 @@ module _ (p : Parts) (b : Block) (run : IsRunning p) (holds : Contains (held_in 
           heads = freed.heads;
           infos = λ e below. freed.infos e;
           caches = freed.caches;
+          in_order = λ f n begins long.
+              let until = freed.until in
+              let same : first ≡ f = omega arith in
+              subst (λ k. Frees (words_from (λ d. d) k n) p q) same (freed.in_order n (omega arith));
+          lists = freed.lists;
+          anchors = λ e part. let begins = part.begins in let ends = part.ends in freed.anchors e (omega arith) (omega arith);
+          pops = freed.pops;
+          others = λ word not. freed.others word (λ head. not (inl head)) (λ e low high.
+              let until = freed.until in
+              let part : HasPartIn p.capacity b e = record { begins = omega arith; ends = omega arith } in
+              (λ here. not (inr (e, part, inl here)), λ here. not (inr (e, part, inr here))));
         }
 
     -- and none is lost

@@ -30,7 +30,7 @@ use Rattle.block_heap.specs.Running.{IsRunning, LeavesHeld}
 use Rattle.block_heap.specs.Large.{IsDropped}
 use Rattle.block_heap.specs.AllocatorWords.{IsAllocatorWord, is_head, is_anchor, is_link}
 use Rattle.block_heap.proofs.MediumLemmas.{stores_then, stores_more}
-use Rattle.block_heap.proofs.OrderLemmas.{in_list_along, in_list_has, list_kept}
+use Rattle.block_heap.proofs.OrderLemmas.{in_list_along, in_list_has, list_kept, listed_is}
 use Rattle.block_heap.proofs.RunningLemmas.{set_is, settled_kept}
 use Rattle.block_heap.proofs.LookLemmas.{looks_kept}
 use Rattle.block_heap.proofs.StableLemmas.{as_allocator_of}
@@ -153,15 +153,18 @@ module _ (p : Parts) (d anchor : ℕ) (u w : View) (run : IsRunning p) (dropped 
             run.sizes.sizes e below (subst IsClass (info_same e) is) before ∙ ap words_of_class (sym (info_same e))
       ]
 
-      pops : (list : ℕ) → list < lists → 2 * head_pops (volatile_at w (head_word list)) ≤ w.drawn
-      pops list less =
+      pops_stay : (list : ℕ) → list < lists → head_pops (volatile_at w (head_word list)) ≡ head_pops (image_of p (head_word list))
+      pops_stay list less =
           let small = run.is.small in
           let below = within in
           let k = long in
-          let first : head_pops (volatile_at u (head_word list)) ≡ head_pops (image_of p (head_word list)) =
-          ap head_pops (anchor_set.others (head_word list) (λ e. omega arith)) in
-          let second = pushed_pops 0 d u w (omega arith) (omega (arith, inside.0)) (omega (arith, inside.2))
-          (omega (arith, largest_capacity_fits)) pushed list less in
+          pushed_pops 0 d u w (omega arith) (omega (arith, inside.0)) (omega (arith, inside.2))
+          (omega (arith, largest_capacity_fits)) pushed list less
+          ∙ ap head_pops (anchor_set.others (head_word list) (λ e. omega arith))
+
+      pops : (list : ℕ) → list < lists → 2 * head_pops (volatile_at w (head_word list)) ≤ w.drawn
+      pops list less =
+          let same = pops_stay list less in
           let before = run.pops list less in
           let drawn = split_stores.drawn in
           omega arith
@@ -207,6 +210,19 @@ module _ (p : Parts) (d anchor : ℕ) (u w : View) (run : IsRunning p) (dropped 
                 (λ e. in_rest d e (s.listed 0));
             heads = λ class is. split_stores.volatile (head_word class) (split_not_head d class is);
             infos = info_same;
+            first = λ fs before. subst (λ es. LeadsAlong (record p { words = w }) 0 (d ∷ es)) (listed_is p run 0 fs (omega arith) before) leads;
+            lists = λ class is ds before.
+                let less : class < lists = let last = is.last in omega arith in
+                subst (λ es. LeadsAlong (record p { words = w }) class es)
+                (with_at_other s.listed 0 (d ∷ s.listed 0) class (λ e. let from = is.some in omega arith) ∙ listed_is p run class ds less before)
+                (is_shape.follows class less);
+            anchor = push.volatile (anchor_word d) (λ t. elim t as (λ _. ⊥) [ inl e ↦ omega arith | inr e ↦ let less = within in omega arith ])
+                ∙ anchor_set.at;
+            pops = pops_stay 0 (omega arith);
+            others = λ word not_head not_anchor not_link. split_stores.volatile word (λ t. elim t as (λ _. ⊥) [
+              | inl at_anchor ↦ not_anchor at_anchor
+              | inr pushes ↦ elim pushes as (λ _. ⊥) [ inl head ↦ not_head head | inr link ↦ not_link link ]
+            ]);
           }
 
       -- the other dropped superblocks stay so

@@ -1,11 +1,11 @@
 -- In which list a superblock is, and how a request of a class comes to its block in order.
-use Rattle.std.proofs.Common.{◌≡◌, ◌≢◌, ℕ, ◌<◌, inl, inr, List, [], get_or, Contains, refl, ap, sym, subst, ◌∙◌, arith, ◌∷◌, ◌++◌, reverse, append_assoc, append-nil}
+use Rattle.std.proofs.Common.{◌≡◌, ◌≢◌, ℕ, ◌+◌, ◌<◌, inl, inr, List, [], get_or, Contains, refl, ap, sym, subst, ◌∙◌, arith, ◌∷◌, ◌++◌, length, length-append, reverse, append_assoc, append-nil}
 use Rattle.std.proofs.lemmas.List.Elements.{Contains-append_cases}
 use Rattle.std.proofs.lemmas.List.{reverse-append}
 use Rattle.heap_model.specs.declared.block.Block.{Block}
-use Rattle.heap_model.specs.Geometry.{anchor_word, info_word, link_word, start_word}
+use Rattle.heap_model.specs.Geometry.{lists, head_word, anchor_word, info_word, link_word, start_word}
 use Rattle.heap_model.specs.Sizes.{words_of_class, blocks_of}
-use Rattle.heap_model.specs.Words.{head_first, anchor_state, anchor_first, anchor_count, empty_state}
+use Rattle.heap_model.specs.Words.{head_first, head_pops, anchor_state, anchor_first, anchor_count, empty_state}
 use Rattle.heap_model.proofs.MemberLemmas.{in_none}
 use Rattle.heap_model.proofs.PartLemmas.{same_fields}
 use Rattle.heap_shape.specs.Standing.{first_of}
@@ -13,8 +13,8 @@ use Rattle.heap_shape.specs.Effects.{IsInSuperblock}
 use Rattle.heap_shape.specs.Moves.{AddsTo}
 use Rattle.heap_at_rest.proofs.ListLemmas.{one_following}
 use Rattle.block_heap.specs.declared.cache.Cache.{Cache}
-use Rattle.block_heap.specs.Divide.{AreLinked}
-use Rattle.block_heap.specs.Lists.{head_at, IsEmptyList, LeadsAlong, IsInList}
+use Rattle.block_heap.specs.Divide.{AreLinked, IsLinkedWord}
+use Rattle.block_heap.specs.Lists.{head_at, IsEmptyList, LeadsAlong, IsInList, CountsPops}
 use Rattle.block_heap.specs.Order.{HasNothing, KeepsSuperblock, Frees, TakesAll, CutsAll, CutsFirst, RefillsFrom, from_free_list, TakesFirst, MovesEmpty, Stocked, in_stock, is_filled, IsServed, from_class_list, from_fresh}
 use Rattle.block_heap.specs.Parts.{Parts, image_of, held_in, cache_at}
 use Rattle.block_heap.specs.Running.{IsRunning}
@@ -33,6 +33,12 @@ in_list_has p list d ds there leads =
     subst (λ xs. Contains xs d) (one_following (λ e. image_of p (link_word e)) p.capacity (head_first (head_at p list)) there.0 ds there.1 leads)
     there.2
 
+-- a list of parts that are right is that of the shape
+pub listed_is : (p : Parts) (run : IsRunning p) (list : ℕ) (ds : List ℕ) → list < lists → LeadsAlong p list ds → run.shape.listed list ≡ ds
+listed_is p run list ds below leads =
+    one_following (λ e. image_of p (link_word e)) p.capacity (head_first (head_at p list)) (run.shape.listed list) ds
+    (run.is.follows list below) leads
+
 -- where one list has all of another, it has each superblock of it
 pub list_kept : (p q : Parts) (list other : ℕ) (ds es : List ℕ) → LeadsAlong p list ds → LeadsAlong q other es
     → ((d : ℕ) → Contains ds d → Contains es d) → (d : ℕ) → IsInList p list d → IsInList q other d
@@ -47,6 +53,22 @@ leads_same p q list ds capacity same leads =
 
 pub list_same : (p q : Parts) (list d : ℕ) → q.capacity ≡ p.capacity → q.words.volatile ≡ p.words.volatile → IsInList p list d → IsInList q list d
 list_same p q list d capacity same before = (before.0, leads_same q p list before.0 (sym capacity) (sym same) before.1, before.2)
+
+-- no pop is counted where loads see the same, and two rows count together
+pub pops_same : (class : ℕ) (p q : Parts) → q.words.volatile ≡ p.words.volatile → CountsPops class 0 0 p q
+pops_same class p q same =
+    let here : head_at q class ≡ head_at p class = ap (λ (xs : List ℕ). get_or xs (head_word class) 0) same in
+    let free : head_at q 0 ≡ head_at p 0 = ap (λ (xs : List ℕ). get_or xs (head_word 0) 0) same in
+    record { class_head = omega arith; free_head = omega arith }
+
+pub pops_then : (class here free more later all : ℕ) (p q r : Parts) → here + more ≡ all → CountsPops class here free p q
+    → CountsPops class more later q r → CountsPops class all (free + later) p r
+pops_then class here free more later all p q r sum a b =
+    let first = a.class_head in
+    let second = b.class_head in
+    let third = a.free_head in
+    let fourth = b.free_head in
+    record { class_head = omega arith; free_head = omega arith }
 
 -- an empty list has nothing to give
 pub nothing_in_empty : (class : ℕ) (p : Parts) → IsEmptyList p class → HasNothing class p
@@ -63,7 +85,7 @@ keeps_then e p q r capacity a b = record {
 within_then : (e : ℕ) (p q : Parts) → q.capacity ≡ p.capacity → e < p.capacity → e < q.capacity
 within_then e p q capacity below = subst (λ n. e < n) (sym capacity) below
 
-frees_then : (xs ys : List ℕ) (p q r : Parts) → Frees xs p q → Frees ys q r → Frees (xs ++ ys) p r
+pub frees_then : (xs ys : List ℕ) (p q r : Parts) → Frees xs p q → Frees ys q r → Frees (xs ++ ys) p r
 frees_then xs ys p q r a b fs leads =
     let order : reverse ys ++ (reverse xs ++ fs) ≡ reverse (xs ++ ys) ++ fs =
     sym (append_assoc (reverse ys) (reverse xs) fs) ∙ ap (λ zs. zs ++ fs) (sym (reverse-append xs ys)) in
@@ -81,6 +103,7 @@ moves_none class p = record {
   frees = λ fs leads. leads;
   nothing = λ none. none;
   free = λ d listed. listed;
+  pops = pops_same class p p refl;
 }
 
 pub moves_then : (class : ℕ) (p q r : Parts) → MovesEmpty class p q → MovesEmpty class q r → MovesEmpty class p r
@@ -97,6 +120,8 @@ moves_then class p q r a b = record {
   frees = frees_then a.moved b.moved p q r a.frees b.frees;
   nothing = λ none. a.nothing (b.nothing none);
   free = λ d listed. b.free d (a.free d listed);
+  pops = pops_then class (length a.moved) 0 (length b.moved) 0 (length (a.moved ++ b.moved)) p q r
+      (sym (length-append a.moved b.moved)) a.pops b.pops;
 }
 
 -- and none where loads see the same
@@ -116,6 +141,7 @@ moves_same class p q capacity same = record {
   nothing = λ none d listed. ap (λ (xs : List ℕ). anchor_state (get_or xs (anchor_word d) 0)) (sym same)
       ∙ none d (list_same p q class d capacity same listed);
   free = λ d listed. list_same p q 0 d capacity same listed;
+  pops = pops_same class p q same;
 }
 
 -- a superblock whose free blocks were taken after that
@@ -147,12 +173,20 @@ takes_after class d p q r moves taken takes =
       others = λ e below other. keeps_then e p q r moves.capacity (moves.all e below) (takes.others e (within_then e p q moves.capacity below) other);
       frees = frees_then moves.moved takes.before p q r moves.frees takes.frees;
       free = λ e listed. takes.free e (moves.free e listed);
+      pops = pops_then class (length moves.moved) 0 (length takes.before + 1) 0 (length (moves.moved ++ takes.before) + 1) p q r
+          (let both = length-append moves.moved takes.before in omega arith) moves.pops takes.pops;
       taken = takes.taken ∙ taken;
     }
 
 -- a superblock that was cut after that
 pub cuts_after : (class d : ℕ) (p q r : Parts) → MovesEmpty class p q → CutsAll class d q r → CutsAll class d p r
-cuts_after class d p q r moves cuts = record {
+cuts_after class d p q r moves cuts = let within : d < p.capacity = subst (λ n. d < n) moves.capacity cuts.within in record {
+  within = within;
+  anchor = cuts.anchor;
+  words = λ word inside not.
+      cuts.words word (subst (λ n. IsInSuperblock n d word) (sym moves.capacity) inside)
+      (λ linked. not (subst (λ n. IsLinkedWord n class d (blocks_of class) word) moves.capacity linked))
+      ∙ (moves.all d within).words word inside;
   info = cuts.info;
   cache = subst (λ n. cache_at r.caches class ≡ record { first = start_word n d; count = blocks_of class }) moves.capacity cuts.cache;
   linked = subst (λ n. AreLinked n class d (blocks_of class) r.words) moves.capacity cuts.linked;
@@ -176,6 +210,7 @@ module _ (class : ℕ) (p a q : Parts) (moves : MovesEmpty class p a) (nothing :
         (moves.frees (run.shape.listed 0) (run.is.follows 0 (omega arith))) first.was;
     empty = ap head_first first.class_head ∙ empty;
     rest = first.rest;
+    pops = pops_then class (length moves.moved) 0 0 1 (length moves.moved) p a q (omega arith) moves.pops first.pops;
   }) (cuts_after class d p a q moves first.cuts) (same ∙ taken)
 
 -- the first block of the cache was handed out
@@ -204,7 +239,7 @@ module _ (class : ℕ) (p r : Parts) (served : IsServed class p r) where
     by_source : RefillsFrom class p q → IsEmptyList p class × IsEmptyList p 0
     by_source (from_class_list d takes) = absurd (taken (served.takes.taken ∙ takes.taken))
     by_source (from_free_list d nothing takes cuts same) = absurd (taken (served.takes.taken ∙ same))
-    by_source (from_fresh class_empty free_empty cuts more) = (class_empty, free_empty)
+    by_source (from_fresh class_empty free_empty cuts more pops) = (class_empty, free_empty)
 
     by_stock : Stocked class p q → ((cache_at p.caches class).count ≡ 0) × IsEmptyList p class × IsEmptyList p 0
     by_stock (in_stock some same) = absurd (taken (served.takes.taken ∙ ap (λ (x : Parts). x.taken) same))
@@ -219,7 +254,7 @@ module _ (class : ℕ) (p r : Parts) (served : IsServed class p r) where
     by_source : RefillsFrom class p q → HasNothing class p
     by_source (from_class_list e takes) = absurd (still (takes.free d before))
     by_source (from_free_list e nothing takes cuts same) = nothing
-    by_source (from_fresh class_empty free_empty cuts more) = nothing_in_empty class p class_empty
+    by_source (from_fresh class_empty free_empty cuts more pops) = nothing_in_empty class p class_empty
 
     by_stock : Stocked class p q → ((cache_at p.caches class).count ≡ 0) × HasNothing class p
     by_stock (in_stock some same) = absurd (still (subst (λ (x : Parts). IsInList x 0 d) (sym same) before))

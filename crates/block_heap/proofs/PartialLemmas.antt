@@ -12,17 +12,17 @@ use Rattle.heap_seat.specs.declared.look.Look.{Look}
 use Rattle.block_heap.specs.declared.refill.Found.{Found}
 use Rattle.block_heap.specs.declared.refill.Found.TheVariants.{Blocks, Recycled, Nothing}
 use Rattle.block_heap.specs.Medium.{RunsWithin, StopsWithin}
-use Rattle.block_heap.specs.Parts.{Parts, image_of, held_in, cache_at}
+use Rattle.block_heap.specs.Parts.{Parts, OnlyLooks, image_of, held_in, cache_at}
 use Rattle.block_heap.specs.Refill.{FindsPartial, FindsFree, FindsFresh, Refills}
 use Rattle.block_heap.specs.Running.{IsRunning, LeavesHeld}
 use Rattle.block_heap.specs.Serving.{HasRoom, in_cache, in_class_list, in_free_list, in_fresh}
 use Rattle.block_heap.specs.Lists.{head_at, IsEmptyList, LeadsAlong}
 use Rattle.block_heap.specs.Steps.{look_at, IsLook, IsRefilling, FindsFirst, FindsEmpty, Recycles, Spends, used_up}
 use Rattle.block_heap.specs.Order.{CutsAll, RefillsFrom, from_fresh, MovesEmpty, OrdersFirst, OrdersPartial, OrdersFresh}
-use Rattle.block_heap.proofs.OrderLemmas.{moves_none, moves_then, moves_same, takes_after, cuts_after, nothing_in_empty}
+use Rattle.block_heap.proofs.OrderLemmas.{pops_same, pops_then, moves_none, moves_then, moves_same, takes_after, cuts_after, nothing_in_empty}
 use Rattle.block_heap.proofs.SpendLemmas.{spends_none, spends_then}
 use Rattle.std.proofs.lemmas.Bool.{cases_eq}
-use Rattle.block_heap.proofs.RefillLemmas.{leaves_held_same, drains_none, drains_then, leaves_held_all}
+use Rattle.block_heap.proofs.RefillLemmas.{leaves_held_same, drains_none, drains_then, leaves_held_all, only_then}
 
 -- nothing done yet, and two rows of steps
 pub refilling_none : (class : ℕ) (p : Parts) → IsRunning p → IsRefilling class p p
@@ -31,6 +31,7 @@ refilling_none class p run = record {
   held = refl;
   caches = λ c is other. refl;
   heads = λ c is other. refl;
+  lists = λ c is other ds leads. leads;
   drains = drains_none p.capacity class (held_in p) (image_of p);
 }
 
@@ -40,6 +41,7 @@ refilling_then class p u q capacity a b = record {
   held = b.held ∙ a.held;
   caches = λ c is other. b.caches c is other ∙ a.caches c is other;
   heads = λ c is other. b.heads c is other ∙ a.heads c is other;
+  lists = λ c is other ds leads. b.lists c is other ds (a.lists c is other ds leads);
   drains = drains_then p.capacity class (held_in p) (image_of p) (image_of u) (image_of q) a.drains
       (subst (λ n. DrainsSame n class (held_in p) (image_of u) (image_of q)) capacity
       (subst (λ (h : List Block). DrainsSame u.capacity class h (image_of u) (image_of q)) a.held b.drains));
@@ -68,7 +70,7 @@ pub record Walked (class : ℕ) (p q : Parts) : Type 0 where
   pub empty : (cache_at q.caches class).count ≡ 0
   pub taken : q.taken ≡ p.taken
   pub used : image_of q used_word ≡ image_of p used_word
-  pub way : (q.words.volatile ≡ p.words.volatile) ⊎ ((IsEmptyList q 0 → ⊥) × (IsEmptyList p class → ⊥))
+  pub way : (q ≡ p) ⊎ ((IsEmptyList q 0 → ⊥) × (IsEmptyList p class → ⊥))
   pub moves : MovesEmpty class p q
   pub left : Spends 0 class p q
   pub few : (ds : List ℕ) → LeadsAlong q class ds → q.words.drawn + 8 * length ds ≤ p.words.drawn + 8 * largest_capacity
@@ -108,7 +110,10 @@ module _ (class : ℕ) (p q r : Parts) (is : IsClass class) (walked : Walked cla
       omega arith
 
   was_some : (IsEmptyList q class → ⊥) → IsEmptyList p class → ⊥
-  was_some some none = elim walked.way as (λ _. ⊥) [ inl same ↦ some (empty_same p q class same none) | inr way ↦ way.1 none ]
+  was_some some none = elim walked.way as (λ _. ⊥) [
+    | inl same ↦ some (subst (λ x. IsEmptyList x class) (sym same) none)
+    | inr way ↦ way.1 none
+  ]
 
   pub walk_leaves_held : LeavesHeld (held_in p) p r
   walk_leaves_held = leaves_held_all p q r walked.refilling.held walked.leaves_held leaves_held
@@ -150,6 +155,29 @@ module _ (class : ℕ) (p q r : Parts) (is : IsClass class) (walked : Walked cla
         moves_then class p q r walked.moves (moves_same class q r leaves_held.capacity finds.1.volatile),
         walked.moves.nothing (nothing_in_empty class q finds.1.empty),
       )
+
+  pub walk_finds : (found : Found) → found ≡ Nothing → FindsFirst class found q r → FindsPartial class false p r
+  walk_finds found is_found found_first = nothing (subst (λ f. FindsFirst class f q r) is_found found_first) where
+    nothing : FindsFirst class Nothing q r → FindsPartial class false p r
+    nothing first =
+        let finds : FindsEmpty class q r = first.1 in
+        let same = finds.volatile in
+        let from = begun in (
+          first.0,
+          (
+            empty_same q r class same finds.empty,
+            look_later q.words.drawn p.words.drawn r r (look_at r class) (head_at r class) (omega arith) (omega arith) refl finds.look,
+          ),
+          ap (λ (xs : List ℕ). get_or xs used_word 0) same ∙ walked.used,
+          (λ none. elim walked.way as (λ _. IsEmptyList p 0 × IsEmptyList p class) [
+            | inl still ↦ subst (λ x. IsEmptyList x 0 × IsEmptyList x class) still (empty_same r q 0 (sym same) none, finds.empty)
+            | inr way ↦ absurd (way.0 (empty_same r q 0 (sym same) none))
+          ]),
+          (λ none. elim walked.way as (λ _. OnlyLooks 1 p r) [
+            | inl still ↦ subst (λ x. OnlyLooks 1 x r) still finds.only
+            | inr way ↦ absurd (way.1 none)
+          ]),
+        )
 
   module _ (refilling : IsRefilling class q r) (runs_within : RunsWithin 8 q.words r.words) where
     pub walk_runs_within : RunsWithin (8 * largest_capacity + 8) p.words r.words
@@ -205,6 +233,7 @@ module _ (class : ℕ) (p a b : Parts) (is : IsClass class) (a_leaves_held : Lea
         (subst (λ d. CutsAll class d p q) used_then (cuts_after class (image_of b used_word) p b q
         (moves_then class p a b found.0 (moves_same class a b b_leaves_held.capacity finds.volatile)) cuts.0))
         (let now = cuts.1 in let before = b_taken in let first = a_taken in omega arith)
+        (pops_then class 0 0 0 0 0 p b q refl (pops_same class p b (finds.volatile ∙ (part.4 none.1).volatile)) cuts.2)
 
     some_fresh : FindsFresh class true b q → Refills class true p q
     some_fresh fresh =
@@ -282,6 +311,7 @@ module _ (class : ℕ) (p a b : Parts) (is : IsClass class) (a_leaves_held : Lea
         none = no_room empty;
         empty = fresh.0;
         taken = fresh.5 ∙ b_taken ∙ a_taken;
+        only = only_then 2 1 3 p b q (omega arith) (only_then 1 1 2 p a b (omega arith) (part.4 (part.3 finds.empty).1) finds.only) fresh.6;
       }
 
     pub fresh_refills : (cache_at p.caches class).count ≡ 0 → (some : Bool) → FindsFresh class some b q → Refills class some p q
@@ -296,7 +326,7 @@ pub free_refills : (class : ℕ) (p a b : Parts) → FindsPartial class false p 
 free_refills class p a b before found = (
   found.0,
   elim (cases_eq (head_first (head_at p class)) 0) as (λ _. HasRoom p class) [
-    | inl empty ↦ in_free_list (λ none. found.1 (empty_same p a 0 (before.4 empty) none))
+    | inl empty ↦ in_free_list (λ none. found.1 (empty_same p a 0 (before.4 empty).volatile none))
     | inr some ↦ in_class_list some
   ],
 )

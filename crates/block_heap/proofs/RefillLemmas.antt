@@ -21,16 +21,17 @@ use Rattle.block_heap.specs.declared.lists.Popped.{Popped}
 use Rattle.heap_seat.specs.declared.look.Look.{Look}
 use Rattle.super_block.specs.Links.{link_of}
 use Rattle.block_heap.specs.Links.{IsPopped}
-use Rattle.block_heap.specs.Medium.{StoresOnly}
-use Rattle.block_heap.specs.Parts.{Parts, image_of, held_in, cache_at}
+use Rattle.block_heap.specs.Medium.{StoresOnly, LooksOnce}
+use Rattle.block_heap.specs.Parts.{Parts, OnlyLooks, image_of, held_in, cache_at, no_look}
 use Rattle.block_heap.specs.Running.{IsRunning, IsCacheOf, KnowsSizes, HasDurableInfos, LeavesHeld, MakesLooks}
-use Rattle.block_heap.specs.Steps.{IsRefilling}
+use Rattle.block_heap.specs.Steps.{IsRefilling, FindsEmpty, IsLook, look_at}
 use Rattle.block_heap.specs.Lists.{head_at, IsEmptyList}
 use Rattle.block_heap.specs.AllocatorWords.{IsAllocatorWord, is_head, is_anchor, is_link}
-use Rattle.block_heap.proofs.MediumLemmas.{stores_more}
+use Rattle.block_heap.proofs.MediumLemmas.{stores_more, stores_then}
 use Rattle.block_heap.proofs.RunningLemmas.{set_is, running_words}
 use Rattle.block_heap.proofs.LookLemmas.{looks_kept, IsNextLook, looked_at_head}
 use Rattle.block_heap.proofs.StableLemmas.{as_allocator_of, as_allocator_none}
+use Rattle.block_heap.proofs.OrderLemmas.{leads_same}
 use Rattle.block_heap.proofs.SmallLemmas.{leaves_held_then}
 
 -- a cache with these numbers
@@ -69,6 +70,18 @@ pub moved_word : (capacity : ℕ) (held : List Block) (word : ℕ) → IsMoved c
 moved_word capacity held word (a_head list below at) = is_head list below at
 moved_word capacity held word (an_anchor d below at) = is_anchor d below at
 moved_word capacity held word (a_link d below at) = is_link d below at
+
+-- two rows of looks
+pub only_then : (m n all : ℕ) (p u q : Parts) → m + n ≡ all → OnlyLooks m p u → OnlyLooks n u q → OnlyLooks all p q
+only_then m n all p u q sum a b = record {
+  volatile = b.volatile ∙ a.volatile;
+  stores = stores_then (λ _. ⊥) p.words u.words q.words a.stores b.stores;
+  capacity = b.capacity ∙ a.capacity;
+  caches = b.caches ∙ a.caches;
+  blocks = b.blocks ∙ a.blocks;
+  taken = b.taken ∙ a.taken;
+  drawn = let first = a.drawn in let second = b.drawn in omega arith;
+}
 
 -- a row of steps that doesn't store to `used`; one that stores to such words alone, or none at all; and two rows
 pub leaves_held_of : (p q : Parts) (to : ℕ → Type 0) → IsRunning p → ((word : ℕ) → to word → IsAllocatorWord p.capacity (held_in p) word)
@@ -269,6 +282,14 @@ module _ (p : Parts) (list : ℕ) (popped : Popped) (w : View) (run : IsRunning 
           popped_of.set.others (head_word other) (λ e. apart (omega arith)) in omega arith
     ]
 
+    pub popped_count : head_pops (volatile_at w (head_word list)) ≡ head_pops (head_at p list) + 1
+    unfolding popped_of
+    popped_count =
+        let at : volatile_at w (head_word list) ≡ head_of (head_first (volatile_at p.words (link_word d))) (head_pops popped.head + 1) =
+        popped_of.set.at in
+        let head : popped.head ≡ head_at p list = pop.head in
+        omega arith
+
     pub popped_list : (ds : List ℕ) × (run.shape.listed list ≡ d ∷ ds)
     popped_list = first_listed p list d run below popped_head
 
@@ -319,6 +340,27 @@ module _ (p : Parts) (class list : ℕ) (popped : Popped) (w : View) (look : Loo
     held = refl;
     caches = λ c is other. refl;
     heads = λ c is other. ap (λ (xs : List ℕ). get_or xs (head_word c) 0) same_words;
+    lists = λ c is other ds leads. leads_same emptied p c ds refl (sym same_words) leads;
     drains = subst (λ (xs : List ℕ). DrainsSame p.capacity class (held_in p) (image_of p) (λ word. get_or xs word 0)) (sym same_words)
         (drains_none p.capacity class (held_in p) (image_of p));
   }
+
+  pub emptied_finds : LooksOnce p.words w → IsNextLook p look → look.seen ≡ popped.head → FindsEmpty list p emptied
+  emptied_finds once next seen =
+      let here : look_at emptied list ≡ look = get_or-set_same p.head_looks list look no_look (let long = run.looks_long in omega arith) in
+      let head : head_at emptied list ≡ head_at p list = ap (λ (xs : List ℕ). get_or xs (head_word list) 0) same_words in
+      let drew = once.1 in
+      record {
+        empty = (popped_none p list popped w run below pop stores none).0;
+        only = record { volatile = same_words; stores = once.0; capacity = refl; caches = refl; blocks = refl; taken = refl; drawn = once.1 };
+        volatile = same_words;
+        look = subst (λ (l : Look). IsLook p.words.drawn emptied l (head_at emptied list)) (sym here) (record {
+          seen_is = seen ∙ pop.head ∙ sym head;
+          ticket = p.words.drawn;
+          by = next.by;
+          since = omega arith;
+          until = omega arith;
+          taken_is = next.taken;
+        });
+        others = λ other apart. get_or-set_other p.head_looks list other look no_look apart;
+      }

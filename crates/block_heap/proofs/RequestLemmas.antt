@@ -24,7 +24,7 @@ use Rattle.heap_seat.specs.Tickets.{Runs}
 use Rattle.block_heap.specs.Lists.{IsEmptyList, head_at}
 use Rattle.block_heap.specs.AllocatorWords.{IsAllocatorWord, UsedFits, IsStable, IsLasting}
 use Rattle.block_heap.specs.SeqState.{SeqState, IsSeqHeap, all_roots, kinds_seen, seat_of}
-use Rattle.heap_seat.specs.Words.{IsOwn, IsDurable, MayRead, KeepsWord, KeepsPending}
+use Rattle.heap_seat.specs.Words.{IsOwn, IsDurable, MayRead, KeepsWord, KeepsOwn, KeepsPending}
 use Rattle.block_heap.specs.Requests.{KeepsWords}
 use Rattle.heap_seat.specs.View.{View}
 use Rattle.block_heap.proofs.SeatLemmas.{stop_above, done_of, drew}
@@ -286,6 +286,7 @@ refused_as bytes looks p q misses are = record {
   ];
   class = λ c least. are.class c least ∙ (misses.in_class c least).class_look.seen_is;
   free = λ small. let least = least_class bytes small in are.free small ∙ (misses.in_class least.0 least.1).free_look.seen_is;
+  three_looks = misses.three_looks;
   one_look = misses.one_look;
 }
 
@@ -322,3 +323,17 @@ pub refused_by : (bytes : ℕ) (looks : Looks) (answer : Option Block) (s seen t
 refused_by bytes looks answer s seen t same none answers runs keeps are =
     refuses bytes looks s t (subst (λ m. Misses bytes s.parts m.parts) (sym same) (subst (λ a. Answers bytes a s.parts seen.parts) none answers)) are
     (subst (λ m. Runs (seat_of s) (seat_of m)) (sym same) runs) (subst (λ m. KeepsWords (seat_of s) (seat_of m)) (sym same) keeps)
+
+-- and no own word is stored to
+pub refused_keeps : (bytes : ℕ) (looks : Looks) (answer : Option Block) (s seen t : SeqState) → t ≡ seen → answer ≡ None
+    → Answers bytes answer s.parts seen.parts → KeepsWords (seat_of s) (seat_of seen)
+    → KeepsOwn (seat_of s) (record (seat_of t) { refusals = t.refusals + 1; refused_bytes = bytes; refused_looks = looks })
+refused_keeps bytes looks answer s seen t same none answers keeps =
+    let misses : Misses bytes s.parts t.parts =
+    subst (λ m. Misses bytes s.parts m.parts) (sym same) (subst (λ a. Answers bytes a s.parts seen.parts) none answers) in
+    let kept : KeepsWords (seat_of s) (seat_of t) = subst (λ m. KeepsWords (seat_of s) (seat_of m)) (sym same) keeps in
+    record {
+      held = misses.held;
+      roots = kept.roots;
+      words = λ word own. let stays = kept.words word own in record { volatile = stays.volatile; durable = stays.durable };
+    }

@@ -3,9 +3,10 @@ use Rattle.std.proofs.Common.{◌≡◌, ◌≢◌, ℕ, ◌<◌, ◌≤◌, ◌
 use Rattle.std.proofs.lemmas.Bool.{cases_eq}
 use Rattle.std.proofs.lemmas.List.Elements.{Contains-append_left, Contains-append_right}
 use Rattle.heap_model.specs.declared.block.Block.{Block}
-use Rattle.heap_model.specs.Geometry.{lists, head_word, info_word}
+use Rattle.heap_model.specs.Geometry.{lists, head_word, info_word, anchor_word, link_word, largest_capacity_fits}
 use Rattle.heap_model.specs.Counting.{times}
 use Rattle.heap_model.specs.Sizes.{IsClass, blocks_of}
+use Rattle.heap_model.specs.Words.{head_pops}
 use Rattle.heap_model.specs.Chains.{Walks}
 use Rattle.heap_model.proofs.CountingLemmas.{one_if_true, times_some}
 use Rattle.heap_model.proofs.MemberLemmas.{in_head, in_rest, head_or_rest}
@@ -16,7 +17,7 @@ use Rattle.heap_shape.specs.Standing.{first_of, IsFirstOf, HoldsAt, HasOneOwner,
 use Rattle.heap_shape.specs.Whole.{IsShape}
 use Rattle.heap_shape.specs.Effects.{IsInSuperblock}
 use Rattle.heap_shape.proofs.BasicLemmas.{with_at_same, with_at_other, first_inside, inside_one, in_class_list, cached_of_class}
-use Rattle.line_memory.specs.View.{View, volatile_at}
+use Rattle.line_memory.specs.View.{View, word_count, volatile_at}
 use Rattle.anchor_word.specs.declared.anchor.Anchor.{Anchor}
 use Rattle.anchor_word.specs.declared.anchor.State.TheVariants.{Full}
 use Rattle.block_heap.specs.declared.cache.Cache.{Cache}
@@ -24,7 +25,7 @@ use Rattle.block_heap.specs.declared.small.CachePrefix.{CachePrefix}
 use Rattle.block_heap.specs.Batches.{IsGiven, IsGiveWord}
 use Rattle.block_heap.specs.Flush.{IsCachePrefix, KeepsAll}
 use Rattle.block_heap.specs.Links.{IsPushed, IsPushWord}
-use Rattle.block_heap.specs.Lists.{head_at, LeadsAlong, IsInList, KeepsFree}
+use Rattle.block_heap.specs.Lists.{head_at, LeadsAlong, IsInList, KeepsFree, KeepsList, CountsPops}
 use Rattle.block_heap.specs.Medium.{StoresOnly}
 use Rattle.block_heap.specs.Parts.{Parts, image_of, held_in, cache_at}
 use Rattle.block_heap.specs.Returns.{CachesAlong, CachesAllOf, Flushes, GivesInRuns, GivesPrefix, IsLongest, GivesTo}
@@ -32,7 +33,8 @@ use Rattle.block_heap.specs.Running.{IsRunning}
 use Rattle.block_heap.proofs.BlockRunLemmas.{cached_along, runs_none, runs_more}
 use Rattle.block_heap.proofs.FlushLemmas.{give_low, split, rest_long, prefix_fits, gave_listed, gave_shape, gave_fixed, listed_fixed, all_shape, some_shape}
 use Rattle.std.proofs.lemmas.List.{nil_from_length}
-use Rattle.block_heap.proofs.OrderLemmas.{in_list_along, in_list_has, list_kept, list_same}
+use Rattle.block_heap.proofs.OrderLemmas.{in_list_along, in_list_has, list_kept, list_same, listed_is, leads_same, pops_same, pops_then}
+use Rattle.block_heap.proofs.PushLemmas.{pushed_pops, words_inside}
 use Rattle.block_heap.proofs.SmallLemmas.{changed}
 use Rattle.block_heap.proofs.WalkLemmas.{walk_begin}
 
@@ -107,6 +109,14 @@ module _ (p : Parts) (class : ℕ) (is : IsClass class) (run : IsRunning p) (pre
           (listed_where p.capacity (image_of p) (held_in p) run.shape run.is class prefix.d below stands);
       only = λ d there. inl (list_kept (parts_with w) p 0 0 (run.shape.listed 0) (run.shape.listed 0) free_now free_leads (λ e has. has) d there);
       heads = λ c is_c other. head_given c (let last = is_c.last in omega arith);
+      lists = λ c is_c apart ds leads.
+          let less : c < lists = let last = is_c.last in omega arith in
+          subst (λ (es : List ℕ). LeadsAlong (parts_with w) c es) (listed_is p run c ds less leads)
+          ((gave_shape p class is run prefix is_prefix w anchor given stores other).follows c less);
+      pops = record {
+        class_head = let same = head_given class below in omega arith;
+        free_head = let same = head_given 0 (omega arith) in omega arith;
+      };
       infos = (gave_fixed p class is run prefix is_prefix w anchor given stores).infos;
     }
 
@@ -155,6 +165,29 @@ module _ (p : Parts) (class : ℕ) (is : IsClass class) (run : IsRunning p) (pre
         ])
         ∙ head_given c (let last = is_c.last in omega arith)
 
+    lists_kept : (list ≡ 0) ⊎ (list ≡ class) → (c : ℕ) → IsClass c → c ≢ class → KeepsList p (parts_with x) c
+    lists_kept at c is_c other ds leads =
+        let less : c < lists = let last = is_c.last in omega arith in
+        let apart : c ≢ list = λ e. let from = is_c.some in elim at as (λ _. ⊥) [ inl free ↦ omega arith | inr here ↦ other (omega arith) ] in
+        subst (λ (es : List ℕ). LeadsAlong (parts_with x) c es)
+        (with_at_other run.shape.listed list (prefix.d ∷ run.shape.listed list) c apart ∙ listed_is p run c ds less leads) (now_leads c less)
+
+    pops_stay : (l : ℕ) → l < lists → head_pops (volatile_at x (head_word l)) ≡ head_pops (image_of p (head_word l))
+    pops_stay l less =
+        let inside = words_inside p.capacity prefix.d list p.words run.words_open is_prefix.within list_below in
+        let long : word_count w ≡ word_count p.words = stores.words in
+        let small = run.is.small in
+        let under = is_prefix.within in
+        pushed_pops list prefix.d w x list_below (omega (arith, inside.0)) (omega (arith, inside.2))
+        (omega (arith, largest_capacity_fits)) pushed l less
+        ∙ ap head_pops (head_given l less)
+
+    pops_kept : CountsPops class 0 0 p (parts_with x)
+    pops_kept = record {
+      class_head = let same = pops_stay class below in omega arith;
+      free_head = let same = pops_stay 0 (omega arith) in omega arith;
+    }
+
     infos_kept : (d : ℕ) → d < p.capacity → volatile_at x (info_word d) ≡ image_of p (info_word d)
     infos_kept = (listed_fixed p class is run prefix is_prefix w anchor given stores full list x pushed push_stores list_below).infos
 
@@ -168,6 +201,8 @@ module _ (p : Parts) (class : ℕ) (is : IsClass class) (run : IsRunning p) (pre
       only = λ d there. elim (free_only d there) as (λ _. IsInList p 0 d ⊎ ((d ≡ prefix.d) × (prefix.batch.count ≡ blocks_of class)))
           [ inl before ↦ inl before | inr now ↦ inr (now.0, all.0) ];
       heads = heads_kept (inl all.1);
+      lists = lists_kept (inl all.1);
+      pops = pops_kept;
       infos = infos_kept;
     }
     listed_to (inr some) = record {
@@ -178,6 +213,8 @@ module _ (p : Parts) (class : ℕ) (is : IsClass class) (run : IsRunning p) (pre
       only = λ d there. elim (free_only d there) as (λ _. IsInList p 0 d ⊎ ((d ≡ prefix.d) × (prefix.batch.count ≡ blocks_of class)))
           [ inl before ↦ inl before | inr now ↦ absurd (let from = is.some in let same = some.1 in let zero = now.1 in omega arith) ];
       heads = heads_kept (inr some.1);
+      lists = lists_kept (inr some.1);
+      pops = pops_kept;
       infos = infos_kept;
     }
 
@@ -288,6 +325,8 @@ pub record FlushesSoFar (class : ℕ) (p q : Parts) : Type 0 where
   -- what is still in the cache, as runs, makes runs of all of it
   pub in_runs : (x : Parts) → GivesInRuns class q x → GivesInRuns class p x
   pub heads : (c : ℕ) → IsClass c → c ≢ class → head_at q c ≡ head_at p c
+  pub lists : (c : ℕ) → IsClass c → c ≢ class → KeepsList p q c
+  pub pops : CountsPops class 0 0 p q
   pub infos : (d : ℕ) → d < p.capacity → image_of q (info_word d) ≡ image_of p (info_word d)
   pub way : ((q.capacity ≡ p.capacity) × (q.words.volatile ≡ p.words.volatile) × (cache_at q.caches class ≡ cache_at p.caches class))
       ⊎ (((cache_at q.caches class).count < (cache_at p.caches class).count) × ((d : ℕ) → CachesAllOf class d p → IsInList q 0 d))
@@ -300,6 +339,8 @@ flushes_none class p = record {
   same_capacity = refl;
   in_runs = λ x back. back;
   heads = λ c is other. refl;
+  lists = λ c is other ds leads. leads;
+  pops = pops_same class p p refl;
   infos = λ d below. refl;
   way = inl (refl, refl, refl);
 }
@@ -343,6 +384,9 @@ module _ (class : ℕ) (p q r t : Parts) (is : IsClass class) (most : (cache_at 
     in_runs = λ x after. before.in_runs x (runs_more class q r t x capacity volatile cache is prefix longest gave now_capacity back after);
     heads = λ c is_c other.
         to.heads c is_c other ∙ ap (λ (xs : List ℕ). get_or xs (head_word c) 0) volatile ∙ before.heads c is_c other;
+    lists = λ c is_c other ds leads.
+        to.lists c is_c other ds (leads_same r q c ds (sym capacity) (sym volatile) (before.lists c is_c other ds leads));
+    pops = pops_then class 0 0 0 0 0 p q t refl before.pops (pops_then class 0 0 0 0 0 q r t refl (pops_same class q r volatile) to.pops);
     infos = λ d below.
         let inside : d < r.capacity = subst (λ n. d < n) (sym (capacity ∙ before.same_capacity)) below in
         to.infos d inside ∙ ap (λ (xs : List ℕ). get_or xs (info_word d) 0) volatile ∙ before.infos d below;
@@ -432,6 +476,8 @@ flushes_all class p q is run now held so_far keeps empty = record {
   empty = empty;
   caches = keeps.caches;
   heads = so_far.heads;
+  lists = so_far.lists;
+  pops = so_far.pops;
   infos = so_far.infos;
   free = so_far.free;
   listed = so_far.listed;

@@ -25,14 +25,14 @@ use Rattle.block_heap.specs.Medium.{StoresOnly}
 use Rattle.block_heap.specs.Parts.{Parts, image_of, held_in, cache_at}
 use Rattle.block_heap.specs.Running.{IsRunning, LeavesHeld, MakesLooks}
 use Rattle.block_heap.specs.Steps.{IsRefilling, Recycles, Spends}
-use Rattle.block_heap.specs.Lists.{head_at, IsEmptyList, LeadsAlong}
+use Rattle.block_heap.specs.Lists.{head_at, IsEmptyList, LeadsAlong, CountsPops}
 use Rattle.block_heap.specs.Order.{TakesAll, MovesEmpty}
-use Rattle.block_heap.proofs.OrderLemmas.{in_list_along, in_list_has, list_kept, same_cache}
+use Rattle.block_heap.proofs.OrderLemmas.{in_list_along, in_list_has, list_kept, listed_is, same_cache}
 use Rattle.block_heap.proofs.MediumLemmas.{stores_then, stores_more}
 use Rattle.block_heap.proofs.RunningLemmas.{set_is, settled_kept}
 use Rattle.block_heap.proofs.SpendLemmas.{spends_by}
 use Rattle.block_heap.proofs.LookLemmas.{IsNextLook, looked_at_head}
-use Rattle.block_heap.proofs.RefillLemmas.{IsMoved, a_head, an_anchor, a_link, moved_info, moved_used, moved_inside, leaves_held_moved, IsMade, made, caches_filled, caches_other, sizes_kept, none_cached, pop_moved, popped_head, popped_of, popped_pops, popped_list, popped_place}
+use Rattle.block_heap.proofs.RefillLemmas.{IsMoved, a_head, an_anchor, a_link, moved_info, moved_used, moved_inside, leaves_held_moved, IsMade, made, caches_filled, caches_other, sizes_kept, none_cached, pop_moved, popped_head, popped_of, popped_pops, popped_count, popped_list, popped_place}
 
 module _ (p : Parts) (class d : ℕ) (popped : Popped) (w : View) (look : Look) (run : IsRunning p) (is : IsClass class)
     (pop : IsPopped class popped p.words w)
@@ -155,6 +155,10 @@ module _ (p : Parts) (class d : ℕ) (popped : Popped) (w : View) (look : Look) 
             take_moved.volatile used_word (λ m. moved_used p.capacity used_word m refl) in let least = run.few in omega arith;
       }
 
+      -- its list is shorter by it, and the others stay
+      taken_list : (list : ℕ) (ds : List ℕ) → list < lists → with_at run.shape.listed class rest list ≡ ds → LeadsAlong taken_parts list ds
+      taken_list list ds less is_ds = subst (λ (es : List ℕ). LeadsAlong taken_parts list es) is_ds (made_taken.is.follows list less)
+
       pub taken_refilling : IsRefilling class p taken_parts
       taken_refilling = record {
         running = made p taken_parts shape run made_taken;
@@ -163,6 +167,9 @@ module _ (p : Parts) (class d : ℕ) (popped : Popped) (w : View) (look : Look) 
         heads = λ c is_c other.
             take_stores.volatile (head_word c) (λ e. let last = is_c.last in omega arith)
             ∙ pop_stores.volatile (head_word c) (λ e. other (omega arith));
+        lists = λ c is_c other ds leads.
+            let less : c < lists = let last = is_c.last in omega arith in
+            taken_list c ds less (with_at_other run.shape.listed class rest c other ∙ listed_is p run c ds less leads);
         drains = take_drains p.capacity class d (image_of p) (λ word. volatile_at w word) (image_of taken_parts)
             (held_in p) run.shape rest is run.is listed
             (popped_of p class popped w run below pop pop_stores d some) anchor_set;
@@ -179,10 +186,6 @@ module _ (p : Parts) (class d : ℕ) (popped : Popped) (w : View) (look : Look) 
           let count = cache_count in
           let free = stands.some in
           (subst (λ (x : Cache). 1 ≤ x.count) (sym now) (omega arith), first_some)
-
-      -- its list is shorter by it, and the free list stays
-      taken_list : (list : ℕ) (ds : List ℕ) → list < lists → with_at run.shape.listed class rest list ≡ ds → LeadsAlong taken_parts list ds
-      taken_list list ds less is_ds = subst (λ (es : List ℕ). LeadsAlong taken_parts list es) is_ds (made_taken.is.follows list less)
 
       free_stays : LeadsAlong taken_parts 0 (run.shape.listed 0)
       free_stays = taken_list 0 (run.shape.listed 0) (omega arith) (with_at_other run.shape.listed class rest 0 (λ e. let from = is.some in
@@ -212,6 +215,14 @@ module _ (p : Parts) (class d : ℕ) (popped : Popped) (w : View) (look : Look) 
         };
         frees = λ fs leads. subst (λ xs. LeadsAlong taken_parts 0 xs) (free_one fs leads) free_stays;
         free = list_kept p taken_parts 0 0 (run.shape.listed 0) (run.shape.listed 0) (run.is.follows 0 (omega arith)) free_stays (λ e has. has);
+        pops = record {
+          class_head = ap head_pops (take_stores.volatile (head_word class) (λ e. let last = is.last in omega arith))
+              ∙ popped_count p class popped w run below pop pop_stores d some;
+          free_head =
+              let same : volatile_at u (head_word 0) ≡ image_of p (head_word 0) =
+              take_stores.volatile (head_word 0) (λ e. omega arith) ∙ pop_stores.volatile (head_word 0) (λ e. let from = is.some in omega arith) in
+              omega arith;
+        };
         taken = refl;
       }
 
@@ -343,9 +354,37 @@ module _ (p : Parts) (class d : ℕ) (popped : Popped) (w : View) (look : Look) 
               ])
               ∙ take_stores.volatile (head_word c) (λ e. let last = is_c.last in omega arith)
               ∙ pop_stores.volatile (head_word c) (λ e. other (omega arith));
+          lists = λ c is_c other ds leads.
+              let less : c < lists = let last = is_c.last in omega arith in
+              let same : shape_then.listed c ≡ ds =
+              with_at_other (with_at run.shape.listed class rest) 0 (d ∷ run.shape.listed 0) c (λ e. let from = is_c.some in omega arith)
+              ∙ with_at_other run.shape.listed class rest c other ∙ listed_is p run c ds less leads in
+              subst (λ (es : List ℕ). LeadsAlong recycled c es) same (made_recycled.is.follows c less);
           drains = recycle_drains p.capacity class d (image_of p) (λ word. volatile_at w word) (image_of recycled)
               (held_in p) run.shape rest is run.is listed
               (popped_of p class popped w run below pop pop_stores d some) pushed_on;
+        }
+
+        -- its head counts the pop, and that of the free list counts none
+        recycled_pops : CountsPops class 1 0 p recycled
+        recycled_pops = record {
+          class_head =
+              ap head_pops (push_stores.volatile (head_word class) (λ t. elim t as (λ _. ⊥) [
+                | inl e ↦ let from = is.some in omega arith
+                | inr e ↦ let last = is.last in omega arith
+              ]) ∙ take_stores.volatile (head_word class) (λ e. let last = is.last in omega arith))
+              ∙ popped_count p class popped w run below pop pop_stores d some;
+          free_head =
+              let set_to : volatile_at v (head_word 0) ≡ head_of (d + 1) (head_pops (volatile_at u (head_word 0))) =
+              ap (λ (xs : List ℕ). get_or xs (head_word 0) 0) pushed.words
+              ∙ get_or-set_same linked (head_word 0) (head_of (d + 1) (head_pops (volatile_at u (head_word 0)))) 0
+              (let same = long in let wide = run.words_open.long in let kept =
+              length-set u.volatile (link_word d) (head_first (volatile_at u (head_word 0))) in omega arith) in
+              let same : volatile_at u (head_word 0) ≡ image_of p (head_word 0) =
+              take_stores.volatile (head_word 0) (λ e. omega arith) ∙ pop_stores.volatile (head_word 0) (λ e. let from = is.some in omega arith) in
+              let small = first_within in
+              let few = run.is.small in
+              omega (arith, largest_capacity_fits);
         }
 
         -- its list is shorter by it
@@ -423,6 +462,7 @@ module _ (p : Parts) (class d : ℕ) (popped : Popped) (w : View) (look : Look) 
               ];
           free = list_kept p recycled 0 0 (run.shape.listed 0) (d ∷ run.shape.listed 0) (run.is.follows 0 (omega arith)) free_leads
               (λ e. in_rest d e (run.shape.listed 0));
+          pops = recycled_pops;
         }
 
         -- the free list is longer by it

@@ -18,17 +18,24 @@ abbrev pub AreLinked : ℕ → ℕ → ℕ → ℕ → View → Type 0
 AreLinked capacity class d count w = (k : ℕ) → k + 1 < count
     → volatile_at w (start_word capacity d + k * words_of_class class) ≡ start_word capacity d + (k + 1) * words_of_class class
 
--- so many blocks of the superblock were chained, one step for each but the last
+-- the first word of one of the first `count` blocks of superblock d, but of the last of them
+abbrev pub IsLinkedWord : ℕ → ℕ → ℕ → ℕ → ℕ → Type 0
+IsLinkedWord capacity class d count word = (k : ℕ) × (k + 1 < count) × (word ≡ start_word capacity d + k * words_of_class class)
+
+-- so many blocks of the superblock were chained, one step for each but the last, and every other word stays
 pub record AreInOneChain (capacity class d count : ℕ) (v w : View) : Type 0 where
   pub open_still : IsOpen capacity w
   pub drawn : w.drawn + 1 ≡ v.drawn + count
   pub stores : StoresOnly (IsInSuperblock capacity d) v w
   pub linked : AreLinked capacity class d count w
+  pub rest : (word : ℕ) → (IsLinkedWord capacity class d count word → ⊥) → volatile_at w word ≡ volatile_at v word
 
--- the superblock has the class, durably, and its blocks are in one chain that belongs to nobody
+-- the superblock has the class, durably, and its blocks are in one chain that belongs to nobody; its other words stay
 pub record IsDivided (capacity class d : ℕ) (v w : View) : Type 0 where
   pub runs_within : RunsWithin most_cut_draws v w
   pub info : volatile_at w (info_word d) ≡ class
   pub info_durable : durable_at w (info_word d) ≡ class
   pub anchor : volatile_at w (anchor_word d) ≡ full_anchor
   pub linked : AreLinked capacity class d (blocks_of class) w
+  pub rest : (word : ℕ) → IsInSuperblock capacity d word → (IsLinkedWord capacity class d (blocks_of class) word → ⊥)
+      → volatile_at w word ≡ volatile_at v word

@@ -6,6 +6,7 @@ pub mod Begun
 pub mod BlockRunExamples
 pub mod BlockRuns
 pub mod Closing
+pub mod CountExamples
 pub mod Divide
 pub mod Draws
 pub mod Examples

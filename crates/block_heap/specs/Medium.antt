@@ -16,6 +16,10 @@ pub record StoresOnly (to : ℕ → Type 0) (v w : View) : Type 0 where
   pub durable : (word : ℕ) → (to word → ⊥) → IsValueOf v word (durable_at w word)
   pub pending : (word : ℕ) → (to word → ⊥) → StaysPending v w word
 
+-- one step, which stored nothing
+abbrev pub LooksOnce : View → View → Type 0
+LooksOnce v w = StoresOnly (λ _. ⊥) v w × (w.drawn ≡ v.drawn + 1)
+
 -- the steps were done: they drew at least one ticket and at most so many, all below the budget
 pub record RunsWithin (most : ℕ) (v w : View) : Type 0 where
   pub running : w.stopped ≡ None
@@ -32,28 +36,33 @@ pub record StopsWithin (ticket most : ℕ) (v w : View) : Type 0 where
   pub last : w.drawn ≡ ticket + 1
   pub few : w.drawn ≤ v.drawn + most
 
+-- the value of the word was loaded, and nothing stored
 pub record IsLoaded (word value : ℕ) (v w : View) : Type 0 where
   pub runs_within : RunsWithin 1 v w
   pub seen : value ≡ volatile_at v word
   pub volatile : w.volatile ≡ v.volatile
   pub pending : w.pending ≡ v.pending
 
+-- the value was stored to the word, and to no other
 pub record IsStored (word value : ℕ) (v w : View) : Type 0 where
   pub runs_within : RunsWithin 1 v w
   pub volatile : w.volatile ≡ slice_set v.volatile word value
   pub pending : (other : ℕ) → other ≢ word → IsPending v other → IsPending w other
 
+-- the line of the word was written back: its words are pending
 pub record IsWritten (word : ℕ) (v w : View) : Type 0 where
   pub runs_within : RunsWithin 1 v w
   pub volatile : w.volatile ≡ v.volatile
   pub line : (other : ℕ) → other < word_count v → line_of other ≡ line_of word → IsPending w other
   pub pending : (other : ℕ) → IsPending v other → IsPending w other
 
+-- the fence was done: each word that was pending is durable
 pub record IsFenced (v w : View) : Type 0 where
   pub runs_within : RunsWithin 1 v w
   pub volatile : w.volatile ≡ v.volatile
   pub durable : (word : ℕ) → IsPending v word → durable_at w word ≡ volatile_at w word
 
+-- the value was stored to the word and is durable
 pub record IsPersisted (word value : ℕ) (v w : View) : Type 0 where
   pub runs_within : RunsWithin 3 v w
   pub volatile : w.volatile ≡ slice_set v.volatile word value

@@ -4,7 +4,7 @@ use Rattle.heap_model.specs.Counting.{one_if}
 use Rattle.heap_model.specs.Geometry.{used_word, start_word}
 use Rattle.heap_model.specs.Sizes.{words_of_class, blocks_of}
 use Rattle.block_heap.specs.Divide.{IsDivided}
-use Rattle.block_heap.specs.Parts.{Parts, image_of, held_in, cache_at}
+use Rattle.block_heap.specs.Parts.{Parts, OnlyLooks, image_of, held_in, cache_at}
 use Rattle.block_heap.specs.Lists.{IsEmptyList, head_at}
 use Rattle.block_heap.specs.Steps.{FindsEmpty, IsLook, look_at, Spends}
 use Rattle.block_heap.specs.Serving.{HasRoom, FindsNone}
@@ -31,7 +31,7 @@ FindsPartial class false p q = ((cache_at q.caches class).count ≡ 0)
     × (IsEmptyList q class × IsLook p.words.drawn q (look_at q class) (head_at q class))
     × (image_of q used_word ≡ image_of p used_word)
     × (IsEmptyList q 0 → IsEmptyList p 0 × IsEmptyList p class)
-    × (IsEmptyList p class → q.words.volatile ≡ p.words.volatile)
+    × (IsEmptyList p class → OnlyLooks 1 p q)
 
 -- from the free list, or that is empty, as few steps tell
 abbrev pub FindsFree : ℕ → Bool → Parts → Parts → Type 0
@@ -43,7 +43,7 @@ abbrev pub FindsFresh : ℕ → Bool → Parts → Parts → Type 0
 FindsFresh class true p q = (1 ≤ (cache_at q.caches class).count) × (image_of p used_word + 1 ≤ p.capacity)
 FindsFresh class false p q = ((cache_at q.caches class).count ≡ 0) × (p.capacity < image_of p used_word + 1)
     × (q.words.volatile ≡ p.words.volatile) × IsLook p.words.drawn q q.used_look (image_of q used_word)
-    × (q.head_looks ≡ p.head_looks) × (q.taken ≡ p.taken)
+    × (q.head_looks ≡ p.head_looks) × (q.taken ≡ p.taken) × OnlyLooks 1 p q
 
 -- from one of these, or there is no room
 abbrev pub Refills : ℕ → Bool → Parts → Parts → Type 0

@@ -1,15 +1,18 @@
 -- Where freed blocks go.
-use Rattle.std.specs.Prelude.{◌≡◌, ◌≢◌, ℕ, ◌+◌, ◌<◌, ◌⊎◌, List, ◌++◌, length, slice_set, Contains}
+use Rattle.std.specs.Prelude.{◌≡◌, ◌≢◌, ℕ, ◌+◌, ◌*◌, ◌<◌, ◌⊎◌, List, [], ◌∷◌, ◌++◌, length, slice_set, Contains}
 use Rattle.heap_model.specs.declared.block.Block.{Block}
-use Rattle.heap_model.specs.Geometry.{info_word}
+use Rattle.heap_model.specs.Geometry.{head_word, info_word, anchor_word, link_word, start_word, superblock_words}
+use Rattle.heap_model.specs.Image.{words_from}
 use Rattle.heap_model.specs.Sizes.{IsClass, blocks_of, words_of_class}
+use Rattle.heap_model.specs.Words.{head_pops}
 use Rattle.heap_model.specs.Recovered.{HasPartIn}
 use Rattle.heap_model.specs.Chains.{Walks}
 use Rattle.heap_shape.specs.Standing.{IsFirstOf}
 use Rattle.heap_shape.specs.Effects.{IsInSuperblock}
 use Rattle.block_heap.specs.declared.small.CachePrefix.{CachePrefix}
 use Rattle.block_heap.specs.BlockRuns.{BlockRun, IsRunOf, AreRunsOf, GivesRun, GivesRuns}
-use Rattle.block_heap.specs.Lists.{head_at, IsInList, KeepsFree}
+use Rattle.block_heap.specs.Lists.{head_at, IsInList, KeepsFree, KeepsList, CountsPops}
+use Rattle.block_heap.specs.Order.{Frees}
 use Rattle.block_heap.specs.Parts.{Parts, image_of, cache_at}
 
 -- the cache of the class leads along these blocks
@@ -43,13 +46,16 @@ pub record GivesInRuns (class : ℕ) (p q : Parts) : Type 0 where
   pub gives : GivesRuns p.capacity class runs (image_of p) (image_of q)
 
 -- the cache was given back, so that a superblock of each of its blocks is in the list of the class or in the free list:
--- it came to the free list exactly where the cache had exactly its blocks, and no list loses one
+-- it came to the free list exactly where the cache had exactly its blocks, and no list loses one; the lists of the other
+-- classes stay, and no pop is counted
 pub record Flushes (class : ℕ) (p q : Parts) : Type 0 where
   pub capacity : q.capacity ≡ p.capacity
   pub in_runs : GivesInRuns class p q
   pub empty : (cache_at q.caches class).count ≡ 0
   pub caches : (c : ℕ) → IsClass c → c ≢ class → cache_at q.caches c ≡ cache_at p.caches c
   pub heads : (c : ℕ) → IsClass c → c ≢ class → head_at q c ≡ head_at p c
+  pub lists : (c : ℕ) → IsClass c → c ≢ class → KeepsList p q c
+  pub pops : CountsPops class 0 0 p q
   pub infos : (d : ℕ) → d < p.capacity → image_of q (info_word d) ≡ image_of p (info_word d)
   pub free : KeepsFree p q
   pub listed : (d : ℕ) → IsInList p class d → IsInList q class d
@@ -70,7 +76,13 @@ pub record FreesSmall (class word : ℕ) (p r : Parts) : Type 0 where
   pub all : (d : ℕ) → IsFirstOf p.capacity class d word → (cache_at p.caches class).count + 1 ≡ blocks_of class
       → CachesOnlyOf class d p → IsInList r 0 d
 
--- the superblocks of a freed large block came to the free list, and no others: each keeps its info until it is cut again
+-- a word that the free of a large block changes: the head of the free list, the anchor or the link of one of its superblocks
+abbrev pub IsFreedWord : ℕ → Block → ℕ → Type 0
+IsFreedWord capacity b word = (word ≡ head_word 0)
+    ⊎ ((d : ℕ) × HasPartIn capacity b d × ((word ≡ anchor_word d) ⊎ (word ≡ link_word d)))
+
+-- the superblocks of a freed large block came to the free list one after another, and no others: each keeps its info until
+-- it is cut again; their anchors are 0, no pop is counted, and no other word is changed
 pub record FreesLarge (b : Block) (p q : Parts) : Type 0 where
   pub all : (d : ℕ) → HasPartIn p.capacity b d → IsInList q 0 d
   pub only : (d : ℕ) → IsInList q 0 d → IsInList p 0 d ⊎ HasPartIn p.capacity b d
@@ -78,6 +90,12 @@ pub record FreesLarge (b : Block) (p q : Parts) : Type 0 where
   pub heads : (class : ℕ) → IsClass class → head_at q class ≡ head_at p class
   pub infos : (d : ℕ) → d < p.capacity → image_of q (info_word d) ≡ image_of p (info_word d)
   pub caches : q.caches ≡ p.caches
+  pub in_order : (first count : ℕ) → b.first_word ≡ start_word p.capacity first → b.words ≡ superblock_words * count
+      → Frees (words_from (λ d. d) first count) p q
+  pub lists : (class : ℕ) → IsClass class → KeepsList p q class
+  pub anchors : (d : ℕ) → HasPartIn p.capacity b d → image_of q (anchor_word d) ≡ 0
+  pub pops : head_pops (head_at q 0) ≡ head_pops (head_at p 0)
+  pub others : (word : ℕ) → (IsFreedWord p.capacity b word → ⊥) → image_of q word ≡ image_of p word
 
 -- where a freed block goes, by its size
 pub record ComesBack (b : Block) (p q : Parts) : Type 0 where
@@ -105,12 +123,19 @@ pub record GivesTo (class : ℕ) (prefix : CachePrefix) (p q : Parts) : Type 0 w
   pub some : prefix.batch.count ≢ blocks_of class → IsInList q class prefix.d
   pub only : (d : ℕ) → IsInList q 0 d → IsInList p 0 d ⊎ ((d ≡ prefix.d) × (prefix.batch.count ≡ blocks_of class))
   pub heads : (c : ℕ) → IsClass c → c ≢ class → head_at q c ≡ head_at p c
+  pub lists : (c : ℕ) → IsClass c → c ≢ class → KeepsList p q c
+  pub pops : CountsPops class 0 0 p q
   pub infos : (d : ℕ) → d < p.capacity → image_of q (info_word d) ≡ image_of p (info_word d)
 
--- superblock d came to the free list: the lists of the classes and all infos stay
+-- superblock d came to the front of the free list: the lists of the classes and all other words stay
 pub record FreesOne (d : ℕ) (p q : Parts) : Type 0 where
   pub freed : IsInList q 0 d
   pub only : (e : ℕ) → IsInList q 0 e → IsInList p 0 e ⊎ (e ≡ d)
   pub free : KeepsFree p q
   pub heads : (class : ℕ) → IsClass class → head_at q class ≡ head_at p class
   pub infos : (e : ℕ) → image_of q (info_word e) ≡ image_of p (info_word e)
+  pub first : Frees (d ∷ []) p q
+  pub lists : (class : ℕ) → IsClass class → KeepsList p q class
+  pub anchor : image_of q (anchor_word d) ≡ 0
+  pub pops : head_pops (head_at q 0) ≡ head_pops (head_at p 0)
+  pub others : (word : ℕ) → word ≢ head_word 0 → word ≢ anchor_word d → word ≢ link_word d → image_of q word ≡ image_of p word

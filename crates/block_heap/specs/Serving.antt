@@ -8,9 +8,10 @@ use Rattle.heap_at_rest.specs.Draining.{IsToDrain, IsDrainable}
 use Rattle.heap_seat.specs.declared.fault.Looks.{Looks}
 use Rattle.block_heap.specs.Accounts.{AreAccounted}
 use Rattle.heap_seat.specs.Alloc.{IsSizeFor}
-use Rattle.block_heap.specs.Parts.{Parts, image_of, held_in, cache_at}
+use Rattle.block_heap.specs.Parts.{Parts, OnlyLooks, image_of, held_in, cache_at}
 use Rattle.block_heap.specs.Running.{IsRunning, CachesAreShort}
 use Rattle.block_heap.specs.Lists.{head_at, IsEmptyList}
+use Rattle.block_heap.specs.Large.{joined_words}
 use Rattle.block_heap.specs.Steps.{look_at, IsLook, Spends}
 use Rattle.block_heap.specs.Draws.{most_join_draws, most_small_draws}
 
@@ -46,13 +47,18 @@ pub record FindsNone (class : ℕ) (p q : Parts) : Type 0 where
   pub none : HasRoom p class → ⊥
   pub empty : (cache_at q.caches class).count ≡ 0
   pub taken : q.taken ≡ p.taken
+  pub only : OnlyLooks 3 p q
 
--- the block of a large request is of the first superblocks that were never taken, just as many as it needs, and costs few tickets
+-- the block of a large request is of the first superblocks that were never taken, just as many as it needs, and costs few
+-- tickets: two words change, so lists and their heads stay, and so do caches
 pub record JoinsFresh (bytes : ℕ) (p q : Parts) : Type 0 where
   pub few : q.words.drawn ≤ p.words.drawn + most_join_draws
   pub taken : q.taken ≡ p.taken + span_of bytes
+  pub volatile : q.words.volatile ≡ joined_words (span_of bytes) p
+  pub caches : q.caches ≡ p.caches
   pub held : Contains (held_in q) (record { first_word = start_word p.capacity (image_of p used_word); words = superblock_words * span_of bytes })
 
+-- so is a large request that is answered served
 abbrev pub ServesLarge : ℕ → Parts → Parts → Type 0
 ServesLarge bytes p q = largest_small < bytes → JoinsFresh bytes p q
 
@@ -84,8 +90,10 @@ pub record MissesInClass (class : ℕ) (p q : Parts) : Type 0 where
   pub taken : q.taken ≡ p.taken
   pub none : HasRoom p class → ⊥
   pub looked : LookedInClass class p.words.drawn q
+  pub only : OnlyLooks 3 p q
   pub accounted : AreAccounted p → AreAccounted q
 
+-- a request of the class got the block
 pub record GetsInClass (class : ℕ) (b : Block) (p q : Parts) : Type 0 where
   pub running : IsRunning q
   pub short : CachesAreShort q 0
@@ -95,6 +103,7 @@ pub record GetsInClass (class : ℕ) (b : Block) (p q : Parts) : Type 0 where
   pub room : HasRoom p class
   pub accounted : AreAccounted p → AreAccounted q
 
+-- the answer to a request of the class
 abbrev pub AnswersInClass : ℕ → Option Block → Parts → Parts → Type 0
 AnswersInClass class answer p q = MatchOption answer (MissesInClass class p q) (λ b. GetsInClass class b p q)
 
@@ -121,7 +130,8 @@ pub record Misses (bytes : ℕ) (p q : Parts) : Type 0 where
   pub none : HasRoomFor p bytes → ⊥
   pub in_class : (class : ℕ) → IsLeastClassFor bytes class → LookedInClass class p.words.drawn q
   pub at_used : largest_small < bytes → LookedAtUsed (span_of bytes) p.words.drawn q
-  pub one_look : largest_small < bytes → q.words.drawn ≡ p.words.drawn + 1
+  pub three_looks : bytes ≤ largest_small → OnlyLooks 3 p q
+  pub one_look : largest_small < bytes → OnlyLooks 1 p q
   pub accounted : AreAccounted p → AreAccounted q
 
 -- the answer to a request
@@ -135,10 +145,12 @@ pub record IsLooksOf (bytes : ℕ) (looks : Looks) (p : Parts) : Type 0 where
   pub free : bytes ≤ largest_small → looks.free_head ≡ (look_at p 0).seen
   pub large : largest_small < bytes → (looks.class_head ≡ 0) × (looks.free_head ≡ 0)
 
--- a refusal: there was no room, each look is the word as it is, and a large request makes one step, its look at `used`
+-- a refusal: there was no room, each look is the word as it is, and nothing else was done: a request of a class looks at
+-- its list, at the free list and at `used`, and a large one at `used` alone
 pub record RefusesAs (bytes : ℕ) (looks : Looks) (p q : Parts) : Type 0 where
   pub none : HasRoomFor p bytes → ⊥
   pub used : looks.used ≡ image_of q used_word
   pub class : (class : ℕ) → IsLeastClassFor bytes class → looks.class_head ≡ head_at q class
   pub free : bytes ≤ largest_small → looks.free_head ≡ head_at q 0
-  pub one_look : largest_small < bytes → q.words.drawn ≡ p.words.drawn + 1
+  pub three_looks : bytes ≤ largest_small → OnlyLooks 3 p q
+  pub one_look : largest_small < bytes → OnlyLooks 1 p q

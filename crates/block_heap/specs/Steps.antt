@@ -8,8 +8,8 @@ use Rattle.heap_shape.specs.Draining.{DrainsSame, DrainsOne}
 use Rattle.heap_seat.specs.declared.look.Look.{Look}
 use Rattle.block_heap.specs.declared.refill.Found.{Found}
 use Rattle.block_heap.specs.declared.refill.Found.TheVariants.{Blocks, Recycled, Nothing}
-use Rattle.block_heap.specs.Parts.{Parts, image_of, held_in, cache_at, head_look}
-use Rattle.block_heap.specs.Lists.{head_at, IsEmptyList, LeadsAlong}
+use Rattle.block_heap.specs.Parts.{Parts, OnlyLooks, image_of, held_in, cache_at, head_look}
+use Rattle.block_heap.specs.Lists.{head_at, IsEmptyList, LeadsAlong, KeepsList}
 use Rattle.block_heap.specs.Running.{IsRunning}
 
 -- no more superblocks than n are left that the class may be filled from: those in its list, the free ones, and those that were never taken
@@ -27,6 +27,7 @@ used_up Blocks = 1
 used_up Recycled = 0
 used_up Nothing = 0
 
+-- the last look at the head of a list
 abbrev pub look_at : Parts → ℕ → Look
 look_at p list = head_look p.head_looks list
 
@@ -46,11 +47,13 @@ pub record IsRefilling (class : ℕ) (p q : Parts) : Type 0 where
   pub held : held_in q ≡ held_in p
   pub caches : (c : ℕ) → IsClass c → c ≢ class → cache_at q.caches c ≡ cache_at p.caches c
   pub heads : (c : ℕ) → IsClass c → c ≢ class → head_at q c ≡ head_at p c
+  pub lists : (c : ℕ) → IsClass c → c ≢ class → KeepsList p q c
   pub drains : DrainsSame p.capacity class (held_in p) (image_of p) (image_of q)
 
--- the list was found empty, and nothing was stored
+-- the list was found empty by one step, and nothing was stored
 pub record FindsEmpty (list : ℕ) (p q : Parts) : Type 0 where
   pub empty : IsEmptyList p list
+  pub only : OnlyLooks 1 p q
   pub volatile : q.words.volatile ≡ p.words.volatile
   pub look : IsLook p.words.drawn q (look_at q list) (head_at q list)
   pub others : (other : ℕ) → other ≢ list → look_at q other ≡ look_at p other

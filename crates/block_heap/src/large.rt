@@ -6,7 +6,7 @@ use line_memory::{Chance, Stopped};
 use super_block::{FREE_LIST, SUPERBLOCK_WORDS};
 
 impl<C: Chance> Arena<C> {
-    ghost use Rattle.std.specs.Prelude.{◌≡◌, ◌≢◌, ℕ, ◌+◌, ◌*◌, ◌<◌, ◌≤◌, Contains, IfOk, OnOk, IfErr, OnErr, None};
+    ghost use Rattle.std.specs.Prelude.{◌≡◌, ◌≢◌, ℕ, ◌+◌, ◌*◌, ◌<◌, ◌≤◌, Contains, IfOk, OnOk, IfErr, OnErr};
     ghost use Rattle.heap_model.specs.Geometry.{superblock_words, start_word, largest_capacity};
     ghost use Rattle.heap_model.specs.Sizes.{IsClass, words_of_class};
     ghost use Rattle.heap_shape.specs.Moves.{TakesFrom};
@@ -24,8 +24,6 @@ impl<C: Chance> Arena<C> {
         requires running { IsRunning (parts_of self.old) }
         ensures ok { IfOk result (λ answer. JoinsAs count answer
             (parts_of self.old) (parts_of self.new)) }
-        ensures one_look { IfOk result (λ answer. answer ≡ None
-            → (parts_of self.new).words.drawn ≡ (parts_of self.old).words.drawn + 1) }
         ensures running { OnOk result (IsRunning (parts_of self.new)) }
         ensures runs_within { OnOk result (RunsWithin most_join_draws
             (parts_of self.old).words (parts_of self.new).words) }

@@ -11,11 +11,11 @@ pub(crate) struct Popped {
 }
 
 impl<C: Chance> Medium<C> {
-    ghost use Rattle.std.specs.Prelude.{◌≡◌, ◌<◌, IfOk, OnOk, IfErr};
+    ghost use Rattle.std.specs.Prelude.{◌≡◌, ◌<◌, IfOk, OnOk, IfErr, None};
     ghost use Rattle.heap_model.specs.Geometry.{lists, head_word};
     ghost use Rattle.line_memory.specs.View.{volatile_at};
     ghost use Rattle.block_heap.specs.MediumView.{medium_view};
-    ghost use Rattle.block_heap.specs.Medium.{StoresOnly, StopsWithin};
+    ghost use Rattle.block_heap.specs.Medium.{StoresOnly, StopsWithin, LooksOnce};
     ghost use Rattle.block_heap.specs.Links.{IsOpen, IsHead, IsPopped, IsPushed, IsPushWord};
 
     /// Takes the first descriptor off the list.
@@ -26,6 +26,8 @@ impl<C: Chance> Medium<C> {
             (volatile_at (medium_view self.old) (head_word list)) }
         ensures ok { IfOk result (λ popped. IsPopped list popped
             (medium_view self.old) (medium_view self.new)) }
+        ensures one_look { IfOk result (λ popped. popped.first ≡ None
+            → LooksOnce (medium_view self.old) (medium_view self.new)) }
         ensures stopped { IfErr result (λ e. StopsWithin e.step 3
             (medium_view self.old) (medium_view self.new)) }
         ensures others { StoresOnly (λ word. word ≡ head_word list)

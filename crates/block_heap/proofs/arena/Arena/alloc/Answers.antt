@@ -38,13 +38,11 @@ returns-in-None-clause-ok g c =
     let large : largest_small < c.args.asked.bytes = c.args.asked.unserved c.in-None.is in
     let joins : IfOk c.alloc_large.result (λ answer. JoinsAs (span_of c.args.asked.bytes) answer p q) =
     subst (λ (count : ℕ). IfOk c.alloc_large.result (λ answer. JoinsAs count answer p q)) c.span_of.ensures c.alloc_large.ensures.ok in
-    let one : Option Block → Type 0 = λ answer. answer ≡ None → q.words.drawn ≡ p.words.drawn + 1 in
-    both_ok c.alloc_large.result (λ answer. JoinsAs (span_of c.args.asked.bytes) answer p q × one answer)
+    both_ok c.alloc_large.result (λ answer. JoinsAs (span_of c.args.asked.bytes) answer p q)
     (λ answer. Answers c.args.asked.bytes answer p q)
     (IsRunning q × ((AreAccounted p → AreAccounted q) × RunsWithin most_join_draws p.words q.words))
-    (λ answer join runs. answers_large c.args.asked.bytes answer p q large c.requires.short join.0 runs.0 runs.1.0 c.alloc_large.ensures.caches
-    c.alloc_large.ensures.leaves_held.capacity join.1 runs.1.1.few)
-    (if_ok_both c.alloc_large.result (λ answer. JoinsAs (span_of c.args.asked.bytes) answer p q) one joins c.alloc_large.ensures.one_look)
+    (λ answer join runs. answers_large c.args.asked.bytes answer p q large c.requires.short join runs.0 runs.1.0 c.alloc_large.ensures.caches
+    c.alloc_large.ensures.leaves_held.capacity runs.1.1.few) joins
     (on_ok_both c.alloc_large.result (IsRunning q) ((AreAccounted p → AreAccounted q)
     × RunsWithin most_join_draws p.words q.words) c.alloc_large.ensures.running
     (on_ok_both c.alloc_large.result (AreAccounted p → AreAccounted q) (RunsWithin most_join_draws p.words q.words) c.alloc_large.ensures.accounted

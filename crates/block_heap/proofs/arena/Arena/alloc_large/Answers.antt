@@ -2,7 +2,7 @@ use Rattle.heap_model.specs.Geometry.{largest_capacity_fits}
 use Rattle.std.proofs.Common.{arith, ap, ◌∙◌, Some}
 use Rattle.block_heap.specs.Parts.{parts_of}
 use Rattle.block_heap.specs.MediumView.{medium_view}
-use Rattle.block_heap.proofs.AllocLargeLemmas.{large_stops, running_looked, taken_fits, fresh_unmarked, join_leaves_held, join_running, join_answers, join_accounted, leaves_held_looked, looked_accounted}
+use Rattle.block_heap.proofs.AllocLargeLemmas.{large_stops, running_looked, taken_fits, fresh_unmarked, join_leaves_held, join_running, join_answers, join_accounted, leaves_held_looked, looked_accounted, looked_joins}
 use Rattle.block_heap.proofs.arena.Arena.alloc_large.Goals as goal
 
 pub returns-in_default-clause-running : goal.returns-in_default-clause-running
@@ -85,5 +85,9 @@ returns-in_err-fresh-clause-leaves_held g c =
     c.requires.running c.take_fresh.ensures.others c.take_fresh.ensures.crash
     c.take_fresh.ensures.fits
 
-pub returns-in_default-clause-one_look : goal.returns-in_default-clause-one_look
-returns-in_default-clause-one_look g c = λ none. c.in_ok-fresh.ensures.one_look c.in_default.is
+pub returns-in_default-clause-ok : goal.returns-in_default-clause-ok
+returns-in_default-clause-ok g c =
+    looked_joins (parts_of c.args.self.now) c.args.count c.in_ok-fresh.fresh (medium_view c.take_fresh.new.self) c.by-self.result
+    c.in_ok-fresh.ensures.ok c.in_default.is c.by-self.ensures.seen
+    (record { by = c.by-self.ensures.ticket ∙ ap Some c.next_ticket-ticket.ensures; taken = c.by-self.ensures.taken })
+    (c.in_ok-fresh.ensures.one_look c.in_default.is)

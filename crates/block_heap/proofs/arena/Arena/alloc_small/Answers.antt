@@ -1,7 +1,7 @@
 use Rattle.std.proofs.Common.{Bool, subst}
 use Rattle.block_heap.specs.Parts.{parts_of}
 use Rattle.block_heap.specs.Refill.{Refills}
-use Rattle.block_heap.proofs.AllocLemmas.{drains_nothing, still_none, gets_in_class, drains_block}
+use Rattle.block_heap.proofs.AllocLemmas.{drains_nothing, still_none, misses_in_class, gets_in_class, drains_block}
 use Rattle.block_heap.proofs.RefillLemmas.{leaves_held_all}
 use Rattle.block_heap.proofs.OrderLemmas.{takes_first}
 use Rattle.block_heap.proofs.SpendLemmas.{costs_of}
@@ -57,3 +57,10 @@ returns-clause-order g c = record {
       (parts_of c.pop_block.new.self) c.pop_block.ensures.leaves_held.capacity
       c.in_ok-pop_block.ensures.ok;
 }
+
+pub returns-then-not-branch-clause-ok : goal.returns-then-not-branch-clause-ok
+returns-then-not-branch-clause-ok g c =
+    let p = parts_of c.args.self.now in
+    let q = parts_of c.stock.new.self in
+    misses_in_class c.args.class.number p q c.requires.short c.stock.ensures.leaves_held.capacity c.in_ok-stock.ensures.refilling
+    (subst (λ (some : Bool). Refills c.args.class.number some p q) c.if-not-branch.true c.in_ok-stock.ensures.ok)

@@ -2,7 +2,7 @@ use Rattle.std.proofs.Common.{refl, arith, ap, ◌∙◌, Some}
 use Rattle.block_heap.specs.MediumView.{medium_view}
 use Rattle.block_heap.specs.Parts.{parts_of}
 use Rattle.block_heap.proofs.RunningLemmas.{is_head}
-use Rattle.block_heap.proofs.RefillLemmas.{head_moved, leaves_held_moved, emptied_refilling, emptied, emptied_leaves_held, popped_none}
+use Rattle.block_heap.proofs.RefillLemmas.{head_moved, leaves_held_moved, emptied_refilling, emptied, emptied_leaves_held, emptied_finds, popped_none}
 use Rattle.block_heap.proofs.SpendLemmas.{spends_none}
 use Rattle.block_heap.proofs.CutLemmas.{free_within, unmarked, free_none, free_leaves_held, free_refilling, free_found, free_spends, free_cuts}
 use Rattle.block_heap.proofs.LookLemmas.{looks_kept}
@@ -100,4 +100,14 @@ returns-clause-order g c = (
   free_cuts (parts_of c.args.self.now) c.args.class.number c.in-Some.d c.in_ok-popped.popped (medium_view c.pop.new.self) c.by.result c.requires.running
       c.args.class.is c.in_ok-popped.ensures.ok c.pop.ensures.others c.in-Some.is
       (parts_of c.cut.new.self) c.cut.ensures.others c.cut.ensures.same c.requires.empty c.in_ok-cut.ensures.ok,
+)
+
+pub returns-in_default-clause-ok : goal.returns-in_default-clause-ok
+returns-in_default-clause-ok g c = (
+  c.requires.empty,
+  emptied_finds (parts_of c.args.self.now) c.args.class.number 0 c.in_ok-popped.popped (medium_view c.pop.new.self) c.by.result
+      c.requires.running (omega arith) c.in_ok-popped.ensures.ok c.pop.ensures.others c.in_default.is
+      (c.in_ok-popped.ensures.one_look c.in_default.is)
+      (record { by = c.by.ensures.ticket ∙ ap Some c.next_ticket-ticket.ensures; taken = c.by.ensures.taken }) c.by.ensures.seen,
+  c.in_ok-popped.ensures.ok.runs_within.few,
 )

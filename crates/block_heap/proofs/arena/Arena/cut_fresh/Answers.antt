@@ -1,7 +1,7 @@
 use Rattle.std.proofs.Common.{arith, ap, ◌∙◌, Some}
 use Rattle.block_heap.specs.MediumView.{medium_view}
 use Rattle.block_heap.specs.Parts.{parts_of}
-use Rattle.block_heap.proofs.CutLemmas.{fresh_stops, none_refilling, none_spends, fresh_unmarked, fresh_leaves_held, fresh_refilling, fresh_found, fresh_cuts, fresh_spends}
+use Rattle.block_heap.proofs.CutLemmas.{fresh_stops, none_refilling, none_finds, none_spends, fresh_unmarked, fresh_leaves_held, fresh_refilling, fresh_found, fresh_cuts, fresh_spends}
 use Rattle.block_heap.proofs.arena.Arena.cut_fresh.Goals as goal
 
 pub returns-in_err-fresh-clause-leaves_held : goal.returns-in_err-fresh-clause-leaves_held
@@ -84,3 +84,12 @@ returns-clause-order g c =
     c.args.class.number c.in_ok-fresh.fresh c.by-self.result c.in_ok-fresh.ensures.ok
     c.by-self.ensures.seen c.by-self.ensures.taken c.in-Some.d c.in-Some.is (parts_of c.cut.new.self) c.cut.ensures.others c.cut.ensures.same
     c.args.class.is c.requires.empty c.in_ok-cut.ensures.ok
+
+pub returns-in_default-clause-ok : goal.returns-in_default-clause-ok
+returns-in_default-clause-ok g c =
+    none_finds (parts_of c.args.self.now) (medium_view c.take_fresh.new.self)
+    c.requires.running c.take_fresh.ensures.others c.take_fresh.ensures.crash c.take_fresh.ensures.fits
+    c.args.class.number c.in_ok-fresh.fresh c.by-self.result c.in_ok-fresh.ensures.ok
+    c.by-self.ensures.seen c.by-self.ensures.taken c.in_default.is c.requires.empty
+    (record { by = c.by-self.ensures.ticket ∙ ap Some c.next_ticket-ticket.ensures; taken = c.by-self.ensures.taken })
+    (c.in_ok-fresh.ensures.one_look c.in_default.is)

@@ -26,6 +26,7 @@ returns-then-index-eq0-clause-order g c =
     let read = read_cache p c.args.class.number c.index.result.now c.args.class.is c.requires c.index.ensures in
     let count : c.index.result.now.count ≡ (cache_at p.caches c.args.class.number).count = ap (λ (x : Cache). x.count) read in
     both_ok c.refill.result _ _ (IsRefilling c.args.class.number p (parts_of c.refill.new.self))
-    (λ some refills kept is. is_filled (omega arith) c.refill.ensures.held (record { caches = kept.caches; heads = kept.heads }) (refills is))
+    (λ some refills kept is. is_filled (omega arith) c.refill.ensures.held
+    (record { caches = kept.caches; heads = kept.heads; lists = kept.lists }) (refills is))
     c.refill.ensures.order
     c.refill.ensures.refilling

@@ -3,7 +3,7 @@ use Rattle.heap_model.specs.Geometry.{lists}
 use Rattle.block_heap.specs.MediumView.{medium_view}
 use Rattle.block_heap.specs.Parts.{parts_of}
 use Rattle.block_heap.proofs.RunningLemmas.{is_head}
-use Rattle.block_heap.proofs.RefillLemmas.{head_moved, leaves_held_moved, emptied, emptied_refilling, emptied_leaves_held, popped_none}
+use Rattle.block_heap.proofs.RefillLemmas.{head_moved, leaves_held_moved, emptied, emptied_refilling, emptied_leaves_held, emptied_finds, popped_none}
 use Rattle.block_heap.proofs.SpendLemmas.{spends_none}
 use Rattle.block_heap.proofs.TakeLemmas.{first_within, first_anchor, take_moved, taken_some, taken_refilling, taken_leaves_held, taken_spends, recycled_leaves_held, recycled_refilling, recycled_first, recycled_spends, first_looked, taken_all, recycled_moves}
 use Rattle.block_heap.proofs.LookLemmas.{looks_kept}
@@ -171,3 +171,13 @@ returns-clause-order g c =
     c.args.class.is c.in_ok-popped.ensures.ok c.pop.ensures.others c.in-Some.is
     (medium_view c.take_blocks.new.self) c.take_blocks.ensures.others (medium_view c.push.new.self) c.push.ensures.others c.in_ok-cache.field-0
     c.in_default-2.is c.in_ok-cache.ensures.ok c.in_ok-push.ensures.ok
+
+pub returns-in_default-clause-ok : goal.returns-in_default-clause-ok
+returns-in_default-clause-ok g c = (
+  c.requires.empty,
+  emptied_finds (parts_of c.args.self.now) c.args.class.number c.args.class.number c.in_ok-popped.popped (medium_view c.pop.new.self) c.by.result
+      c.requires.running (let last = c.args.class.is.last in omega arith) c.in_ok-popped.ensures.ok c.pop.ensures.others c.in_default.is
+      (c.in_ok-popped.ensures.one_look c.in_default.is)
+      (record { by = c.by.ensures.ticket ∙ ap Some c.next_ticket-ticket.ensures; taken = c.by.ensures.taken }) c.by.ensures.seen,
+  refl,
+)

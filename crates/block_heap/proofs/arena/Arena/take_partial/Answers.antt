@@ -2,7 +2,7 @@ use Rattle.std.proofs.Common.{◌≤◌, sym, subst, arith}
 use Rattle.std.proofs.lemmas.Result.{err_from_is_err_and}
 use Rattle.block_heap.specs.Parts.{parts_of}
 use Rattle.block_heap.specs.Steps.{used_up}
-use Rattle.block_heap.proofs.PartialLemmas.{walk_begins, walk_leaves_held, walk_stops_within, walk_runs_within, walk_refilling, walk_more, walk_left, walk_takes, walk_nothing}
+use Rattle.block_heap.proofs.PartialLemmas.{walk_begins, walk_leaves_held, walk_stops_within, walk_runs_within, walk_refilling, walk_more, walk_left, walk_takes, walk_nothing, walk_finds}
 use Rattle.block_heap.proofs.arena.Arena.take_partial.Goals as goal
 
 pub loop-init : goal.loop-init
@@ -92,5 +92,11 @@ returns-in-Blocks-clause-order g c =
 pub returns-in-Nothing-clause-order : goal.returns-in-Nothing-clause-order
 returns-in-Nothing-clause-order g c =
     walk_nothing c.args.class.number (parts_of c.args.self.now) (parts_of c.loop.self) (parts_of c.take_first.new.self) c.args.class.is c.loop.invariant
+    c.take_first.ensures.leaves_held c.take_first.ensures.held c.take_first.ensures.taken c.in_ok-take_first.field-0 c.in-Nothing.is
+    c.in_ok-take_first.ensures.ok
+
+pub returns-in-Nothing-clause-ok : goal.returns-in-Nothing-clause-ok
+returns-in-Nothing-clause-ok g c =
+    walk_finds c.args.class.number (parts_of c.args.self.now) (parts_of c.loop.self) (parts_of c.take_first.new.self) c.args.class.is c.loop.invariant
     c.take_first.ensures.leaves_held c.take_first.ensures.held c.take_first.ensures.taken c.in_ok-take_first.field-0 c.in-Nothing.is
     c.in_ok-take_first.ensures.ok

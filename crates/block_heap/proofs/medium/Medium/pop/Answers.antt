@@ -1,4 +1,4 @@
-use Rattle.std.proofs.Common.{◌≡◌, ℕ}
+use Rattle.std.proofs.Common.{◌≡◌, ℕ, arith}
 use Rattle.heap_model.specs.Geometry.{head_word}
 use Rattle.block_heap.specs.MediumView.{medium_view}
 use Rattle.block_heap.proofs.MediumLemmas.{stores_then, stores_none}
@@ -28,3 +28,9 @@ returns-clause-others g c =
     let w = medium_view c.store.new.self in
     let to = λ (word : ℕ). word ≡ head_word c.args.list in
     stores_then to v t w (stores_none to v t (stores_then (λ _. ⊥) v u t c.load.ensures.unchanged c.load-2.ensures.unchanged)) c.store.ensures.others
+
+pub returns-in_default-clause-one_look : goal.returns-in_default-clause-one_look
+returns-in_default-clause-one_look g c = λ none.
+    let drew = c.in_ok-word.ensures.ok.runs_within.drew in
+    let few = c.in_ok-word.ensures.ok.runs_within.few in
+    (c.load.ensures.unchanged, omega arith)

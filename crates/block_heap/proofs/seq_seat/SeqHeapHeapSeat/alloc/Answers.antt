@@ -2,7 +2,7 @@ use Rattle.std.proofs.Common.{◌<◌, subst, sym, ap}
 use Rattle.block_heap.specs.Order.{ServesInOrder}
 use Rattle.block_heap.specs.SeqState.{SeqState}
 use Rattle.block_heap.specs.Serving.{Answers}
-use Rattle.block_heap.proofs.RequestLemmas.{refused_by, refused_heap, refused_by_as}
+use Rattle.block_heap.proofs.RequestLemmas.{refused_by, refused_heap, refused_by_as, refused_keeps}
 use Rattle.block_heap.proofs.seq_seat.SeqHeapHeapSeat.alloc.Goals as goal
 
 pub invariant_of-self : goal.invariant_of-self
@@ -28,3 +28,8 @@ returns-in-None-clause-none g c =
     λ looks same. refused_by_as c.args.bytes c.looks-self-inside.result looks c.in_ok-block.field-0 c.args.self.now.parts
     c.request.new.self.parts _ (ap (λ (m : SeqState). m.parts) c.self.view_is) c.in-None.is
     c.in_ok-block.ensures.ok c.looks-self-inside.ensures same
+
+pub returns-in-None-clause-unchanged : goal.returns-in-None-clause-unchanged
+returns-in-None-clause-unchanged g c =
+    refused_keeps c.args.bytes c.looks-self-inside.result c.in_ok-block.field-0 c.args.self.now c.request.new.self _ c.self.view_is c.in-None.is
+    c.in_ok-block.ensures.ok c.in_ok-block.ensures.words
