@@ -50,6 +50,7 @@ beside_borders = (λ before. let from = before.from in omega arith, λ behind. l
 abbrev held : List Block
 held = record { first_word = 1072; words = 1792 } ∷ record { first_word = 4656; words = 1792 } ∷ []
 
+-- a shape of a heap of one superblock: two of its four blocks are held, and the superblock is in the list of class 20
 abbrev partial : Shape
 partial = record {
   place = with_at (λ _. is_new) 0 (in_list 20);
@@ -81,6 +82,7 @@ cut_moves : (cut.place 0 ≡ is_full) × (cut.listed 0 ≡ []) × (cut.chain 0 �
     × (cut.cached 20 ≡ all_firsts 1 20 0) × (cut.start 20 ≡ first_of 1 20 0 0)
 cut_moves = (refl, refl, refl, refl, refl)
 
+-- the shape once the cache gave all of its blocks back
 abbrev all_given : Shape
 all_given = after_give_all cut 20 0 (cut.cached 20) [] 0
 

@@ -9,6 +9,7 @@ pub data Place : Type 0 where
   in_large : Place
   is_new : Place
 
+-- where all superblocks are, and their free blocks
 pub record Shape : Type 0 where
   pub place : ℕ → Place
   -- the descriptors of each list, the free blocks that each superblock's anchor leads to, and those that the cache of each class has
