@@ -1,5 +1,5 @@
 -- The core when the blocks that were made of a superblock come into a cache.
-use Rattle.std.proofs.Common.{◌≡◌, ◌≢◌, ℕ, zero, suc, ◌+◌, ◌*◌, ◌<◌, ◌≤◌, ◌↔◌, inl, inr, Bool, true, nat_lt, List, [], get_or, set, length, refl, ap, ap₂, sym, subst, ◌∙◌, length-set, arith}
+use Rattle.std.proofs.Common.{◌≡◌, ◌≢◌, ℕ, zero, suc, ◌<◌, ◌≤◌, ◌↔◌, inl, inr, Bool, true, nat_lt, List, [], get_or, set, length, refl, ap, ap₂, sym, subst, ◌∙◌, length-set, arith}
 use Rattle.std.proofs.lemmas.Bool.{cases_lt}
 use Rattle.std.specs.Prelude.{Vec, Option}
 use Rattle.std.specs.declared.alloc.Global.{Global}
@@ -37,50 +37,6 @@ use Rattle.seat_state.proofs.CountLemmas.{without_off}
 use Rattle.seat_state.proofs.NewSeat.{no_cache}
 use Rattle.crash_core.proofs.ChainSteps.{chain_is, block_fits, none_of, caches_given, blocks_given, blocks_theirs}
 use Rattle.seat_state.proofs.WordLemmas.{entry_is, entry_there}
-
--- blocks of which the first ones are linked, from one on
-pub record IsHalfLinked (f : ℕ → ℕ) (start words n block left : ℕ) : Type 0 where
-  pub linked : Walks f start (steps start words n) ↔ Walks f block (steps block words left)
-  pub low : start ≤ block
-  pub room : block + left * words ≤ start + n * words
-  pub some : 1 ≤ left
-
-pub half_start : (f : ℕ → ℕ) (start words n left : ℕ) → 1 ≤ n → left ≡ n → IsHalfLinked f start words n start left
-half_start f start words n left some is = subst (IsHalfLinked f start words n start) (sym is)
-    (record { linked = (λ w. w, λ w. w); low = omega arith; room = omega arith; some = some })
-
-more_left : (r words : ℕ) → suc r * words ≡ words + r * words
-more_left r words = grind arith
-
-pub half_room : (f : ℕ → ℕ) (start words n block left : ℕ) → IsHalfLinked f start words n block left → 0 < left → block + words ≤ start + n * words
-half_room f start words n block zero half some = absurd (omega arith)
-half_room f start words n block (suc r) half some = let m = more_left r words in let h = half.room in omega arith
-
-pub half_step : (f : ℕ → ℕ) (start words n block left left' to : ℕ) → IsHalfLinked f start words n block left → left ≡ suc left' → 0 < left'
-    → f block ≡ block + words → to ≡ block + words → IsHalfLinked f start words n to left'
-half_step f start words n block left zero to half is some leads to_is = absurd (omega arith)
-half_step f start words n block left (suc r) to half is some leads to_is = subst (λ x. IsHalfLinked f start words n x (suc r)) (sym to_is) (record {
-  linked = (λ w. on (h.linked.0 w), λ u. h.linked.1 (back u));
-  low = (let l = h.low in omega arith);
-  room = (let m = more_left (suc r) words in let e = h.room in omega arith);
-  some = omega arith;
-}) where
-  h : IsHalfLinked f start words n block (suc (suc r))
-  h = subst (IsHalfLinked f start words n block) is half
-
-  on : Walks f block (steps block words (suc (suc r))) → Walks f (block + words) (steps (block + words) words (suc r))
-  on w = (refl, w.1.1)
-
-  back : Walks f (block + words) (steps (block + words) words (suc r)) → Walks f block (steps block words (suc (suc r)))
-  back u = (refl, (leads, u.1))
-
-pub half_apart : (f : ℕ → ℕ) (start words n block left left' : ℕ) → IsHalfLinked f start words n block left → left ≡ suc left' → 0 < left'
-    → f block ≢ block + words → Walks f start (steps start words n) → ⊥
-half_apart f start words n block left zero half is some apart w = absurd (omega arith)
-half_apart f start words n block left (suc r) half is some apart w = apart ((subst (IsHalfLinked f start words n block) is half).linked.0 w).1.0
-
-pub half_whole : (f : ℕ → ℕ) (start words n block left : ℕ) → IsHalfLinked f start words n block left → left ≡ 1 → Walks f start (steps start words n)
-half_whole f start words n block left half is = (subst (IsHalfLinked f start words n block) is half).linked.1 (refl, tt)
 
 -- a superblock whose blocks were made is given up
 cut_given_up : (owners : List SuperblockOwner) (i d : ℕ) (raw split cutting : List ℕ) (classed : List Claim) (large : List Span)
@@ -136,22 +92,9 @@ module _ (c : CoreState) (k : Setup) (views : List View) (i : ℕ) (v : View) (t
   pub cut_unclaimed : cutting_in (usage_for i (get_or c.superblocks.items d no_superblock)) ≡ 0 → MayCut (memory_in c k) v d → ⊥
   cut_unclaimed none may = let g = may.cutting in let f = s.is_cutting in omega arith
 
-  pub cut_undurable : (mark : ℕ) → mark ≡ durable_used (memory_at c) → mark ≤ d → MayCut (memory_in c k) v d → ⊥
-  cut_undurable mark is past may = let less = may.durable in let e : durable_used (memory_in c k) ≡ mark = ap durable_used (sym same)
-      ∙ sym is in omega arith
-
   module _ (class : ℕ) (class_is : class ≡ info (memory_at c) d) where
     now : info (memory_in c k) d ≡ class
     now = ap (λ m. info m d) (sym same) ∙ sym class_is
-
-    pub cut_none : class ≡ 0 → MayCut (memory_in c k) v d → ⊥
-    cut_none none may = let l = may.class.some in let e = now in omega arith
-
-    pub cut_past : last_class < class → MayCut (memory_in c k) v d → ⊥
-    cut_past past may = let l = may.class.last in let e = now in omega arith
-
-    pub cut_other : (held : ℕ) → held ≡ durable_info (memory_at c) d → held ≢ class → MayCut (memory_in c k) v d → ⊥
-    cut_other held held_is other may = other (held_is ∙ ap (λ m. durable_info m d) same ∙ may.durable_class ∙ now)
 
     module _ (some : 1 ≤ class) (last : class ≤ last_class) where
       is : IsClass class

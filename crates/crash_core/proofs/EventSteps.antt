@@ -13,7 +13,7 @@ use Rattle.core_model.specs.Memory.{memory_of}
 use Rattle.core_model.specs.Steps.{TableState, StepsTo, is_done, stops, not_now, has_stopped, state_after}
 use Rattle.crash_core.specs.Standing.{IsSeatAt, IsCore, KeepsViews, AreInOrder, IsStanding, KeepsState, Represents, HasTicketAt, Takes, Follows, Steps, steps_done, steps_stopped, steps_not, state_of}
 use Rattle.crash_core.proofs.OrderSteps.{event_made, event_order}
-use Rattle.seat_state.proofs.WordLemmas.{entry_is, entry_there}
+use Rattle.seat_state.proofs.WordLemmas.{entry_there}
 use Rattle.crash_core.proofs.StandingLemmas.{among}
 
 -- what a seat has by its ticket
@@ -142,8 +142,3 @@ seats_after c new i event answer core follows = let next = follows core.setup co
 pub core_after : (c new : CoreState) (i : ℕ) (event : Event) (answer : StepAnswer) → IsStanding c → Follows c i event answer new → IsStanding new
 core_after c new i event answer core follows = let next = follows core.setup core.state core.stands in
     record { setup = core.setup; state = next.0; stands = next.2 }
-
-pub same_ticket : (c : CoreState) (i : ℕ) (t : SeatNotes) (event : Event) → IsSeatAt c i t → i < length c.seats.items → HasTicketAt t.ticket event
-    → (s : SeatNotes) → get_or c.seats.items i s ≡ s → HasTicketAt s.ticket event
-same_ticket c i t event at_t less has s at_s = subst (λ (x : SeatNotes). HasTicketAt x.ticket event) (sym at_t.at
-    ∙ entry_is c.seats.items i t s less ∙ at_s) has

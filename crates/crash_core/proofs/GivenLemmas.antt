@@ -23,10 +23,6 @@ pub record IsPartGiven (next : ℕ → ℕ) (old new : List BlockOwner) (first c
   pub outside : (b : ℕ) → times b (chain next first count) ≡ 0 → get_or new b no_block ≡ get_or old b no_block
   pub members : (b : ℕ) → 0 < times b (chain next block left) → 0 < times b (chain next first count)
 
-pub part_start : (next : ℕ → ℕ) (owners : List BlockOwner) (first count : ℕ) (owner : BlockOwner)
-    → IsPartGiven next owners owners first count first count owner
-part_start next owners first count owner = record { long = refl; inside = λ b some. inr some; outside = λ b none. refl; members = λ b some. some }
-
 part_step : (next : ℕ → ℕ) (old new : List BlockOwner) (first count block left : ℕ) (owner : BlockOwner)
     → IsPartGiven next old new first count block (suc left) owner
     → block < length new → IsPartGiven next old (set new block owner) first count (next block) left owner
@@ -52,18 +48,6 @@ pub part_next : (next : ℕ → ℕ) (old new : List BlockOwner) (first count bl
 part_next next old new first count block left left' to owner p is less to_is =
     subst (λ n. IsPartGiven next old (set new block owner) first count n left' owner) (sym to_is)
     (part_step next old new first count block left' owner (subst (λ n. IsPartGiven next old new first count block n owner) is p) less)
-
-pub part_whole : (next : ℕ → ℕ) (old new : List BlockOwner) (first count block left : ℕ) (owner : BlockOwner)
-    → IsPartGiven next old new first count block left owner
-    → left ≡ 0 → HasNewOwner old new (chain next first count) owner
-part_whole next old new first count block left owner p none = record {
-  long = p.long;
-  inside = λ b some. elim (p.inside b some) [
-    | inl done ↦ done
-    | inr more ↦ absurd (let z = ap (λ n. times b (chain next block n)) none in omega arith)
-  ];
-  outside = p.outside;
-}
 
 -- whose a block is then, for the new owner and for another
 pub given_mine : (old new : List BlockOwner) (i : ℕ) (bs : List ℕ) (x : BlockPlace) (P : ℕ → BlockPlace → Type 0)

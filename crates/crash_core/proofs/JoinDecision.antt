@@ -1,5 +1,5 @@
 -- When superblocks may become a large block, by what the core keeps.
-use Rattle.std.proofs.Common.{◌≡◌, ◌≢◌, ℕ, ◌+◌, ◌<◌, ◌≤◌, ◌↔◌, inl, inr, true, cond, nat_eq, List, get_or, length, refl, ap, sym, subst, ◌∙◌, eq-eqb, eqb-true, arith}
+use Rattle.std.proofs.Common.{◌≡◌, ◌≢◌, ℕ, ◌+◌, ◌<◌, ◌≤◌, ◌↔◌, inl, inr, true, cond, nat_eq, List, get_or, length, refl, ap, sym, ◌∙◌, eq-eqb, eqb-true, arith}
 use Rattle.std.proofs.lemmas.Bool.{cases_eq}
 use Rattle.heap_model.specs.Words.{anchor_state, large_info}
 use Rattle.seat_state.specs.declared.notes.SeatNotes.{SeatNotes}
@@ -10,13 +10,9 @@ use Rattle.core_model.specs.Memory.{info, anchor, durable_used, durable_info, me
 use Rattle.core_model.specs.View.{Setup, View}
 use Rattle.core_model.specs.Guards.{MayHoldLarge}
 use Rattle.seat_state.specs.Superblocks.{usage_for, no_superblock, raw_in, split_in}
-use Rattle.crash_core.specs.Standing.{IsSeatAt, IsKept, IsCore, KeepsViews, MayJoin, memory_at}
+use Rattle.crash_core.specs.Standing.{IsSeatAt, IsKept, KeepsViews, MayJoin, memory_at}
 use Rattle.core_model.proofs.PlaceLemmas.{pick, skip, not-eq}
 use Rattle.crash_core.proofs.StandingLemmas.{memory_in}
-
-pub mark_low : (c : CoreState) → IsCore c → durable_used (memory_at c) ≤ c.geometry.capacity
-mark_low c core = subst (λ n. durable_used (memory_of n c.words.items) ≤ n) core.keeps.capacity (let g = core.keeps.sound.good.shaped.durable in
-    let a = g.behind in let b = g.room in omega arith)
 
 module _ (c : CoreState) (k : Setup) (views : List View) (i : ℕ) (v : View) (t : SeatNotes) (keeps : KeepsViews c k views)
     (below_i : i < length views) (at : get_or views i v ≡ v)
@@ -59,9 +55,6 @@ module _ (c : CoreState) (k : Setup) (views : List View) (i : ℕ) (v : View) (t
   module _ (e wanted : ℕ) (wanted_is : wanted ≡ cond (nat_eq e d) (large_info n) 0) where
     pub other_info : (found : ℕ) → found ≡ info (memory_at c) e → found ≢ wanted → MayJoin (memory_in c k) v d n e → ⊥
     other_info found is differs may = differs (is ∙ ap (λ m. info m e) same ∙ may.holds ∙ sym wanted_is)
-
-    pub other_durable : (found : ℕ) → found ≡ durable_info (memory_at c) e → found ≢ wanted → MayJoin (memory_in c k) v d n e → ⊥
-    other_durable found is differs may = differs (is ∙ ap (λ m. durable_info m e) same ∙ may.durable ∙ may.holds ∙ sym wanted_is)
 
     pub unclaimed : (x : SuperblockUsage) → x ≡ usage_for i (get_or c.superblocks.items e no_superblock) → raw_in x + split_in x ≡ 0
         → MayJoin (memory_in c k) v d n e → ⊥

@@ -5,11 +5,14 @@ pub mod ReadLemmas
 pub mod KeptFacts
 pub mod ClaimLemmas
 pub mod ListSteps
+pub mod PushSteps
 pub mod PushDecision
 pub mod LookDecision
 pub mod OwnDecision
 pub mod WordSteps
+pub mod AnchoredSteps
 pub mod StoreSteps
+pub mod StoreDecision
 pub mod MoveSteps
 pub mod FreeSteps
 pub mod LiftSteps
@@ -22,6 +25,8 @@ pub mod GivenLemmas
 pub mod ChainSteps
 pub mod TakeAllSteps
 pub mod CutSteps
+pub mod HalfLinked
+pub mod GiveParts
 pub mod GiveSteps
 pub mod TickSteps
 pub mod OrderSteps

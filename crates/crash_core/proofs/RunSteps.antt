@@ -39,9 +39,6 @@ pub record IsRunning (old now : CoreState) (events : List (ℕ × Event)) (answe
   pub seats : length now.seats.items ≡ length old.seats.items
   pub runs : RunsOn old events answers now
 
-pub running_start : (c : CoreState) → IsStanding c → IsRunning c c [] []
-running_start c core = record { core = core; seats = refl; runs = runs_none c }
-
 pub running_on : (old mid new : CoreState) (events : List (ℕ × Event)) (answers : List StepAnswer) (i : ℕ) (e : ℕ × Event) (answer : StepAnswer)
     → IsRunning old mid (take i events) answers → i < length events
     → get_or events i e ≡ e → e.0 < length mid.seats.items → Follows mid e.0 e.1 answer new → IsStanding new

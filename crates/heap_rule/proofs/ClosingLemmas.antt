@@ -1,11 +1,11 @@
 -- The seats and the carriers of a heap that is closed.
 use Rattle.std.proofs.Common.{◌≡◌, ℕ, ◌+◌, List, [], ◌∷◌, ◌++◌, length, map, append_assoc, refl, ap, sym, subst, ◌∙◌, arith}
 use Rattle.heap_model.specs.Counting.{total}
+use Rattle.heap_model.proofs.CountingLemmas.{total_append}
 use Rattle.core_model.specs.Carriers.{IsCarrier}
 use Rattle.core_model.specs.View.{View}
 use Rattle.heap_table.specs.AtTable.{AreAll, SharedView}
 use Rattle.heap_table.specs.SeatViews.{SeatViews}
-use Rattle.heap_table.proofs.DealLemmas.{total_append}
 use Rattle.heap_rule.specs.Carried.{AreAllOf, AreCarriers, CarrierView, HasSeatsBefore}
 use Rattle.heap_rule.specs.Seated.{SeatView}
 use Rattle.heap_rule.specs.Seats.{views_of}

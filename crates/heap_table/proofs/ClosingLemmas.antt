@@ -8,6 +8,7 @@ use Rattle.heap_model.specs.Geometry.{image_words}
 use Rattle.heap_model.specs.Counting.{total, one_if}
 use Rattle.heap_model.proofs.MemberLemmas.{in_head, in_rest}
 use Rattle.std.proofs.lemmas.List.Elements.{Contains-append_left, Contains-append_right, Contains-append_cases}
+use Rattle.heap_model.proofs.CountingLemmas.{total_append}
 use Rattle.core_model.specs.Carriers.{AreSeatsAndCarriers, IsCarrier, IsEmptied, one_if_carrier}
 use Rattle.core_model.specs.View.{Setup, View}
 use Rattle.core_model.specs.Sound.{Sound}
@@ -15,7 +16,7 @@ use Rattle.heap_table.specs.AtTable.{AreAll, IsClosedReached, IsClosedSound}
 use Rattle.heap_table.specs.Reached.{IsReached}
 use Rattle.heap_table.specs.Rule.{Opening, HasAllSeats, Holds, setup_for, state_of}
 use Rattle.heap_table.specs.SeatViews.{SeatViews, all_views}
-use Rattle.heap_table.proofs.DealLemmas.{length_total, total_append}
+use Rattle.heap_table.proofs.DealLemmas.{length_total}
 use Rattle.heap_table.proofs.ReachedLemmas.{opened_filled, reached_filled}
 
 none_left : (xs : List View) → length xs ≡ 0 → xs ≡ []
@@ -95,13 +96,13 @@ all_in_one (j ∷ groups) (suc id) group at count =
     let least = one_in_all groups id group at in let l = length-append j (all_views groups) in
     ap (λ vs. vs ++ all_views groups) (none_left j (omega arith)) ∙ all_in_one groups id group at (omega arith)
 
-one_left : (xs : List ℕ) → length xs ≡ 1 → xs ≡ get_or xs 0 0 ∷ []
+pub one_left : (xs : List ℕ) → length xs ≡ 1 → xs ≡ get_or xs 0 0 ∷ []
 one_left [] one = absurd (omega (arith, one))
 one_left (x ∷ []) one = refl
 one_left (x ∷ y ∷ xs) one = absurd (omega (arith, one))
 
 -- the words are the volatile ones, the durable ones and the ticket word
-three_parts : (words : List ℕ) (n : ℕ) → length words ≡ 2 * n + 1
+pub three_parts : (words : List ℕ) (n : ℕ) → length words ≡ 2 * n + 1
     → words ≡ take n words ++ (take n (drop n words) ++ (get_or (drop n (drop n words)) 0 0 ∷ []))
 three_parts words n long = sym (take-append-drop n words)
     ∙ ap (λ ws. take n words ++ ws) (sym (take-append-drop n (drop n words))

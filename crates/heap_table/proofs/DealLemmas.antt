@@ -7,6 +7,7 @@ use Rattle.atomic_table.specs.Table.{Splits, Joins}
 use Rattle.atomic_table.proofs.Lists.{at_set, at_snoc}
 use Rattle.heap_model.specs.Counting.{total}
 use Rattle.heap_model.proofs.MemberLemmas.{in_none}
+use Rattle.heap_model.proofs.CountingLemmas.{total_append}
 use Rattle.core_model.specs.View.{View}
 use Rattle.core_model.specs.Orders.{AreReordered}
 use Rattle.core_model.proofs.OfferLemmas.{same_seats}
@@ -14,10 +15,6 @@ use Rattle.core_model.proofs.OrderLemmas.{reordered}
 use Rattle.heap_table.specs.Reached.{in_another_order}
 use Rattle.heap_table.specs.SeatViews.{SeatViews, all_views}
 use Rattle.heap_table.specs.Rule.{Opening, HasAllSeats, Holds, setup_for}
-
-pub total_append : (f : View → ℕ) (xs ys : List View) → total f (xs ++ ys) ≡ total f xs + total f ys
-total_append f [] ys = omega arith
-total_append f (x ∷ xs) ys = let rest = total_append f xs ys in omega arith
 
 pub length_total : (xs : List View) → length xs ≡ total (λ (v : View). 1) xs
 length_total [] = refl

@@ -26,8 +26,9 @@ use Rattle.heap_rule.proofs.HeldLemmas.{held_apart, held_placed, one_large}
 use Rattle.core_model.proofs.LinkFrameLemmas.{span_covers}
 use Rattle.seat_costs.specs.Words.{IsHeldWord, times_held}
 use Rattle.seat_model.specs.CacheState.{held_blocks, large_blocks, small_blocks}
-use Rattle.seat_model.proofs.HeldLemmas.{block_cell, small_there, word_of_block}
-use Rattle.seat_model.proofs.ChangedBlocks.{as_block, word_once}
+use Rattle.seat_model.proofs.HeldLemmas.{block_cell, word_of_block}
+use Rattle.seat_model.proofs.ViewBlocks.{small_there}
+use Rattle.seat_model.proofs.TakenBlocks.{as_block, word_once}
 use Rattle.seat_index.specs.declared.owned.Holding.TheVariants as holding
 
 -- blocks that are chosen stay in their class, and the others go

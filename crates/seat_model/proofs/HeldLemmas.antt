@@ -1,29 +1,27 @@
 -- The held blocks of a seat of the core, as a list.
-use Rattle.std.proofs.Common.{◌≡◌, ◌≢◌, ◌<◌, ◌≤◌, ◌⊎◌, ℕ, zero, suc, ◌+◌, ◌*◌, ◌^◌, inl, inr, Bool, true, false, cond, nat_lt, nat_le, List, [], ◌∷◌, ◌++◌, get_or, length, Option, None, Some, slice_index, refl, ap, sym, subst, ◌∙◌, eq-eqb, ne_eqb, lt-ltb, le-leb, arith}
+use Rattle.std.proofs.Common.{◌≡◌, ◌<◌, ◌≤◌, ◌⊎◌, ℕ, suc, ◌+◌, ◌*◌, inl, inr, Bool, true, false, cond, nat_lt, nat_le, List, ◌++◌, Option, None, Some, slice_index, refl, ap, sym, subst, ◌∙◌, lt-ltb, le-leb, arith}
 use Rattle.std.specs.Prelude.{Contains}
 use Rattle.std.proofs.Math.Logic.{∥∥₁_elim}
 use Rattle.std.proofs.lemmas.Bool.{cases_eq}
 use Rattle.std.proofs.lemmas.List.Elements.{Contains-append_cases}
 use Rattle.heap_model.specs.declared.block.Block.{Block}
 use Rattle.heap_model.specs.Blocks.{IsIn, AreOneOrApart}
-use Rattle.heap_model.specs.Counting.{times}
-use Rattle.heap_model.specs.Geometry.{fixed_words, roots, start_word, superblock_words, superblocks_end, kind_word, capacity_word, largest_capacity, superblock_of}
+use Rattle.heap_model.specs.Geometry.{roots, start_word, superblock_words, superblocks_end, kind_word, capacity_word, largest_capacity, superblock_of}
 use Rattle.heap_model.specs.Image.{Image}
 use Rattle.heap_model.specs.Sizes.{words_of_class}
-use Rattle.heap_model.proofs.CountingLemmas.{one_if_true}
-use Rattle.heap_model.proofs.DecisionLemmas.{at_most, both}
+use Rattle.heap_model.proofs.DecisionLemmas.{at_most, both, decided, one_or_apart}
 use Rattle.heap_model.proofs.ImageLemmas.{get_or-words_from}
 use Rattle.heap_model.proofs.PartLemmas.{same_fields}
 use Rattle.heap_seat.specs.View.{View as HeapView}
 use Rattle.heap_seat.specs.Sound.{IsSeat, IsPlaced}
+use Rattle.heap_seat.proofs.PlacedLemmas.{is_placed}
 use Rattle.heap_seat.specs.Words.{IsOwn as IsOwnWord, in_block, in_root, HasPicked, KeepsOwn, KeepsPending, KeepsWord, MayBe, MayRead, MixesOwn, NamesAll, StoresKinds}
 use Rattle.heap_model.specs.Header.{capacity_of}
 use Rattle.core_model.specs.Cells.{Cell, cell_at, data_cell, root_cell}
 use Rattle.core_model.specs.Effects.{span_count}
 use Rattle.core_model.specs.Held.{IsHeld, a_small, a_large}
-use Rattle.core_model.specs.View.{Span, View, Setup, takes, times_large, known}
+use Rattle.core_model.specs.View.{View, Setup, known}
 use Rattle.core_model.proofs.PlaceLemmas.{and_is, cell_at_index}
-use Rattle.core_model.proofs.TotalLemmas.{eq-eqb-one}
 use Rattle.seat_state.proofs.BlockRanges.{in_classes_word}
 use Rattle.heap_rule.specs.Images.{HasPickedRecords}
 use Rattle.heap_rule.specs.Left.{Lasts, MayBeLeft, mixed, crashed, closed}
@@ -39,121 +37,8 @@ use Rattle.seat_costs.specs.Costs.{Costs}
 use Rattle.seat_costs.specs.Rows.{Passes, Row, ViewRow, after_ticket, next_of}
 use Rattle.seat_costs.specs.Words.{IsHeldWord, KeepsWord as KeepsRowWord, MayBe as MayBeOf, left_at, seen_at, times_held}
 use Rattle.seat_costs.proofs.WordLemmas.{at_cell, owns_held}
-use Rattle.seat_model.specs.CacheState.{CacheState, CallCounts, heap_view_of, blocks_of_words, small_blocks, large_blocks, held_blocks, heap_view, opened_kinds, IsStateOf}
-
--- a fact that can be decided, and that does not fail
-pub decided : {A B : Type 0} → A ⊎ (A → ⊥) → (B → A) → ∥ B ∥₁ → A
-decided (inl is) gives lasts = is
-decided (inr not) gives lasts = absurd (∥∥₁_elim lasts (λ a b. absurd a) (λ b. not (gives b)))
-
-either : {A B : Type 0} → A ⊎ (A → ⊥) → B ⊎ (B → ⊥) → (A ⊎ B) ⊎ (A ⊎ B → ⊥)
-either (inl a) b = inl (inl a)
-either (inr not) (inl b) = inl (inr b)
-either (inr not) (inr neither) = inr (λ p. elim p as (λ _. ⊥) [ inl a ↦ not a | inr b ↦ neither b ])
-
-one_or_apart : (a b : Block) → AreOneOrApart a b ⊎ (AreOneOrApart a b → ⊥)
-one_or_apart a b = either same
-    (either (at_most (a.first_word + a.words) b.first_word) (at_most (b.first_word + b.words) a.first_word)) where
-      same : (a ≡ b) ⊎ (a ≡ b → ⊥)
-      same = elim (both (cases_eq a.first_word b.first_word) (cases_eq a.words b.words)) [
-        | inl fields ↦ inl (same_fields a b fields.0 fields.1)
-        | inr not ↦ inr (λ e. not (ap (λ (x : Block). x.first_word) e, ap (λ (x : Block). x.words) e))
-      ]
-
-is_placed : (b : Block) → IsPlaced b ⊎ (IsPlaced b → ⊥)
-is_placed b = elim (both (at_most fixed_words b.first_word)
-    (both (at_most 1 b.words) (at_most (suc (8 * (b.first_word + b.words))) (2 ^ 48)))) [
-      | inl all ↦ inl (record { behind = all.0; some = all.1.0; short = all.1.1 })
-      | inr not ↦ inr (λ placed. not (placed.behind, (placed.some, placed.short)))
-    ]
-
-pub contains_cons : {X : Type 0} (x z : X) (xs : List X) (k : ℕ) → k < length (x ∷ xs) → get_or (x ∷ xs) k z ≡ z → (x ≡ z) ⊎ Contains xs z
-contains_cons x z xs zero l e = inl e
-contains_cons x z xs (suc k) l e = inr (k, omega arith, e)
-
--- a block of a list of first words
-words_there : (words : ℕ) (bs : List ℕ) (b : Block) → Contains (blocks_of_words words bs) b → (0 < times b.first_word bs) × (b.words ≡ words)
-words_there words [] b c = absurd (let l = c.1 in omega arith)
-words_there words (x ∷ bs) b c = elim (contains_cons (record { first_word = x; words = words }) b (blocks_of_words words bs) c.0 c.1 c.2) [
-  | inl same ↦ (
-    subst (λ (y : Block). 0 < times y.first_word (x ∷ bs)) same (let one = eq-eqb-one x x refl in omega arith),
-    sym (ap (λ (y : Block). y.words) same),
-  )
-  | inr more ↦ let rest = words_there words bs b more in (let r = rest.0 in omega arith, rest.1)
-]
-
--- the class of a small one
-pub record IsSmall (class : ℕ) (lists : List (List ℕ)) (b : Block) : Type 0 where
-  pub n : ℕ
-  pub there : 0 < times b.first_word (get_or lists n [])
-  pub words : b.words ≡ words_of_class (class + n)
-
-pub small_there : (class : ℕ) (lists : List (List ℕ)) (b : Block) → Contains (small_blocks class lists) b → IsSmall class lists b
-small_there class [] b c = absurd (let l = c.1 in omega arith)
-small_there class (bs ∷ lists) b c = elim (Contains-append_cases (blocks_of_words (words_of_class class) bs) (small_blocks (class + 1) lists) b c) [
-  | inl here ↦ let h = words_there (words_of_class class) bs b here in
-      record { n = 0; there = h.0; words = h.1 ∙ ap words_of_class (let e : class ≡ class + 0 = omega arith in e) }
-  | inr more ↦ let h = small_there (class + 1) lists b more in record {
-    n = suc h.n;
-    there = h.there;
-    words = h.words ∙ ap words_of_class (let e : class + 1 + h.n ≡ class + suc h.n = omega arith in e);
-  }
-]
-
--- the superblocks of a large one
-record IsLarge (capacity : ℕ) (spans : List Span) (b : Block) : Type 0 where
-  d : ℕ
-  some : 0 < times_large d spans
-  count : 0 < span_count d spans
-  first : b.first_word ≡ start_word capacity d
-  words : b.words ≡ superblock_words * span_count d spans
-
-begins : (d : ℕ) (span : Span) → span.first ≡ d → 1 ≤ span.count → takes d span ≡ true
-begins d span is some = and_is (nat_le span.first d) (nat_lt d (span.first + span.count)) (le-leb span.first d (omega (arith, is)))
-    (lt-ltb d (span.first + span.count) (omega (arith, is)))
-
-large_there : (capacity : ℕ) (spans : List Span) (b : Block) → ((d : ℕ) → times_large d spans ≤ 1)
-    → ((span : Span) → Contains spans span → 1 ≤ span.count) → Contains (large_blocks capacity spans) b → IsLarge capacity spans b
-large_there capacity [] b once some c = absurd (let l = c.1 in omega arith)
-large_there capacity (span ∷ spans) b once some c = elim (contains_cons
-    (record { first_word = start_word capacity span.first; words = superblock_words * span.count }) b (large_blocks capacity spans) c.0 c.1 c.2) [
-      | inl same ↦ record {
-        d = span.first;
-        some = let one = one_if_true (takes span.first span) (begins span.first span refl first_some) in omega arith;
-        count = subst (λ n. 0 < n) (sym head) first_some;
-        first = sym (ap (λ (y : Block). y.first_word) same);
-        words = sym (ap (λ (y : Block). y.words) same) ∙ ap (λ n. superblock_words * n) (sym head);
-      }
-      | inr more ↦ by_rest (large_there capacity spans b (λ d. let o = once d in
-          omega arith) (λ x there. some x (suc there.0, let l = there.1 in omega arith, there.2)) more)
-    ] where
-      first_some : 1 ≤ span.count
-      first_some = some span (0, omega arith, refl)
-
-      head : span_count span.first (span ∷ spans) ≡ span.count
-      head = ap (λ t. cond t span.count (span_count span.first spans)) (eq-eqb span.first span.first refl)
-
-      by_rest : IsLarge capacity spans b → IsLarge capacity (span ∷ spans) b
-      by_rest rest = record {
-        d = rest.d;
-        some = let r = rest.some in omega arith;
-        count = subst (λ n. 0 < n) (sym skip_it) rest.count;
-        first = rest.first;
-        words = rest.words ∙ ap (λ n. superblock_words * n) (sym skip_it);
-      } where
-        other : span.first ≢ rest.d
-        other same = let one = one_if_true (takes rest.d span) (begins rest.d span same first_some) in let r = rest.some in let o = once rest.d in
-            omega arith
-
-        skip_it : span_count rest.d (span ∷ spans) ≡ span_count rest.d spans
-        skip_it = ap (λ t. cond t span.count (span_count rest.d spans)) (ne_eqb span.first rest.d other)
-
-contains_times : (xs : List ℕ) (x : ℕ) → Contains xs x → 0 < times x xs
-contains_times [] x c = absurd (let l = c.1 in omega arith)
-contains_times (y ∷ xs) x c = elim (contains_cons y x xs c.0 c.1 c.2) [
-  | inl same ↦ let one = eq-eqb-one y x same in omega arith
-  | inr more ↦ let r = contains_times xs x more in omega arith
-]
+use Rattle.seat_model.specs.CacheState.{CacheState, CallCounts, heap_view_of, small_blocks, large_blocks, held_blocks, heap_view, opened_kinds, IsStateOf}
+use Rattle.seat_model.proofs.ViewBlocks.{small_there, large_there, contains_times}
 
 may_of : (o : Option ℕ) (x : ℕ) → ((value : ℕ) → o ≡ Some value → x ≡ value) → MayBe o x
 may_of None x is = tt

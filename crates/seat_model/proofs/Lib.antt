@@ -1,5 +1,8 @@
+pub mod ViewBlocks
 pub mod HeldLemmas
 pub mod ListedBlocks
+pub mod TakenBlocks
+pub mod GivenBlocks
 pub mod ChangedBlocks
 pub mod HandedBlocks
 pub mod WordLemmas

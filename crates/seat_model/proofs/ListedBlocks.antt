@@ -7,20 +7,18 @@ use Rattle.heap_model.specs.declared.block.Block.{Block}
 use Rattle.heap_model.specs.Counting.{times}
 use Rattle.heap_model.specs.Geometry.{start_word, superblock_words}
 use Rattle.heap_model.specs.Sizes.{words_of_class}
+use Rattle.heap_model.proofs.MemberLemmas.{in_rest}
 use Rattle.core_model.specs.Effects.{span_count}
 use Rattle.core_model.specs.Held.{IsHeld, a_small, a_large}
 use Rattle.core_model.specs.View.{Span, View}
 use Rattle.core_model.proofs.TotalLemmas.{ne-eqb-none}
 use Rattle.seat_model.specs.CacheState.{blocks_of_words, held_blocks, large_blocks, small_blocks}
 
-there_later : {X : Type 0} (x y : X) (xs : List X) → Contains xs y → Contains (x ∷ xs) y
-there_later x y xs c = (suc c.0, (let l = c.1 in omega arith), c.2)
-
 words_in : (words : ℕ) (bs : List ℕ) (x : ℕ) → 0 < times x bs → Contains (blocks_of_words words bs) (record { first_word = x; words = words })
 words_in words [] x some = absurd (omega arith)
 words_in words (y ∷ bs) x some = elim (cases_eq y x) as (λ _. Contains (blocks_of_words words (y ∷ bs)) (record { first_word = x; words = words })) [
   | inl same ↦ (0, omega arith, ap (λ n. record { first_word = n; words = words }) same)
-  | inr other ↦ there_later (record { first_word = y; words = words }) (record { first_word = x; words = words }) (blocks_of_words words bs)
+  | inr other ↦ in_rest (record { first_word = y; words = words }) (record { first_word = x; words = words }) (blocks_of_words words bs)
       (words_in words bs x (let none = ne-eqb-none y x other in omega arith))
 ]
 
@@ -53,7 +51,7 @@ large_in capacity (span ∷ spans) d some = elim (cases_eq span.first d) as
       )
       | inr other ↦
           let skip : span_count d (span ∷ spans) ≡ span_count d spans = ap (λ t. cond t span.count (span_count d spans)) (ne_eqb span.first d other) in
-          there_later (record { first_word = start_word capacity span.first; words = superblock_words * span.count })
+          in_rest (record { first_word = start_word capacity span.first; words = superblock_words * span.count })
           (record { first_word = start_word capacity d; words = superblock_words * span_count d (span ∷ spans) }) (large_blocks capacity spans)
           (subst (λ n. Contains (large_blocks capacity spans) (record { first_word = start_word capacity d; words = superblock_words * n })) (sym skip)
           (large_in capacity spans d (omega arith)))

@@ -29,7 +29,8 @@ use Rattle.thread_cache.specs.Requests.{Answers, IsGranted, IsRefused, by_class,
 use Rattle.thread_cache.specs.Small.{HasAllocated, IfGoing}
 use Rattle.seat_model.specs.CacheState.{CacheState, CallCounts, HasCounts, IsBetweenCalls, IsStateOf, counts_of, heap_view, heap_view_of, look_of}
 use Rattle.seat_model.specs.Changes.{HoldsBlock, HoldsSpan}
-use Rattle.seat_model.proofs.ChangedBlocks.{class_in, holds_by, large_words_stay, small_words_stay, span_by}
+use Rattle.seat_model.proofs.ChangedBlocks.{class_in, holds_by, span_by}
+use Rattle.seat_model.proofs.TakenBlocks.{large_words_stay, small_words_stay}
 use Rattle.seat_model.proofs.HeldLemmas.{own_held, word_law}
 use Rattle.thread_cache.specs.Serving.{HasSeenRoom, IsLight, IsServed, IsTurnedAway}
 use Rattle.thread_cache.proofs.CallLemmas.{at_state, runs_law, stops_law}

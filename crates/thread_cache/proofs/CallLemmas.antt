@@ -25,7 +25,7 @@ use Rattle.seat_costs.proofs.WordLemmas.{owns_held}
 use Rattle.heap_rule.proofs.SettleLemmas.{own_below}
 use Rattle.seat_model.specs.CacheState.{CacheState, CacheValue, HasCounts, CallCounts, IsBetweenCalls, IsStateOf, counts_of, heap_view, heap_view_of, look_of, opened_kinds}
 use Rattle.seat_model.proofs.HeldLemmas.{kept_at, own_held, read_from, read_to, seat_law, word_law}
-use Rattle.seat_model.proofs.ChangedBlocks.{held_same}
+use Rattle.seat_model.proofs.TakenBlocks.{held_same}
 use Rattle.thread_cache.specs.Own.{Drew, HasFenced, HasValue, HasMarkedLine, MayHave, RunsOn}
 use Rattle.thread_cache.specs.Keeps.{KeepsCosts}
 

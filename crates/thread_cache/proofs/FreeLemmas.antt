@@ -24,7 +24,8 @@ use Rattle.thread_cache.specs.Requests.{IsGivenBack, IsSmallBlock, IsSpan, MayBe
 use Rattle.thread_cache.specs.Small.{IsHeldOutside}
 use Rattle.seat_model.specs.CacheState.{CacheState, CallCounts, IsBetweenCalls, counts_of, heap_view, heap_view_of, held_blocks}
 use Rattle.seat_model.specs.Changes.{GivesBlock, GivesSpan, Loses}
-use Rattle.seat_model.proofs.ChangedBlocks.{class_in, gives_by, gives_span_by, held_same}
+use Rattle.seat_model.proofs.ChangedBlocks.{class_in, gives_by, gives_span_by}
+use Rattle.seat_model.proofs.TakenBlocks.{held_same}
 use Rattle.seat_model.proofs.HeldLemmas.{held_is, own_held, word_law}
 use Rattle.thread_cache.specs.Serving.{IsLight, IsPutBack}
 use Rattle.thread_cache.proofs.AllocLemmas.{pending_of, same_between, short_but}

@@ -10,7 +10,8 @@ use Rattle.crash_core.specs.Standing.{HasNewOwner}
 use Rattle.crash_core.proofs.StandingLemmas.{step_not, seat_is}
 use Rattle.crash_core.proofs.ReadLemmas.{lengths}
 use Rattle.crash_core.proofs.KeptFacts.{unseen_anchor}
-use Rattle.crash_core.proofs.GiveSteps.{give_fits, give_below, lost_give, give_kept, give_full}
+use Rattle.crash_core.proofs.GiveSteps.{give_fits, give_below, give_kept, give_full}
+use Rattle.crash_core.proofs.GiveParts.{lost_give}
 use Rattle.crash_core.proofs.anchor_exchanges.give.Goals as goal
 
 pub returns-in_default : goal.returns-in_default

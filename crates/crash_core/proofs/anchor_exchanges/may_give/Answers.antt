@@ -4,7 +4,8 @@ use Rattle.heap_model.specs.Sizes.{words_of_class}
 use Rattle.heap_model.specs.Words.{anchor_first}
 use Rattle.crash_core.proofs.KeptFacts.{unseen_anchor}
 use Rattle.seat_state.proofs.DecisionLemmas.{refused}
-use Rattle.crash_core.proofs.GiveSteps.{give_none, give_apart, give_other, give_full_one, give_linked, batch_fits}
+use Rattle.crash_core.proofs.GiveSteps.{batch_fits}
+use Rattle.crash_core.proofs.GiveParts.{give_none, give_apart, give_other, give_full_one, give_linked}
 use Rattle.crash_core.proofs.anchor_exchanges.may_give.Goals as goal
 use Rattle.crash_core.proofs.StandingLemmas.{seat_is}
 

@@ -5,7 +5,7 @@ use Rattle.heap_model.proofs.SizeLemmas.{few_words, two_words, four_blocks, bloc
 use Rattle.core_model.specs.Memory.{next}
 use Rattle.crash_core.specs.Standing.{memory_at}
 use Rattle.seat_state.proofs.DecisionLemmas.{refused}
-use Rattle.crash_core.proofs.CutSteps.{IsHalfLinked, half_start, half_room, half_step, half_apart, half_whole}
+use Rattle.crash_core.proofs.HalfLinked.{IsHalfLinked, half_start, half_room, half_step, half_apart, half_whole}
 use Rattle.crash_core.proofs.cuts.is_linked.Goals as goal
 
 pub next-requires-clause-until : goal.next-requires-clause-until

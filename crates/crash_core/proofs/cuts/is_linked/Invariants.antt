@@ -3,7 +3,7 @@ use Rattle.heap_model.specs.Geometry.{start_word}
 use Rattle.heap_model.specs.Sizes.{words_of_class, blocks_of}
 use Rattle.core_model.specs.Memory.{next}
 use Rattle.crash_core.specs.Standing.{memory_at}
-use Rattle.crash_core.proofs.CutSteps.{IsHalfLinked}
+use Rattle.crash_core.proofs.HalfLinked.{IsHalfLinked}
 use Rattle.crash_core.proofs.cuts.is_linked.Given as goal
 
 abbrev pub invariant-loop-step : goal.invariant-loop-step

@@ -4,7 +4,8 @@ use Rattle.core_model.specs.declared.event.Event.TheVariants.{Push}
 use Rattle.crash_core.proofs.StandingLemmas.{step_not, seat_is}
 use Rattle.crash_core.proofs.ReadLemmas.{lengths}
 use Rattle.crash_core.proofs.KeptFacts.{head_fits, unseen_head}
-use Rattle.crash_core.proofs.ListSteps.{push, lost_push}
+use Rattle.crash_core.proofs.ListSteps.{lost_push}
+use Rattle.crash_core.proofs.PushSteps.{push}
 use Rattle.crash_core.proofs.list_exchanges.push.Goals as goal
 
 pub returns-in_default : goal.returns-in_default

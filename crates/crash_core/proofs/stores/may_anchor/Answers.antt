@@ -2,7 +2,7 @@ use Rattle.std.proofs.Common.{◌+◌, refl, ap, sym, ◌∙◌, arith}
 use Rattle.seat_state.specs.Superblocks.{cutting_in, split_in}
 use Rattle.seat_state.proofs.WordLemmas.{entry_there}
 use Rattle.seat_state.proofs.DecisionLemmas.{refused}
-use Rattle.crash_core.proofs.StoreSteps.{no_anchor, cutting_anchor, split_anchor, other_anchor}
+use Rattle.crash_core.proofs.StoreDecision.{no_anchor, cutting_anchor, split_anchor, other_anchor}
 use Rattle.core_model.specs.Guards.{as_empty}
 use Rattle.crash_core.proofs.StandingLemmas.{seat_is}
 use Rattle.crash_core.proofs.stores.may_anchor.Goals as goal

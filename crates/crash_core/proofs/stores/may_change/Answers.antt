@@ -1,7 +1,7 @@
 use Rattle.std.proofs.Common.{◌+◌, refl, ap, sym, ◌∙◌}
 use Rattle.crash_core.specs.Standing.{cached_in, batched_in}
 use Rattle.seat_state.proofs.DecisionLemmas.{refused}
-use Rattle.crash_core.proofs.StoreSteps.{change_free, change_cached, change_batched}
+use Rattle.crash_core.proofs.StoreDecision.{change_free, change_cached, change_batched}
 use Rattle.crash_core.proofs.StandingLemmas.{seat_is}
 use Rattle.crash_core.proofs.stores.may_change.Goals as goal
 
