@@ -29,6 +29,7 @@ pub mod ReadableLemmas
 pub mod ReadLemmas
 pub mod RequestLemmas
 pub mod SearchLemmas
+pub mod SearchedLemmas
 pub mod SeatsLemmas
 pub mod ShardReachLemmas
 pub mod TableLemmas
