@@ -71,11 +71,12 @@ module _ (key : ℕ) (b : Block) (v u w : View) (seat : IsSeat u) (shard : IsSha
 pub answers_none : (key to : ℕ) (v w : View) → TakesOut key None v w → Answers (move key to) none v w
 answers_none key to v w takes = record { right = λ m gives. move_none key to (takes m gives).0; gives = λ m gives. (takes m gives).1 }
 
--- nor where there is no table
-there_or_not : (o : Option (List ℕ)) → (o ≡ None) ⊎ ((value : List ℕ) × (o ≡ Some value))
+-- a value is there or not
+pub there_or_not : (o : Option (List ℕ)) → (o ≡ None) ⊎ ((value : List ℕ) × (o ≡ Some value))
 there_or_not None = inl refl
 there_or_not (Some value) = inr (value, refl)
 
+-- nor is anything done where there is no table
 pub answers_full : (key to : ℕ) (v w : View) → TellsKey key true v w → Changes (shard_of key) (λ m. m) v w → Answers (move key to) full v w
 answers_full key to v w tells same = record {
   right = λ m gives. elim (there_or_not (m key)) as (λ _. IsReply m (move key to) full) [

@@ -1,8 +1,7 @@
 -- Tables that are made one after the other, and what of the earlier ones stands.
-use Rattle.std.proofs.Common.{◌≡◌, ◌≢◌, ℕ, zero, suc, ◌+◌, ◌-◌, ◌*◌, ◌<◌, ◌≤◌, ◌⊎◌, inl, inr, Bool, true, false, not, cond, List, [], ◌∷◌, Some, Contains, length, set, refl, subst, sym, ap, ◌∙◌, arith}
+use Rattle.std.proofs.Common.{◌≡◌, ◌≢◌, ℕ, zero, suc, ◌+◌, ◌-◌, ◌*◌, ◌<◌, ◌≤◌, ◌⊎◌, inl, inr, Bool, true, false, not, List, [], ◌∷◌, Contains, length, set, refl, subst, sym, ap, ◌∙◌, arith}
 use Rattle.std.specs.Prelude.{count_by, ◌&&◌}
 use Rattle.std.proofs.lemmas.Bool.{cases_eq, and_parts, and_from, and_right}
-use Rattle.std.proofs.lemmas.List.Sums.{sum_by-cons}
 use Rattle.heap_model.proofs.ListLemmas.{in_numbers, numbers_below}
 use Rattle.heap_model.specs.Geometry.{root_word}
 use Rattle.heap_model.specs.Image.{Image, words_from}
@@ -23,13 +22,14 @@ use Rattle.dict_requests.specs.Moving.{TableTakes, for_none, for_table}
 use Rattle.dict_requests.specs.Puts.{WasNull}
 use Rattle.dict_requests.specs.Reached.{ReachesAllHeld}
 use Rattle.dict_requests.specs.Removal.{IsShard}
-use Rattle.dict_requests.proofs.HandingLemmas.{set_changed}
 use Rattle.dict_requests.proofs.OthersLemmas.{shard_on}
 use Rattle.run_model.specs.Progress.{HasAnswered}
 use Rattle.run_model.specs.Spending.{sees_table, tables_made, tables_missing}
-use Rattle.run_model.proofs.CountLemmas.{count_rises, count_gains, set_value, value_set, null_unset}
+use Rattle.run_model.proofs.CountLemmas.{count_rises, count_gains, value_set, null_unset}
 use Rattle.run_model.proofs.GoesOnLemmas.{stays_on}
 use Rattle.shard_moves.specs.Tables.{is_flagged, flag_count, TellsTable}
+use Rattle.shard_moves.proofs.ToldLemmas.{HasTried, sees_on, tells_on, tells_from}
+use Rattle.shard_moves.proofs.FlagLemmas.{count_set, count_unset, made_missing}
 
 -- a change to the same map is none
 pub same_change : (shard : ℕ) (v w : View) → MayChange shard (λ m. m) v w → Changes shard (λ m. m) v w
@@ -39,14 +39,6 @@ same_change shard v w may = record {
   one : (image : Image) (map : Map) → IsMapIn w image shard map ⊎ IsMapIn w image shard map → IsMapIn w image shard map
   one image map (inl is) = is
   one image map (inr is) = is
-
--- what one shard's table leaves: calls to that shard that keep its map
-pub record HasTried {S : Type 0} (view : S → View) (keeps : S → S → Type 0) (shard : ℕ) (s t : S) : Type 0 where
-  pub maps : Changes shard (λ map. map) (view s) (view t)
-  pub change : MayChange shard (λ map. map) (view s) (view t)
-  pub takes : TableTakes shard (view s) (view t)
-  pub calls : IsRow 512 1 (span_of table_bytes) (view s) (view t)
-  pub kept : keeps s t
 
 -- so many calls as flags of shards below the number
 pub record HasCalled (flags : List Bool) (number : ℕ) (v w : View) : Type 0 where
@@ -68,105 +60,6 @@ pub record HasMade {S : Type 0} (view : S → View) (keeps : S → S → Type 0)
   pub answered : (image : Image) (rs : List (Request × Reply)) → HasAnswered image rs (view s) → HasAnswered image rs (view t)
   pub roots : (view t).roots ≡ (view s).roots
   pub kept : keeps s t
-
--- a table that loads see they see over a change of any shard
-sees_on : (v w : View) (at k : ℕ) (after : Map → Map) → MayChange at after v w → IsShard v k → sees_table v k ≡ true → sees_table w k ≡ true
-sees_on v w at k after change is sees =
-    let was = set_value (v.volatile (root_word k)) sees in
-    let now = set_changed v w at k after change is.owned (record { value = was.0; seen = was.1; some = was.2 }) in
-    value_set (w.volatile (root_word k)) now.value now.seen now.some
-
--- what was told of a shard stands over the next one
-tells_on : {S : Type 0} (view : S → View) (keeps : S → S → Type 0) (has_none : S → S → ℕ → Looks → Type 0)
-    → ((x y z : S) → keeps x y → keeps y z → keeps x z) → (at k : ℕ) (b : Bool) (s t u : S) → k ≢ at
-    → IsShard (view t) k → HasTried view keeps at t u → TellsTable view keeps has_none k b s t → TellsTable view keeps has_none k b s u
-tells_on view keeps has_none row at k true s t u other is tried set = set_changed (view t) (view u) at k (λ m. m) tried.change is.owned set
-tells_on view keeps has_none row at k false s t u other is tried (null, now, refused) = (
-  null,
-  (tried.change.others.root_words k is.owned other).volatile 0 now,
-  record {
-    at = refused.at;
-    before = refused.before;
-    behind = row refused.at t u refused.behind tried.kept;
-    null = refused.null;
-    knows = let a = refused.knows in let b = tried.calls.goes_on.used in omega arith;
-    until = let a = refused.until in let b = tried.calls.taken in omega arith;
-    room = refused.room;
-    looks = refused.looks;
-    none = refused.none;
-  },
-)
-
--- where a table doesn't go away, a root that is null was null
-null_before : (v w : View) (k : ℕ) → (sees_table v k ≡ true → sees_table w k ≡ true) → WasNull w k → WasNull v k
-null_before v w k sees null x is = elim (cases_eq x 0) as (λ _. x ≡ 0) [
-  | inl none ↦ none
-  | inr some ↦
-      let now = set_value (w.volatile (root_word k)) (sees (value_set (v.volatile (root_word k)) x is some)) in
-      absurd (now.2 (null now.0 now.1))
-]
-
--- a root that a call found null was null before the call, which keeps a table
-pub null_at_first : (v w : View) (k : ℕ) (after : Map → Map) → MayChange k after v w → Contains v.roots k → w.volatile (root_word k) ≡ Some 0
-    → WasNull v k
-null_at_first v w k after change owned null x is = elim (cases_eq x 0) as (λ _. x ≡ 0) [
-  | inl none ↦ none
-  | inr some ↦ let e : Some x ≡ Some 0 = sym (change.table.root x owned is some) ∙ null in cc
-]
-
--- and what one shard is told is so from an earlier state on
-tells_from : {S : Type 0} (view : S → View) (keeps : S → S → Type 0) (has_none : S → S → ℕ → Looks → Type 0)
-    → ((x y z : S) → keeps x y → keeps y z → keeps x z) → (k : ℕ) (b : Bool) (s t u : S)
-    → keeps s t → (sees_table (view s) k ≡ true → sees_table (view t) k ≡ true) → TellsTable view keeps has_none k b t u
-    → TellsTable view keeps has_none k b s u
-tells_from view keeps has_none row k true s t u kept sees set = set
-tells_from view keeps has_none row k false s t u kept sees (null, now, refused) = (
-  null_before (view s) (view t) k sees null,
-  now,
-  record {
-    at = refused.at;
-    before = row s t refused.at kept refused.before;
-    behind = refused.behind;
-    null = refused.null;
-    knows = refused.knows;
-    until = refused.until;
-    room = refused.room;
-    looks = refused.looks;
-    none = let none = refused.none in
-        record {
-          before = none.before;
-          after = none.after;
-          kept_before = row s t none.before kept none.kept_before;
-          none = none.none;
-          kept_after = none.kept_after;
-        };
-  },
-)
-
--- the first of the numbers that are left
-count_first : (f : ℕ → Bool) (n : ℕ) → n < shards → count_by f (words_from (λ i. i) n (shards - n)) ≡ cond (f n) 1 0 + count_by f
-    (words_from (λ i. i) (n + 1) (shards - (n + 1)))
-count_first f n below =
-    let e : shards - n ≡ suc (shards - (n + 1)) = omega arith in
-    subst (λ k. count_by f (words_from (λ i. i) n k) ≡ cond (f n) 1 0 + count_by f (words_from (λ i. i) (n + 1) (shards - (n + 1)))) (sym e)
-    (sum_by-cons (λ y. cond (f y) 1 0) n (words_from (λ i. i) (n + 1) (shards - (n + 1))))
-
-count_set : (f : ℕ → Bool) (n : ℕ) → n < shards → f n ≡ true → count_by f (words_from (λ i. i) n (shards - n)) ≡ 1 + count_by f
-    (words_from (λ i. i) (n + 1) (shards - (n + 1)))
-count_set f n below is = count_first f n below ∙ ap (λ b. cond b 1 0 + count_by f (words_from (λ i. i) (n + 1) (shards - (n + 1)))) is
-
-count_unset : (f : ℕ → Bool) (n : ℕ) → n < shards → f n ≡ false → count_by f (words_from (λ i. i) n (shards - n)) ≡ 0 + count_by f
-    (words_from (λ i. i) (n + 1) (shards - (n + 1)))
-count_unset f n below is = count_first f n below ∙ ap (λ b. cond b 1 0 + count_by f (words_from (λ i. i) (n + 1) (shards - (n + 1)))) is
-
--- a table that was made was missing
-pub made_missing : (flags : List Bool) (v w : View) → tables_made (is_flagged flags) v w ≤ tables_missing (is_flagged flags) v
-made_missing flags v w =
-    count_rises (λ k. is_flagged flags k && (sees_table w k && not (sees_table v k))) (λ k. is_flagged flags k && not (sees_table v k))
-    (words_from (λ i. i) 0 shards)
-    (λ k h both.
-    let parts = and_parts (is_flagged flags k) (sees_table w k && not (sees_table v k)) both in
-    and_from (is_flagged flags k) (not (sees_table v k)) parts.0 (and_parts (sees_table w k) (not (sees_table v k)) parts.1).1)
 
 -- the flag that is set is the one that is told, and the others stay
 pub flag_set : (flags : List Bool) (n : ℕ) (b : Bool) → n < length flags → is_flagged (set flags n b) n ≡ b

@@ -22,22 +22,25 @@ use Rattle.shard_moves.specs.Moves.{reply_of, SendsFor}
 use Rattle.shard_moves.specs.Outboxes.{AddsNode}
 use Rattle.shard_moves.specs.Tables.{flag_count, HadNoTableRoom, is_flagged, TellsTable, WasRefusedTable}
 
--- request 3 sends "ab" to key 9, and request 5 sends nothing but an empty value to key 1
+-- request 3 sends "ab" to key 9
 abbrev third : Sent
 third = record { number = 3; key = 9; value = 97 ∷ 98 ∷ [] }
 
+-- request 5 sends an empty value to key 1
 abbrev fifth : Sent
 fifth = record { number = 5; key = 1; value = [] }
 
--- the number and the key of the first of a list, and the number of the second
+-- the number of the first of a list
 abbrev first_number : List Sent → ℕ
 first_number [] = 0
 first_number (s ∷ rest) = s.number
 
+-- the key of the first
 abbrev first_key : List Sent → ℕ
 first_key [] = 0
 first_key (s ∷ rest) = s.key
 
+-- the number of the second
 abbrev second_number : List Sent → ℕ
 second_number [] = 0
 second_number (s ∷ rest) = first_number rest

@@ -2,7 +2,8 @@ use Rattle.std.proofs.Common.{ℕ, subst, arith}
 use Rattle.heap_seat.specs.declared.fault.AllocFault.{AllocFault}
 use Rattle.dict_requests.specs.Moving.{TableFails}
 use Rattle.dict_requests.specs.Changes.{MayChange, Changes}
-use Rattle.shard_moves.proofs.TableLemmas.{null_at_first, same_change}
+use Rattle.shard_moves.proofs.TableLemmas.{same_change}
+use Rattle.shard_moves.proofs.ToldLemmas.{null_at_first}
 use Rattle.shard_moves.proofs.tables.have_table.Goals as goal
 
 pub returns-in-Ok-clause-crash : goal.returns-in-Ok-clause-crash

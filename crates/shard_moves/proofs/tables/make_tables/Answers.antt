@@ -1,7 +1,8 @@
 use Rattle.std.proofs.Common.{◌+◌, arith, subst, sym, ap, length, ◌∙◌}
 use Rattle.std.proofs.lemmas.List.{length-set}
 use Rattle.shard_moves.specs.Tables.{is_flagged}
-use Rattle.shard_moves.proofs.TableLemmas.{HasMade, made_past, made_on, answered_on, most_on, calls_most, made_missing, flag_set, flag_stays}
+use Rattle.shard_moves.proofs.TableLemmas.{HasMade, made_past, made_on, answered_on, most_on, calls_most, flag_set, flag_stays}
+use Rattle.shard_moves.proofs.FlagLemmas.{made_missing}
 use Rattle.shard_moves.proofs.tables.make_tables.Goals as goal
 use Rattle.shard_moves.proofs.tables.make_tables.Goals.{then-wanted-shard+in_ok-has, else-wanted-shard}
 
