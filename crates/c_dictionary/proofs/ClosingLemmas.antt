@@ -24,7 +24,7 @@ use Rattle.c_dictionary.specs.Passing.{Becomes, HasHalted}
 use Rattle.c_dictionary.specs.Ready.{HasStopped, IsSound}
 use Rattle.c_dictionary.specs.Taking.{IsTaken, IsNotTaken}
 use Rattle.c_dictionary.proofs.EmptyLemmas.{only_memory}
-use Rattle.c_dictionary.proofs.FaultLemmas.{words_image}
+use Rattle.region_header.proofs.WordBytes.{image_of_words}
 
 -- a shard of a sound dictionary is a map in each of its images
 shard_map : (s : Store) (words : List ℕ) → IsSound s → IsImageOf s words → (shard : ℕ) → shard < shards
@@ -59,7 +59,7 @@ module _ (old : Option Store) (size : ℕ) where
       leaves = record { store = taken.store; had = is.had; words = words; are = are; image = image }
 
       pub state_in : (state : ℕ) → state_of (slice_index words) ≡ state → state_of (image_of_bytes bytes) ≡ state
-      state_in state at = ap state_of (sym (words_image words bytes are)) ∙ at
+      state_in state at = ap state_of (sym (image_of_words words bytes are)) ∙ at
 
       pub clean_in : HasStopped taken.store ⊎ (state_of (slice_index words) ≡ clean)
           → HasHalted old ⊎ (state_of (image_of_bytes bytes) ≡ clean)
@@ -67,7 +67,7 @@ module _ (old : Option Store) (size : ℕ) where
       clean_in (inr at) = inr (state_in clean at)
 
       pub scrambled_in : (seed : ℕ) → IsScrambledBy seed (slice_index words) → IsScrambledBy seed (image_of_bytes bytes)
-      scrambled_in seed by = subst (IsScrambledBy seed) (words_image words bytes are) by
+      scrambled_in seed by = subst (IsScrambledBy seed) (image_of_words words bytes are) by
 
       -- and it was opened over them again
       pub again_bytes : (new : Option Store) → OpensWords words new → OpensBytes bytes new

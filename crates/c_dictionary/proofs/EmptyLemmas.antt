@@ -1,18 +1,16 @@
 -- The image of an empty heap is opened as a dictionary without keys.
-use Rattle.std.proofs.Common.{◌≡◌, ◌≢◌, ℕ, ◌*◌, ◌<◌, ◌≤◌, inr, List, length, Option, Some, refl, sym, ap, subst, ◌∙◌, arith}
+use Rattle.std.proofs.Common.{◌≡◌, ℕ, ◌*◌, ◌<◌, ◌≤◌, inr, List, length, Option, Some, refl, sym, ap, subst, ◌∙◌, arith}
 use Rattle.std.specs.Prelude.{slice_index, cond, nat_lt}
 use Rattle.std.proofs.Math.Path.{fun_ext}
 use Rattle.std.proofs.lemmas.Bool.{lt-ltb, cond-true, cond_both}
-use Rattle.heap_model.specs.declared.block.Block.{Block}
-use Rattle.heap_model.specs.Geometry.{roots, largest_capacity, root_word, kind_word, image_words}
+use Rattle.heap_model.specs.Geometry.{largest_capacity, root_word, kind_word, image_words}
 use Rattle.heap_model.specs.Header.{empty_words, first_kinds, HasKindsBelow, IsWellFormed, capacity_of, kinds_of}
 use Rattle.heap_model.specs.Image.{Image}
-use Rattle.heap_model.specs.Pointers.{Leads}
-use Rattle.heap_model.specs.Reach.{ReachIn, IsOutsideIn, IsTraced, is_root, is_linked}
+use Rattle.heap_model.specs.Reach.{IsOutsideIn}
 use Rattle.heap_model.proofs.EmptyLemmas.{first_kind, empty_word, empty_kind, empty_formed, empty_capacity}
 use Rattle.heap_model.proofs.HeaderLemmas.{no_fault}
-use Rattle.heap_model.proofs.ReachLemmas.{closure_least}
 use Rattle.region_header.specs.Migration.{current_words}
+use Rattle.region_header.proofs.EmptyKinds.{null_roots}
 use Rattle.dict_model.specs.Links.{shards, dict_links, kind_count}
 use Rattle.dict_model.specs.Nodes.{shard_of}
 use Rattle.dict_model.specs.Shards.{Map, MapOf, is_empty, no_keys}
@@ -28,7 +26,7 @@ use Rattle.c_dictionary.specs.Dictionary.{Holds}
 use Rattle.c_dictionary.specs.Faults.{IsRefused, status_of, told}
 use Rattle.c_dictionary.specs.Images.{OpensWords, OpensEmpty}
 use Rattle.c_dictionary.proofs.ImageLemmas.{current_is}
-use Rattle.c_dictionary.proofs.TurnLemmas.{low}
+use Rattle.dict_requests.proofs.DeleteLemmas.{shard_below}
 
 -- a fault of an image that can be recovered, and whose shards are maps, is want of memory
 pub only_memory : (words : List ℕ) → CanBeRecovered words → ((shard : ℕ) → shard < shards → (map : Map) × MapOf (current_image words) shard map)
@@ -50,11 +48,8 @@ module _ (capacity : ℕ) (some : 1 ≤ capacity) (small : capacity ≤ largest_
   formed : IsWellFormed (8 * length (empty_words capacity)) image
   formed = empty_formed capacity some small
 
-  root_null : (root : ℕ) → root < roots → image (root_word root) ≡ 0
-  root_null root below = empty_word capacity (root_word root) (omega arith) (omega arith)
-
-  none_leads : (root : ℕ) (b : Block) → root < roots → Leads image (image (root_word root)) b → ⊥
-  none_leads root b below leads = let tagged = leads.pointer.tagged in let null = root_null root below in omega arith
+  null_root : (shard : ℕ) → shard < shards → image (root_word shard) ≡ 0
+  null_root shard below = empty_word capacity (root_word shard) (omega arith) (omega arith)
 
   kind_is : (i : ℕ) → kinds_of image i ≡ cond (nat_lt i 8) 1 0
   kind_is i = ap (λ c. image (kind_word c i)) (empty_capacity capacity) ∙ empty_kind capacity i ∙ first_kind i
@@ -63,31 +58,21 @@ module _ (capacity : ℕ) (some : 1 ≤ capacity) (small : capacity ≤ largest_
   kinds_below = λ i below. subst (λ n. n < kind_count) (sym (kind_is i))
       (cond_both (nat_lt i 8) 1 0 (λ n. n < kind_count) (λ _. omega arith) (λ _. omega arith))
 
-  -- nothing is reached, so nothing is outside
-  none_reached : (b : Block) (kind : ℕ) → ReachIn image dict_links b kind → ⊥
-  none_reached = closure_least (λ b kind. ⊥) (λ b kind start. none_leads start.root b start.below start.leads) (λ a b from kind reached has
-      link. has)
-
-  none_outside : (at : ℕ) → IsOutsideIn image dict_links at → ⊥
-  none_outside at out = by_trace at out.traced out.outside.not_null where
-    by_trace : (at : ℕ) → IsTraced image (kinds_of image) dict_links at → image at ≢ 0 → ⊥
-    by_trace _ (is_root root at below chosen is) some = some (ap image is ∙ root_null root below)
-    by_trace _ (is_linked a from position kind at reached listed is) some = none_reached a from reached
-
   same : current_words (empty_words capacity) first_kinds ≡ empty_words capacity
   same = current_is (empty_words capacity) formed.version_is
 
   pub empty_good : CanBeRecovered (empty_words capacity)
   empty_good = record {
     header = no_fault (Some kind_count) (8 * length (empty_words capacity)) image (inr (formed, kinds_below));
-    inside = subst (λ (ws : List ℕ). (at : ℕ) → IsOutsideIn (slice_index ws) dict_links at → ⊥) (sym same) none_outside;
+    inside = subst (λ (ws : List ℕ). (at : ℕ) → IsOutsideIn (slice_index ws) dict_links at → ⊥) (sym same)
+        ((null_roots image (λ root below. empty_word capacity (root_word root) (omega arith) (omega arith))).none_outside dict_links);
   }
 
   -- each shard is the map without keys, and no other
   empty_shard : (shard : ℕ) → shard < shards → MapOf image shard no_keys
   empty_shard shard below = record {
     kind_is = kind_is shard ∙ cond-true (nat_lt shard 8) 1 0 (lt-ltb shard 8 below);
-    is_map = is_empty (root_null shard (omega arith)) (λ key. refl);
+    is_map = is_empty (null_root shard below) (λ key. refl);
   }
 
   current_shard : (shard : ℕ) → shard < shards → MapOf (current_image (empty_words capacity)) shard no_keys
@@ -99,7 +84,8 @@ module _ (capacity : ℕ) (some : 1 ≤ capacity) (small : capacity ≤ largest_
   only_empty : (map : Map) → IsWholeMap (current_image (empty_words capacity)) map → map ≡ no_keys
   only_empty map whole = fun_ext (λ key.
       let p = whole.each key in
-      sym p.2 ∙ one_map_of (current_image (empty_words capacity)) (shard_of key) p.0 no_keys p.1 (current_shard (shard_of key) (low key)) key)
+      sym p.2 ∙ one_map_of (current_image (empty_words capacity)) (shard_of key) p.0 no_keys p.1
+      (current_shard (shard_of key) (shard_below key)) key)
 
   -- so what is opened over it has no keys
   pub opens_empty : (new : Option Store) → OpensWords (empty_words capacity) new → OpensEmpty capacity new

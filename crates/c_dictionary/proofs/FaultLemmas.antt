@@ -1,10 +1,10 @@
 -- What faults are told as.
 use Rattle.std.proofs.Common.{◌≡◌, ℕ, ◌*◌, List, length, Some, sym, ap, ◌∙◌, arith}
 use Rattle.std.specs.Prelude.{slice_index}
-use Rattle.std.proofs.Math.Path.{fun_ext}
 use Rattle.heap_model.specs.Header.{header_fault}
 use Rattle.heap_model.specs.Image.{Image, image_of_bytes}
 use Rattle.region_header.specs.Words.{AreWordsOf}
+use Rattle.region_header.proofs.WordBytes.{image_of_words}
 use Rattle.dict_model.specs.Links.{kind_count}
 use Rattle.dictionary_heap.specs.Faults.{TellsFault}
 use Rattle.dictionary_heap.specs.declared.fault.OpenFault.{OpenFault}
@@ -25,15 +25,11 @@ not_usage (Outside at value) status is e = omega arith
 not_usage (BadShard shard at) status is e = omega arith
 not_usage Memory status is e = omega arith
 
--- the image of words is that of their bytes
-pub words_image : (words bytes : List ℕ) → AreWordsOf words bytes → slice_index words ≡ image_of_bytes bytes
-words_image words bytes are = fun_ext (λ i. are.word i)
-
 same_header : (words bytes : List ℕ) → AreWordsOf words bytes
     → header_fault (Some kind_count) (8 * length words) (slice_index words) ≡ header_fault (Some kind_count) (length bytes) (image_of_bytes bytes)
 same_header words bytes are =
     ap (λ n. header_fault (Some kind_count) n (slice_index words)) are.count
-    ∙ ap (λ (image : Image). header_fault (Some kind_count) (length bytes) image) (words_image words bytes are)
+    ∙ ap (λ (image : Image). header_fault (Some kind_count) (length bytes) image) (image_of_words words bytes are)
 
 -- so a fault of the words is one of the bytes
 pub fault_of_bytes : (words bytes : List ℕ) (status : ℕ) (old new : Fault) → AreWordsOf words bytes

@@ -30,7 +30,7 @@ use Rattle.c_dictionary.specs.declared.store.Store.{Store}
 use Rattle.c_dictionary.specs.Dictionary.{Holds}
 use Rattle.c_dictionary.specs.Images.{IsImageOf}
 use Rattle.c_dictionary.specs.Ready.{IsSound}
-use Rattle.c_dictionary.proofs.TurnLemmas.{low}
+use Rattle.dict_requests.proofs.DeleteLemmas.{shard_below}
 
 -- words of this version are those of their image
 pub current_is : (words : List ℕ) → slice_index words version_word ≡ version → current_words words first_kinds ≡ words
@@ -144,9 +144,9 @@ module _ (s : Store) (sound : IsSound s) where
           ];
       whole = λ map holds. record {
         each = λ key.
-            let p = holds.gives.each (shard_of key) (low key) in (
+            let p = holds.gives.each (shard_of key) (shard_below key) in (
               p.part,
-              left_map (shard_of key) p.part (low key) (p.gives.each (slice_index words) (mixed_law s.heap (slice_index words) may)),
+              left_map (shard_of key) p.part (shard_below key) (p.gives.each (slice_index words) (mixed_law s.heap (slice_index words) may)),
               p.same key refl,
             );
       };

@@ -6,7 +6,7 @@ use Rattle.std.specs.List.{list_any}
 use Rattle.std.specs.BTreeMap.{BTreeMap, get, is_at}
 use Rattle.std.specs.BTreeSet.{BTreeSet, contains, Updates, IsUnchanged}
 use Rattle.std.specs.Ordering.{nat_cmp, eq_by_cmp}
-use Rattle.std.proofs.lemmas.Bool.{cases_order, cases_eq, lt-ltb, le-ltb, eq-eqb, ne_eqb, eqb-true, false≢true}
+use Rattle.std.proofs.lemmas.Bool.{cases_order, cases_eq, lt-ltb, le-ltb, eq-eqb, ne_eqb, eqb-true, false≢true, or_cases, or_left, or_right}
 use Rattle.dict_model.specs.Requests.{with_key, without_key}
 use Rattle.dict_model.specs.Shards.{Map}
 use Rattle.c_dictionary.specs.Keys.{Lists, HasMore, HasKey, ListsFirst}
@@ -68,18 +68,6 @@ lists_absent keys map key none lists = record { each = λ q. lists.each q ∙ sa
   same true q is = ap (λ k. is_some (map k)) (sym (eqb-true key q is)) ∙ ap is_some none
 
 -- the keys of the first maps, one map after the other
-either_true : (a b : Bool) → (a || b) ≡ true → (a ≡ true) ⊎ (b ≡ true)
-either_true true b is = inl refl
-either_true false b is = inr is
-
-left_true : (a b : Bool) → a ≡ true → (a || b) ≡ true
-left_true true b is = refl
-left_true false b is = absurd (false≢true is)
-
-right_true : (a b : Bool) → b ≡ true → (a || b) ≡ true
-right_true true b is = refl
-right_true false b is = is
-
 pub some_same : (a b : BTreeMap ℕ (List ℕ)) → ◌≡◌ {A = Option (BTreeMap ℕ (List ℕ))} (Some a) (Some b) → a ≡ b
 some_same a b e = cc
 
@@ -104,14 +92,14 @@ module _ (maps : List (BTreeMap ℕ (List ℕ))) (i : ℕ) (map : BTreeMap ℕ (
   now_true : (key : ℕ) → (k : HasKey maps (i + 1) key) → (k.i ≡ i) ⊎ (k.i ≢ i) → (contains nat_cmp old key || is_some (get nat_cmp map key)) ≡ true
   now_true key k (inl same) =
       let same_map : k.map ≡ map = some_same k.map map (sym k.is ∙ ap (slice_get maps) same ∙ is) in
-      right_true (contains nat_cmp old key) (is_some (get nat_cmp map key))
+      or_right (contains nat_cmp old key) (is_some (get nat_cmp map key))
       (ap (λ (m : BTreeMap ℕ (List ℕ)). is_some (get nat_cmp m key)) (sym same_map) ∙ k.has)
   now_true key k (inr differs) =
-      left_true (contains nat_cmp old key) (is_some (get nat_cmp map key))
+      or_left (contains nat_cmp old key) (is_some (get nat_cmp map key))
       (first.complete key (record { i = k.i; below = (let low = k.below in omega arith); map = k.map; is = k.is; has = k.has }))
 
   pub one_more : ListsFirst maps (i + 1) new
   one_more = record {
-    sound = λ key has. from_true key (either_true (contains nat_cmp old key) (is_some (get nat_cmp map key)) (sym (more.each key) ∙ has));
+    sound = λ key has. from_true key (or_cases (contains nat_cmp old key) (is_some (get nat_cmp map key)) (sym (more.each key) ∙ has));
     complete = λ key k. more.each key ∙ now_true key k (cases_eq k.i i);
   }

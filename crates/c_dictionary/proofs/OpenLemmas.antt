@@ -30,7 +30,7 @@ use Rattle.c_dictionary.specs.Images.{IsMapOf}
 use Rattle.c_dictionary.specs.Ready.{HasAllSteps, IsReady, IsSound}
 use Rattle.c_dictionary.specs.declared.store.Store.{Store}
 use Rattle.c_dictionary.proofs.KeyLemmas.{some_same}
-use Rattle.c_dictionary.proofs.TurnLemmas.{low}
+use Rattle.dict_requests.proofs.DeleteLemmas.{shard_below}
 
 -- a key of a shard's map belongs to the shard
 own_key : (leads : Leading) (image : Image) (shard : ℕ) (map : Map) → IsMap leads image shard map → (key : ℕ) → map key ≢ None → shard_of
@@ -54,15 +54,15 @@ same_option false false there back = refl
 module _ (image : Image) (s : SeqState) (maps : GivesMapsOf image (seat_of s)) where
   -- the map of all keys
   abbrev pub whole : Map
-  whole key = (maps.each (shard_of key) (low key)).0 key
+  whole key = (maps.each (shard_of key) (shard_below key)).0 key
 
   pub whole_is : IsWholeMap image whole
-  whole_is = record { each = λ key. let p = maps.each (shard_of key) (low key) in (p.0, p.1, refl) }
+  whole_is = record { each = λ key. let p = maps.each (shard_of key) (shard_below key) in (p.0, p.1, refl) }
 
   -- a map of a shard has of its keys what the whole map has
   pub part_is : (shard : ℕ) (part : Map) → MapOf image shard part → (key : ℕ) → shard_of key ≡ shard → part key ≡ whole key
   part_is shard part is key same =
-      let p = maps.each (shard_of key) (low key) in
+      let p = maps.each (shard_of key) (shard_below key) in
       one_map_of image (shard_of key) part p.0 (subst (λ n. MapOf image n part) (sym same) is) p.1 key
 
   pub gives : GivesWhole (seat_of s) whole
@@ -84,10 +84,10 @@ module _ (image : Image) (s : SeqState) (maps : GivesMapsOf image (seat_of s)) w
 
     back : (key : ℕ) → is_some (whole key) ≡ true → contains nat_cmp keys key ≡ true
     back key some =
-        let m = are.each (shard_of key) (low key) in
+        let m = are.each (shard_of key) (shard_below key) in
         all.complete key (record {
           i = shard_of key;
-          below = let few = low key in let long = are.long in omega arith;
+          below = let few = shard_below key in let long = are.long in omega arith;
           map = m.0;
           is = m.1;
           has = ap is_some (part_is (shard_of key) (get nat_cmp m.0) m.2 key refl) ∙ some;

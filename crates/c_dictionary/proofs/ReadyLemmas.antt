@@ -14,7 +14,8 @@ use Rattle.c_dictionary.specs.Keys.{Lists}
 use Rattle.c_dictionary.specs.Ready.{IsReady}
 use Rattle.c_dictionary.specs.declared.store.Store.{Store}
 use Rattle.c_dictionary.proofs.KeyLemmas.{taken_again}
-use Rattle.c_dictionary.proofs.TurnLemmas.{IsLocal, low, turned}
+use Rattle.dict_requests.proofs.DeleteLemmas.{shard_below}
+use Rattle.c_dictionary.proofs.TurnLemmas.{IsLocal, turned}
 
 -- a request of the shard of a key, and the keys that are listed then
 module _ (s t : Store) (ready : IsReady s) (key : ℕ) (may made : Map → Map)
@@ -29,7 +30,7 @@ module _ (s t : Store) (ready : IsReady s) (key : ℕ) (may made : Map → Map)
   pub ready_after : t.heap.stopped ≡ None → IsReady t
   ready_after running = record {
     running = running;
-    shards = shards_on (seat_of s.heap) (seat_of t.heap) (shard_of key) may (seat_law s.heap) (low key) changes made ready.shards done;
+    shards = shards_on (seat_of s.heap) (seat_of t.heap) (shard_of key) may (seat_law s.heap) (shard_below key) changes made ready.shards done;
     map = made ready.map;
     holds = turns_after ready.map ready.holds;
   }

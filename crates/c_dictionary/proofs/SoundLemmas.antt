@@ -16,14 +16,14 @@ use Rattle.dict_requests.specs.Puts.{PutRefused, of_node, of_node_behind_table, 
 use Rattle.dict_requests.proofs.OthersLemmas.{others_give}
 use Rattle.c_dictionary.specs.declared.store.Store.{Store}
 use Rattle.c_dictionary.specs.Ready.{HasMaps, HasStopped, IsReady, IsSound}
-use Rattle.c_dictionary.proofs.TurnLemmas.{low}
+use Rattle.dict_requests.proofs.DeleteLemmas.{shard_below}
 
 module _ (s t : Store) (ready : IsReady s) (sound : IsSound s) (key : ℕ) (may : Map → Map)
     (change : MayChange (shard_of key) may (seat_of s.heap) (seat_of t.heap)) (keeps : KeepsFixed s.heap t.heap) (same : t.length ≡ s.length) where
   maps_after : (shard : ℕ) → shard < shards → HasMaps (seat_of t.heap) shard
   maps_after shard small = elim (cases_eq shard (shard_of key)) as (λ _. HasMaps (seat_of t.heap) shard) [
     | inl is ↦
-        let had = ready.shards.each (shard_of key) (low key) in
+        let had = ready.shards.each (shard_of key) (shard_below key) in
         record {
           one = had.map;
           other = may had.map;
@@ -31,7 +31,7 @@ module _ (s t : Store) (ready : IsReady s) (sound : IsSound s) (key : ℕ) (may 
         }
     | inr differs ↦
         let had = ready.shards.each shard small in
-        let gives = others_give (seat_of s.heap) (seat_of t.heap) (shard_of key) may (seat_law s.heap) (low key) change shard had.map differs
+        let gives = others_give (seat_of s.heap) (seat_of t.heap) (shard_of key) may (seat_law s.heap) (shard_below key) change shard had.map differs
         had had.gives in
         record { one = had.map; other = had.map; either = record { each = λ image mixes. inl (gives.each image mixes) } }
   ]

@@ -1,6 +1,5 @@
 -- A request to one shard, seen at the whole dictionary.
-use Rattle.std.proofs.Common.{◌≡◌, ◌≢◌, ℕ, ◌<◌, inl, inr, List, false, cond, nat_eq, Option, None, Some, refl, sym, ap, subst, ◌∙◌, arith}
-use Rattle.std.proofs.Math.Nat.{mod-lt}
+use Rattle.std.proofs.Common.{◌≡◌, ◌≢◌, ℕ, ◌<◌, inl, inr, List, false, cond, nat_eq, Option, None, Some, refl, sym, ap, subst, ◌∙◌}
 use Rattle.std.proofs.lemmas.Bool.{cases_eq, cond-false, ne_eqb, false≢true}
 use Rattle.heap_seat.specs.View.{View}
 use Rattle.block_heap.specs.Laws.{seat_law}
@@ -12,6 +11,7 @@ use Rattle.dict_model.specs.Shards.{Map}
 use Rattle.dict_requests.specs.Answers.{Deletes}
 use Rattle.dict_requests.specs.Changes.{MayChange, Changes}
 use Rattle.dict_requests.specs.Shards.{HasShards}
+use Rattle.dict_requests.proofs.DeleteLemmas.{shard_below}
 use Rattle.dict_requests.proofs.OthersLemmas.{others_give}
 use Rattle.c_dictionary.specs.Dictionary.{GivesPart, GivesWhole}
 
@@ -35,9 +35,6 @@ without_local key = record {
 pub same_local : (key : ℕ) → IsLocal key (λ map. map)
 same_local key = record { alike = λ a b k same. same; others = λ a k other. refl }
 
-pub low : (key : ℕ) → shard_of key < shards
-low key = mod-lt key (omega arith)
-
 module _ (s t : SeqState) (key : ℕ) (may : Map → Map) (has : HasShards (seat_of s))
     (change : MayChange (shard_of key) may (seat_of s) (seat_of t)) where
   other_part : (whole : Map) → GivesWhole (seat_of s) whole → (shard : ℕ) → shard < shards → shard ≢ shard_of key → GivesPart (seat_of t) whole shard
@@ -45,7 +42,7 @@ module _ (s t : SeqState) (key : ℕ) (may : Map → Map) (has : HasShards (seat
       let p = gives.each shard small in
       record {
         part = p.part;
-        gives = others_give (seat_of s) (seat_of t) (shard_of key) may (seat_law s) (low key) change shard p.part differs
+        gives = others_give (seat_of s) (seat_of t) (shard_of key) may (seat_law s) (shard_below key) change shard p.part differs
             (has.each shard small) p.gives;
         same = p.same;
       }
@@ -56,7 +53,7 @@ module _ (s t : SeqState) (key : ℕ) (may : Map → Map) (has : HasShards (seat
   turned made local done whole gives = record {
     each = λ shard small. elim (cases_eq shard (shard_of key)) as (λ _. GivesPart (seat_of t) (made whole) shard) [
       | inl same ↦
-          let p = gives.each (shard_of key) (low key) in
+          let p = gives.each (shard_of key) (shard_below key) in
           subst (GivesPart (seat_of t) (made whole)) (sym same) (record {
             part = made p.part;
             gives = done.gives p.part p.gives;
@@ -71,7 +68,7 @@ module _ (s t : SeqState) (key : ℕ) (may : Map → Map) (has : HasShards (seat
 -- a delete that found nothing
 pub was_absent : (key : ℕ) (v w : View) → Deletes key false v w → (map : Map) → GivesWhole v map → map key ≡ None
 was_absent key v w told map gives =
-    let p = gives.each (shard_of key) (low key) in
+    let p = gives.each (shard_of key) (shard_below key) in
     sym (p.same key refl) ∙ is_none (p.part key) (λ some. false≢true ((told.tells p.part p.gives).1 some)) where
       is_none : (o : Option (List ℕ)) → (o ≢ None → ⊥) → o ≡ None
       is_none None not = refl
