@@ -1,6 +1,6 @@
 -- The first word of a block on its way from one seat to the other.
 use Rattle.std.proofs.Common.{◌≡◌, ◌≢◌, ◌≤◌, ◌+◌, ℕ, Option, None, Some, Result, Ok, Err, inl, inr, arith, subst, sym, ◌∙◌}
-use Rattle.std.specs.Prelude.{Contains, IfOk, IfSome, OnErr}
+use Rattle.std.specs.Prelude.{Contains, IfSome, OnErr}
 use Rattle.heap_model.specs.declared.block.Block.{Block}
 use Rattle.heap_model.specs.Blocks.{IsIn}
 use Rattle.core_model.specs.Held.{AreApart}
@@ -39,10 +39,6 @@ on_err P (Err e) p = p
 pub if_some : {A : Type 0} (P Q : A → Type 0) (o : Option A) → ((a : A) → P a → Q a) → IfSome o P → IfSome o Q
 if_some P Q None f p = tt
 if_some P Q (Some a) f p = f a p
-
-pub if_ok : {A B : Type 0} (P Q : A → Type 0) (r : Result A B) → ((a : A) → P a → Q a) → IfOk r P → IfOk r Q
-if_ok P Q (Ok a) f p = f a p
-if_ok P Q (Err e) f p = tt
 
 -- a block that is new is apart from those that were held
 pub apart_from_new : (a b : Block) (v w : View) → IsSeat w → Adds b v w → Contains v.held a → AreApart a b

@@ -1,6 +1,7 @@
 -- What both threads leave, of what each of them does.
 use Rattle.std.proofs.Common.{◌≡◌, ℕ, ap, arith, subst, sym, ◌∙◌}
 use Rattle.std.specs.Prelude.{Contains, IfOk}
+use Rattle.std.proofs.lemmas.Result.{IfOk-weaker}
 use Rattle.heap_model.specs.declared.block.Block.{Block}
 use Rattle.core_model.specs.Held.{AreApart, IsHeld}
 use Rattle.core_model.specs.View.{Role, View, role}
@@ -15,7 +16,7 @@ use Rattle.first_handover.specs.declared.threads.Ended.{Ended}
 use Rattle.first_handover.specs.declared.threads.Owning.{Owning}
 use Rattle.first_handover.specs.declared.threads.Sent.{Sent}
 use Rattle.first_handover.specs.Handover.{HasEnded, HasOwn, HasSent, HaveWorked, IsBackFrom}
-use Rattle.first_handover.proofs.Words.{if_ok, if_some}
+use Rattle.first_handover.proofs.Words.{if_some}
 
 -- a seat that is given back as it is
 pub back_from : (shared : SharedView) (v : View) (seat : SeatView) → HasSoundState seat.view → IsSeatOf shared seat
@@ -52,12 +53,12 @@ module _ (shared : SharedView) (value : ℕ) (sent : Sent) (owning : Owning) (on
   worked_of sends owns back roles ends = record {
     one = back.of;
     other = ends.back.of;
-    kept = if_ok (Contains (held_blocks sent.seat.view)) (IsHeld one.view) sent.kept back.held sends.kept;
+    kept = IfOk-weaker sent.kept (Contains (held_blocks sent.seat.view)) (IsHeld one.view) back.held sends.kept;
     received = ends.received value sends.brings;
     gets = ends.gets;
     apart = if_some (λ (r : Received). (a : Block) → Contains (held_blocks owning.seat.view) a → AreApart a r.block)
         (λ r. IfOk owning.own (λ a. AreApart a r.block)) ended.taken.received
-        (λ r apart. if_ok (Contains (held_blocks owning.seat.view)) (λ a. AreApart a r.block) owning.own apart owns.own) ends.apart;
+        (λ r apart. IfOk-weaker owning.own (Contains (held_blocks owning.seat.view)) (λ a. AreApart a r.block) apart owns.own) ends.apart;
     table = ends.table;
     is_seat = ends.accepted.carries ∙ ap (λ (r : Role). r.carries) owns.role_is;
     none_lost =

@@ -1,5 +1,6 @@
 use Rattle.std.proofs.Common.{◌≡◌, ap, subst, ◌∙◌}
 use Rattle.std.specs.Prelude.{IfOk}
+use Rattle.std.proofs.lemmas.Result.{IfOk-weaker}
 use Rattle.heap_model.specs.Image.{Image}
 use Rattle.core_model.specs.Held.{AreApart, IsHeld}
 use Rattle.core_model.specs.View.{View}
@@ -8,7 +9,7 @@ use Rattle.heap_rule.specs.Seated.{SeatView}
 use Rattle.first_handover.specs.declared.hands.Received.{Received}
 use Rattle.first_handover.specs.Handover.{HasBlock, IsLeftOf, KnowsReceived}
 use Rattle.first_handover.proofs.Closing.{has_block}
-use Rattle.first_handover.proofs.Words.{if_ok, if_some}
+use Rattle.first_handover.proofs.Words.{if_some}
 use Rattle.first_handover.proofs.handover.hand_over.Goals as goal
 
 pub returns-clause-value : goal.returns-clause-value
@@ -23,7 +24,7 @@ returns-clause-kept g c =
     let one = worked.result.one in
     let other = worked.result.other in
     if_some (λ (r : Received). IsHeld other.view r.block) (λ r. IfOk worked.result.kept (λ a. AreApart a r.block)) worked.result.received
-    (λ r held. if_ok (IsHeld one.view) (λ a. AreApart a r.block) worked.result.kept
+    (λ r held. IfOk-weaker worked.result.kept (IsHeld one.view) (λ a. AreApart a r.block)
     (λ a there. c.held_at_once-one.ensures.apart a r.block there held) worked.ensures.kept) worked.ensures.gets
 
 pub returns-clause-left : goal.returns-clause-left

@@ -1,8 +1,8 @@
 use Rattle.std.proofs.Common.{Contains, ap, ◌∙◌}
+use Rattle.std.proofs.lemmas.Result.{IfOk-weaker}
 use Rattle.core_model.specs.View.{role}
 use Rattle.heap_seat.specs.Alloc.{Allocates}
 use Rattle.seat_model.specs.CacheState.{heap_view, held_blocks}
-use Rattle.first_handover.proofs.Words.{if_ok}
 use Rattle.first_handover.proofs.Working.{between_at, held_at, seat_of}
 use Rattle.first_handover.proofs.threads.begin_second.Goals as goal
 
@@ -18,7 +18,7 @@ returns c =
         of = seat_of c.args.shared.now c.args.seat first at seat c.requires.of new kept.0 kept.1.setup back.table back.view;
         between = between_at at seat.view back.view;
       };
-      own = if_ok (λ b. Allocates 100 b (heap_view first) (heap_view at)) (Contains (held_blocks seat.view)) c.alloc-own.result
+      own = IfOk-weaker c.alloc-own.result (λ b. Allocates 100 b (heap_view first) (heap_view at)) (Contains (held_blocks seat.view))
           (λ b got. held_at seat.view at.view b back.view got.blocks.has) c.alloc-own.ensures.ok;
       role_is = ap role back.view ∙ kept.2 ∙ ap role new.view ∙ c.requires.role_is;
     }
