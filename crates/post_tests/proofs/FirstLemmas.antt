@@ -1,7 +1,7 @@
 -- What the first of two workers needs for its three requests, and what it begins with.
 use Rattle.std.proofs.Common.{◌≡◌, ℕ, Bool, true, false, inl, inr, List, [], ◌∷◌, length, map, Contains, refl, ap, sym, subst, ◌∙◌, arith}
-use Rattle.std.specs.Prelude.{◌&&◌, ◌||◌, nat_eq}
-use Rattle.std.proofs.lemmas.Bool.{eqb-true}
+use Rattle.std.specs.Prelude.{◌||◌, nat_eq}
+use Rattle.std.proofs.lemmas.Bool.{and_parts, eqb-true}
 use Rattle.heap_model.proofs.MemberLemmas.{head_or_rest, in_none}
 use Rattle.dict_model.specs.Requests.{Request, get, move, put}
 use Rattle.run_model.specs.Needs.{is_target_of}
@@ -16,14 +16,6 @@ use Rattle.worker_run.specs.Sending.{rooms_needed}
 use Rattle.run_rows.specs.Posts.{ArePassesTo}
 use Rattle.post_tests.specs.Begun.{AreUnused, move_among_others}
 
-first_of : (b c : Bool) → (b && c) ≡ true → b ≡ true
-first_of true c is = refl
-first_of false c is = absurd (cc)
-
-second_of : (b c : Bool) → (b && c) ≡ true → c ≡ true
-second_of true c is = is
-second_of false c is = absurd (cc)
-
 or_none : (b : Bool) → (b || false) ≡ true → b ≡ true
 or_none true is = refl
 or_none false is = absurd (cc)
@@ -31,9 +23,9 @@ or_none false is = absurd (cc)
 -- the move is to no shard of the first worker
 none_aimed : (shard : ℕ) → is_target_of 2 0 move_among_others shard ≡ true → ⊥
 none_aimed shard is =
-    let own : nat_eq (worker_of 2 shard) 0 ≡ true = first_of (nat_eq (worker_of 2 shard) 0) (nat_eq 1 shard || false) is in
-    let one : 1 ≡ shard = eqb-true 1 shard (or_none (nat_eq 1 shard) (second_of (nat_eq (worker_of 2 shard) 0) (nat_eq 1 shard || false) is)) in
-    let odd : false ≡ true = subst (λ s. nat_eq (worker_of 2 s) 0 ≡ true) (sym one) own in
+    let parts = and_parts (nat_eq (worker_of 2 shard) 0) (nat_eq 1 shard || false) is in
+    let one : 1 ≡ shard = eqb-true 1 shard (or_none (nat_eq 1 shard) parts.1) in
+    let odd : false ≡ true = subst (λ s. nat_eq (worker_of 2 s) 0 ≡ true) (sym one) parts.0 in
     absurd (cc)
 
 needs_one : rooms_needed (worker_requests 2 0 move_among_others) ≡ 1

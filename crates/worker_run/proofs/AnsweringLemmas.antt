@@ -1,5 +1,5 @@
 -- The reply to one request, from what the dictionary's call answers.
-use Rattle.std.proofs.Common.{◌≡◌, ℕ, ◌+◌, ◌≤◌, ◌⊎◌, inl, inr, List, length, Option, None, Some, Result, Ok, Err, IfOk, true, false, refl, subst, sym, ap, ◌++◌, take, drop, ◌∙◌, arith}
+use Rattle.std.proofs.Common.{◌≡◌, ℕ, ◌+◌, ◌≤◌, ◌⊎◌, inl, inr, List, length, Option, None, Some, true, false, refl, subst, sym, ap, ◌++◌, take, drop, ◌∙◌, arith}
 use Rattle.std.proofs.Math.Seq.{take-append_seam}
 use Rattle.std.proofs.lemmas.List.{take_all}
 use Rattle.heap_seat.specs.View.{View}
@@ -75,11 +75,6 @@ was_refused view keeps has_none key value looks s t refused down = record {
   asked = asks_for key value looks (view s) (view t) refused;
   none = down;
 }
-
--- what follows from a good answer
-pub ok_then : {T E : Type 0} (P Q : T → Type 0) (r : Result T E) → ((x : T) → P x → Q x) → IfOk r P → IfOk r Q
-ok_then P Q (Ok x) follows is = follows x is
-ok_then P Q (Err e) follows is = is
 
 -- what was refused was so over what goes on besides
 pub refused_over : {S : Type 0} (view : S → View) (keeps goes : S → S → Type 0) (has_none : S → S → ℕ → Looks → Type 0) (q : Request) (s t : S)

@@ -4,6 +4,7 @@ pub mod ChanceLemmas
 pub mod KeyLemmas
 pub mod ImageLeftLemmas
 pub mod MineLemmas
+pub mod NextLemmas
 pub mod OpenLemmas
 pub mod ProgressLemmas
 pub mod RecoveredLemmas

@@ -1,70 +1,26 @@
 -- What recovery leaves is a dictionary where each shard is a map.
-use Rattle.std.proofs.Common.{ℕ, ◌↔◌, List, Some, Contains, refl, sym, subst, ◌∙◌}
+use Rattle.std.proofs.Common.{ℕ, List, Some, Contains}
 use Rattle.std.specs.BTreeMap.{BTreeMap, get}
 use Rattle.std.specs.Ordering.{nat_cmp}
 use Rattle.heap_model.specs.declared.block.Block.{Block}
 use Rattle.heap_model.specs.Image.{Image}
-use Rattle.heap_model.specs.Header.{HasKindsBelow, kinds_of}
-use Rattle.heap_model.specs.Pointers.{Leads, LeadsOutside}
-use Rattle.heap_model.specs.Reach.{AnyRoot, ReachIn, by_start, by_link, IsTraced, is_root, is_linked, IsReachedIn, words_in}
+use Rattle.heap_model.specs.Header.{HasKindsBelow}
+use Rattle.heap_model.specs.Reach.{IsReachedIn}
 use Rattle.heap_model.specs.Recovered.{AreAscending}
-use Rattle.heap_model.proofs.ReachLemmas.{reach_kept, nothing_more, reach_by_kinds}
 use Rattle.dict_model.specs.Links.{shards, kind_count, dict_links}
 use Rattle.dictionary.specs.Reading.{AreMaps, RecoversTo}
 use Rattle.dictionary.proofs.SameLemmas.{traced_alike, none_outside, kinds_kept}
 use Rattle.run_model.specs.Opened.{IsDictionary}
+use Rattle.run_model.proofs.SameReachLemmas.{none_left, same_reach}
 
 module _ (old new : Image) (to : RecoversTo old new) where
-  -- the new image reaches the same with the kinds that it stores, which are those of the old one
-  to_new : (b : Block) (kind : ℕ) → ReachIn old dict_links b kind → ReachIn new dict_links b kind
-  to_new b kind reach = reach_by_kinds new (kinds_of old) (kinds_of new) dict_links (λ root below. sym (kinds_kept old new to root below)) b kind
-      (reach_kept old new AnyRoot (kinds_of old) dict_links (traced_alike old new to) b kind reach)
-
-  to_old : (b : Block) (kind : ℕ) → ReachIn new dict_links b kind → ReachIn old dict_links b kind
-  to_old b kind reach = nothing_more old new AnyRoot (kinds_of old) dict_links (traced_alike old new to) (none_outside old new to) b kind
-      (reach_by_kinds new (kinds_of new) (kinds_of old) dict_links (kinds_kept old new to) b kind reach)
-
-  pub same_reach : (b : Block) → IsReachedIn old dict_links b ↔ IsReachedIn new dict_links b
-  same_reach b = (λ r. record { kind = r.kind; reach = to_new b r.kind r.reach }, λ r. record { kind = r.kind; reach = to_old b r.kind r.reach })
-
-  -- a word that a trace of the old image looks at leads outside in the new one no more than there
-  not_there : (at : ℕ) → IsTraced old (kinds_of old) dict_links at → ((b : Block) → Leads old (old at) b → IsReachedIn old dict_links b)
-      → LeadsOutside new (new at) → ⊥
-  not_there at traced reaches out =
-      let same = (traced_alike old new to).same_words at traced in
-      none_outside old new to at traced (record {
-        not_null = λ e. out.not_null (same ∙ e);
-        nowhere = λ b leads. out.nowhere b (record {
-          pointer = record { tagged = same ∙ leads.pointer.tagged; short = leads.pointer.short };
-          names = record { begins_at = refl; block = to.blocks b (reaches b leads) };
-        });
-      })
-
-  outside_at : (at : ℕ) → IsTraced new (kinds_of new) dict_links at → LeadsOutside new (new at) → ⊥
-  outside_at _ (is_root root at below chosen same) out =
-      not_there at (is_root root at below chosen same) (λ b leads. record {
-        kind = kinds_of old root;
-        reach = by_start b (kinds_of old root) (record {
-          root = root;
-          below = below;
-          is_chosen = chosen;
-          kind_is = refl;
-          leads = subst (λ x. Leads old (old x) b) same leads;
-        });
-      }) out
-  outside_at _ (is_linked a from position kind at reached listed same) out =
-      let before = to_old a from reached in
-      let there : Contains (dict_links from (words_in old a)) (position, kind) =
-      subst (λ (ls : List (ℕ × ℕ)). Contains ls (position, kind)) ((traced_alike old new to).same_links a from before) listed in
-      not_there at (is_linked a from position kind at before there same) (λ b leads. record {
-        kind = kind;
-        reach = by_link a b from kind before (record { position = position; listed = there; leads = subst (λ x. Leads old (old x) b) same leads });
-      }) out
-
   pub recovered_dictionary : (held : List Block) → AreAscending (λ (b : Block). b.first_word) (IsReachedIn old dict_links) held
       → (maps : List (BTreeMap ℕ (List ℕ))) → HasKindsBelow (Some kind_count) new → AreMaps new shards maps → IsDictionary new (Contains held)
   recovered_dictionary held are maps kinds have = record {
-    nothing_outside = λ at out. outside_at at out.traced out.outside;
+    nothing_outside = λ at out.
+        none_left old new (kinds_kept old new to) (traced_alike old new to) (none_outside old new to) at out.traced out.outside;
     maps = record { kinds = kinds; each = λ shard below. let each = have.each shard below in (get nat_cmp each.0, each.2) };
-    exact = λ b. (λ h. (same_reach b).0 (are.sound b h), λ r. are.complete b ((same_reach b).1 r));
+    exact = λ b.
+        let same = same_reach old new (kinds_kept old new to) (traced_alike old new to) (none_outside old new to) b in
+        (λ h. same.0 (are.sound b h), λ r. are.complete b (same.1 r));
   }

@@ -8,7 +8,7 @@ use Rattle.std.proofs.lemmas.List.Sorted.{IsPermutation-refl, IsPermutation-tran
 use Rattle.heap_model.specs.Image.{Image}
 use Rattle.heap_model.proofs.MemberLemmas.{head_or_rest, in_none}
 use Rattle.heap_seat.specs.View.{View}
-use Rattle.dict_model.specs.Requests.{Request, put, get, del, move, Reply, done, full, none, found, after, after_one}
+use Rattle.dict_model.specs.Requests.{Request, move, Reply, after, after_one}
 use Rattle.dict_model.specs.Shards.{Map, MapOf}
 use Rattle.run_model.specs.Arrivals.{IsWholeMap}
 use Rattle.run_model.specs.Opened.{HasMaps}

@@ -1,7 +1,7 @@
 -- A run's requests add up: the calls that they make, the superblocks that they take, and why one was told that there is no room.
 use Rattle.std.proofs.Common.{◌≡◌, ◌≢◌, ℕ, ◌+◌, ◌-◌, ◌*◌, ◌<◌, ◌≤◌, ◌⊎◌, inl, inr, List, [], ◌∷◌, ◌++◌, length, map, sum_by, None, Some, Contains, refl, subst, sym, ap, ◌∙◌, arith}
 use Rattle.std.proofs.Math.Nat.{add-mul, mul-le-mul_right}
-use Rattle.std.proofs.lemmas.List.{length-map, length-append}
+use Rattle.std.proofs.lemmas.List.{length-map, length-append, map_push}
 use Rattle.std.proofs.lemmas.List.Elements.{Contains-append_left, Contains-append_right}
 use Rattle.std.proofs.lemmas.List.Sums.{sum_by-cons, sum_by-append}
 use Rattle.heap_model.specs.Image.{Image}
@@ -26,7 +26,7 @@ use Rattle.worker_run.proofs.AnsweringLemmas.{copies_few, there_or_not}
 use Rattle.worker_run.proofs.KeyLemmas.{seat_keys}
 use Rattle.run_model.proofs.OneMapLemmas.{small_shard}
 use Rattle.worker_run.proofs.TakenLemmas.{HasTaken, tables_few}
-use Rattle.worker_run.proofs.WorkLemmas.{all_where, map_push}
+use Rattle.worker_run.proofs.WorkLemmas.{all_where}
 
 -- the answered requests of a run that has come so far, and with one more
 pub answered_none : (left : List Request) → answered left [] ≡ []

@@ -23,9 +23,11 @@ reply_of NotThere = Some none
 reply_of (Value value) = Some (found value)
 reply_of Unanswered = None
 
+-- the requests of lines, in the same order
 abbrev pub requests_of : List Line → List Request
 requests_of lines = map request_of lines
 
+-- the replies that are told, none where a request is unanswered
 abbrev pub replies_of : List Told → Replies
 replies_of replies = map reply_of replies
 
@@ -36,5 +38,6 @@ IsShort (get key) = Unit {0}
 IsShort (del key) = Unit {0}
 IsShort (move key to) = Unit {0}
 
+-- so it is of each of the requests
 pub record ValuesAreShort (requests : List Request) : Type 0 where
   pub each : (request : Request) → Contains requests request → IsShort request

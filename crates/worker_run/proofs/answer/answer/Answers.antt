@@ -1,10 +1,11 @@
 use Rattle.std.proofs.Common.{◌≡◌, Some, IfOk, subst, sym, ap, ◌∙◌}
+use Rattle.std.proofs.lemmas.Result.{IfOk-weaker}
 use Rattle.heap_seat.specs.Calls.{SameRefusals}
 use Rattle.dict_model.specs.Requests.{Request, put, full}
 use Rattle.run_model.specs.Spending.{IsPut}
 use Rattle.run_model.specs.Working.{WasRefused}
 use Rattle.worker_run.specs.Said.{request_of, reply_of}
-use Rattle.worker_run.proofs.AnsweringLemmas.{ok_then, refused_over}
+use Rattle.worker_run.proofs.AnsweringLemmas.{refused_over}
 use Rattle.worker_run.proofs.answer.answer.Goals as goal
 
 pub returns-in-Put-clause-granted : goal.returns-in-Put-clause-granted
@@ -18,10 +19,10 @@ pub returns-in-Put-clause-refused : goal.returns-in-Put-clause-refused
 returns-in-Put-clause-refused g c =
     let s = c.args.seat.now in
     let t = c.put_reply.new.seat in
-    ok_then (λ reply. reply_of reply ≡ Some full → WasRefused g.H.HeapSeat.view g.H.HeapSeat.keeps g.H.HeapSeat.has_none
+    IfOk-weaker c.put_reply.result (λ reply. reply_of reply ≡ Some full → WasRefused g.H.HeapSeat.view g.H.HeapSeat.keeps g.H.HeapSeat.has_none
     (request_of c.args.request.now) s t)
     (λ reply. IsPut (request_of c.args.request.now) → reply_of reply ≡ Some full
-    → WasRefused g.H.HeapSeat.view g.O.Outbox.goes g.H.HeapSeat.has_none (request_of c.args.request.now) s t) c.put_reply.result
+    → WasRefused g.H.HeapSeat.view g.O.Outbox.goes g.H.HeapSeat.has_none (request_of c.args.request.now) s t)
     (λ reply was is_put told. refused_over g.H.HeapSeat.view g.H.HeapSeat.keeps g.O.Outbox.goes g.H.HeapSeat.has_none
     (request_of c.args.request.now) s t g.met.O.Outbox.goes_kept (was told))
     (subst (λ (q : Request). IfOk c.put_reply.result (λ reply. reply_of reply ≡ Some full

@@ -1,5 +1,5 @@
-use Rattle.std.proofs.Common.{◌≡◌, ◌+◌, ◌-◌, ◌*◌, List, [], ◌∷◌, ◌++◌, length, sum_by, Some, Contains, refl, subst, sym, ap, ◌∙◌, arith}
-use Rattle.std.proofs.lemmas.List.{nil_from_length, length-append}
+use Rattle.std.proofs.Common.{◌≡◌, ◌+◌, ◌-◌, ◌*◌, [], ◌∷◌, ◌++◌, length, sum_by, Some, Contains, refl, subst, sym, ap, ◌∙◌, arith}
+use Rattle.std.proofs.lemmas.List.{nil_from_length, length-append, map_push}
 use Rattle.std.proofs.lemmas.List.Sums.{sum_by-cons}
 use Rattle.run_model.specs.Runs.{answered}
 use Rattle.std.specs.List.Sorted.{IsPermutation}
@@ -11,14 +11,15 @@ use Rattle.run_model.specs.Working.{HasWorked, Fits, IsUnderWay, TakesRequests, 
 use Rattle.dict_model.specs.Requests.{Request, Reply}
 use Rattle.heap_model.proofs.MemberLemmas.{in_none}
 use Rattle.shard_moves.specs.Tables.{is_flagged}
-use Rattle.worker_run.specs.Said.{Line, request_of, requests_of, reply_of, replies_of}
+use Rattle.worker_run.specs.Said.{request_of, requests_of, reply_of, replies_of}
 use Rattle.worker_run.specs.Sending.{GoesByTables, HasSent, needs_room, rooms_needed}
 use Rattle.worker_run.proofs.SentLemmas.{HasSentSo, goes_on, sent_begins, sent_next, sent_all}
-use Rattle.worker_run.proofs.MineLemmas.{is_next, mine_among, mine_next, owns_still, puts_owned, rooms_next, no_room_left}
+use Rattle.worker_run.proofs.MineLemmas.{mine_next, owns_still, puts_owned, rooms_next, no_room_left}
+use Rattle.worker_run.proofs.NextLemmas.{at_own, calls_answered, calls_stopped, refused_answered, worked_through}
 use Rattle.run_model.proofs.GoesOnLemmas.{takes_push}
-use Rattle.worker_run.proofs.SpendLemmas.{answered_none, answered_now, answered_next, unanswered_now, worked_count, few_none, few_next, few_more, full_behind, knows_call, larges_of, larges_push, larges_worked, refused_none, refused_on, refused_next}
+use Rattle.worker_run.proofs.SpendLemmas.{answered_none, answered_now, answered_next, unanswered_now, worked_count, few_none, few_more, full_behind, knows_call, larges_of, larges_worked, refused_none, refused_on}
 use Rattle.worker_run.proofs.TakenLemmas.{HasTaken, taken_none, taken_next, taken_stopped, taken_ended}
-use Rattle.worker_run.proofs.WorkLemmas.{map_push, work_begins, room_fits, work_replied}
+use Rattle.worker_run.proofs.WorkLemmas.{work_begins, work_replied}
 use Rattle.worker_run.proofs.work.work_off.Goals as goal
 
 pub loop-request-init : goal.loop-request-init
@@ -26,27 +27,21 @@ loop-request-init g c =
     let v = g.H.HeapSeat.view c.args.seat.now in
     let qs = worker_requests c.args.worker.workers c.args.worker.number (requests_of c.args.requests.now) in
     let empty = c.requires.1.1.1.1.1.1.1.1.1.0 in
+    let none : answered qs (replies_of c.args.replies.now.items) ≡ [] = ap (λ rs. answered qs (replies_of rs)) empty ∙ answered_none qs in
     record {
       worked = subst (λ rs. HasWorked g.image qs qs (replies_of rs) v) (sym empty) (work_begins g.image qs v c.requires.1.1.1.1.0);
       rooms = c.requires.1.1.1.1.1.1.1.0;
       reserved = let none = ap length empty in let most = c.requires.1.1.1.1.1.1.1.1.1.1.0 in omega arith;
       shorter = omega arith;
       same_room = refl;
-      taken = subst (λ rs. HasTaken qs (answered qs (replies_of rs)) v v) (sym empty)
-          (subst (λ rs. HasTaken qs rs v v) (sym (answered_none qs)) (taken_none qs v));
-      full = subst (λ rs. AreFullRightly g.H.HeapSeat.view g.O.Outbox.goes (tables_missing (put_into qs) v)
-          (answered qs (replies_of rs)) c.args.seat.now c.args.seat.now) (sym empty)
-          (subst (λ rs. AreFullRightly g.H.HeapSeat.view g.O.Outbox.goes (tables_missing (put_into qs) v) rs c.args.seat.now c.args.seat.now)
-          (sym (answered_none qs)) (refused_none g.H.HeapSeat.view g.O.Outbox.goes
-          (tables_missing (put_into qs) v) c.args.seat.now c.args.seat.now));
-      calls = λ keys lists. subst (λ rs. MakeFew (length rs) (33280 + 4 * (length keys + length qs))
-          (larges_of (answered qs (replies_of rs))) v v) (sym empty)
-          (subst (λ rs. MakeFew 0 (33280 + 4 * (length keys + length qs)) (larges_of rs) v v) (sym (answered_none qs))
+      taken = subst (λ rs. HasTaken qs rs v v) (sym none) (taken_none qs v);
+      full = subst (λ rs. AreFullRightly g.H.HeapSeat.view g.O.Outbox.goes (tables_missing (put_into qs) v) rs c.args.seat.now c.args.seat.now)
+          (sym none) (refused_none g.H.HeapSeat.view g.O.Outbox.goes (tables_missing (put_into qs) v) c.args.seat.now c.args.seat.now);
+      calls = λ keys lists. subst (λ n. MakeFew n (33280 + 4 * (length keys + length qs))
+          (larges_of (answered qs (replies_of c.args.replies.now.items))) v v) (sym (ap length empty))
+          (subst (λ rs. MakeFew 0 (33280 + 4 * (length keys + length qs)) (larges_of rs) v v) (sym none)
           (few_none (33280 + 4 * (length keys + length qs)) v));
-      steps = subst (λ rs. TakesRequests g.H.HeapSeat.view g.O.Outbox.goes g.H.HeapSeat.has_none
-          (answered qs (replies_of rs)) c.args.seat.now c.args.seat.now) (sym empty)
-          (subst (λ rs. TakesRequests g.H.HeapSeat.view g.O.Outbox.goes g.H.HeapSeat.has_none rs c.args.seat.now c.args.seat.now)
-          (sym (answered_none qs)) refl);
+      steps = subst (λ rs. TakesRequests g.H.HeapSeat.view g.O.Outbox.goes g.H.HeapSeat.has_none rs c.args.seat.now c.args.seat.now) (sym none) refl;
       roots = refl;
       going = λ none. none;
       exact = λ all. all;
@@ -56,188 +51,117 @@ loop-request-init g c =
       sent = sent_begins g.image c.args.worker.workers c.args.worker.number (requests_of c.args.requests.now)
           (length c.args.requests.now - length c.args.requests.now)
           (answered qs (replies_of c.args.replies.now.items)) (replies_of c.args.replies.now.items) (g.O.Outbox.sent c.args.outbox.now) (omega arith)
-          (subst (λ rs. answered qs (replies_of rs) ≡ []) (sym empty) (answered_none qs)) (ap replies_of empty);
-      tables = subst (λ rs. (request : Request) (answer : Reply) → Contains (answered qs (replies_of rs)) (request, answer)
-          → GoesByTables (is_flagged c.args.tables.now) request (Some answer)) (sym empty)
-          (subst (λ rs. (request : Request) (answer : Reply) → Contains rs (request, answer)
-          → GoesByTables (is_flagged c.args.tables.now) request (Some answer)) (sym (answered_none qs))
-          (λ request answer h. absurd (in_none (request, answer) h)));
+          none (ap replies_of empty);
+      tables = subst (λ rs. (request : Request) (answer : Reply) → Contains rs (request, answer)
+          → GoesByTables (is_flagged c.args.tables.now) request (Some answer)) (sym none)
+          (λ request answer h. absurd (in_none (request, answer) h));
     }
 
 pub answer-answered-requires-clause-shard : goal.answer-answered-requires-clause-shard
 answer-answered-requires-clause-shard g c =
-    let image = g.image in
     let v = g.H.HeapSeat.view c.loop-request.seat in
-    let lines = c.args.requests.now in
-    let workers = c.args.worker.workers in
-    let worker = c.args.worker.number in
-    let mine = worker_requests workers worker (requests_of lines) in
-    let q = request_of c.in-Some.request.now in
-    let rest = worker_requests workers worker (requests_of c.in-Some.rest.now) in
-    let told = c.loop-request.replies.items in
-    let owns = owns_still workers worker (g.H.HeapSeat.view c.args.seat.now) v c.loop-request.invariant.roots c.requires.1.1.1.1.1.0 in
-    let next = is_next workers worker c.loop-request.left.now c.in-Some.rest.now c.in-Some.request.now c.has.result c.in-Some.ensures.cases.0
-    c.has.ensures c.if-has.true image lines (replies_of told) v
-    c.requires.1.1.1.1.1.1.0 owns c.loop-request.invariant.worked in
-    next.shard
+    let here = at_own c.args.worker.workers c.args.worker.number (g.H.HeapSeat.view c.args.seat.now) v c.loop-request.left.now c.in-Some.rest.now
+    c.in-Some.request.now c.has.result c.in-Some.ensures.cases.0 c.has.ensures c.if-has.true g.image c.args.requests.now
+    (replies_of c.loop-request.replies.items) (g.met.H.HeapSeat.seat c.loop-request.seat) c.requires.1.1.1.1.1.1.0 c.requires.1.1.1.1.1.0
+    c.requires.1.1.1.1.1.1.1.1.0 c.loop-request.invariant.roots c.loop-request.invariant.worked in
+    here.next.shard
 
 pub answer-answered-requires-clause-short : goal.answer-answered-requires-clause-short
 answer-answered-requires-clause-short g c =
-    let image = g.image in
     let v = g.H.HeapSeat.view c.loop-request.seat in
-    let lines = c.args.requests.now in
-    let workers = c.args.worker.workers in
-    let worker = c.args.worker.number in
-    let mine = worker_requests workers worker (requests_of lines) in
-    let q = request_of c.in-Some.request.now in
-    let rest = worker_requests workers worker (requests_of c.in-Some.rest.now) in
-    let told = c.loop-request.replies.items in
-    let owns = owns_still workers worker (g.H.HeapSeat.view c.args.seat.now) v c.loop-request.invariant.roots c.requires.1.1.1.1.1.0 in
-    let next = is_next workers worker c.loop-request.left.now c.in-Some.rest.now c.in-Some.request.now c.has.result c.in-Some.ensures.cases.0
-    c.has.ensures c.if-has.true image lines (replies_of told) v
-    c.requires.1.1.1.1.1.1.0 owns c.loop-request.invariant.worked in
-    c.requires.1.1.1.1.1.1.1.1.0.each q (mine_among workers worker (requests_of lines) q next.among)
+    let here = at_own c.args.worker.workers c.args.worker.number (g.H.HeapSeat.view c.args.seat.now) v c.loop-request.left.now c.in-Some.rest.now
+    c.in-Some.request.now c.has.result c.in-Some.ensures.cases.0 c.has.ensures c.if-has.true g.image c.args.requests.now
+    (replies_of c.loop-request.replies.items) (g.met.H.HeapSeat.seat c.loop-request.seat) c.requires.1.1.1.1.1.1.0 c.requires.1.1.1.1.1.0
+    c.requires.1.1.1.1.1.1.1.1.0 c.loop-request.invariant.roots c.loop-request.invariant.worked in
+    here.short
 
 pub answer-answered-requires-clause-fits : goal.answer-answered-requires-clause-fits
 answer-answered-requires-clause-fits g c =
-    let image = g.image in
     let v = g.H.HeapSeat.view c.loop-request.seat in
-    let lines = c.args.requests.now in
-    let workers = c.args.worker.workers in
-    let worker = c.args.worker.number in
-    let mine = worker_requests workers worker (requests_of lines) in
-    let q = request_of c.in-Some.request.now in
-    let rest = worker_requests workers worker (requests_of c.in-Some.rest.now) in
-    let told = c.loop-request.replies.items in
-    let owns = owns_still workers worker (g.H.HeapSeat.view c.args.seat.now) v c.loop-request.invariant.roots c.requires.1.1.1.1.1.0 in
-    let next = is_next workers worker c.loop-request.left.now c.in-Some.rest.now c.in-Some.request.now c.has.result c.in-Some.ensures.cases.0
-    c.has.ensures c.if-has.true image lines (replies_of told) v
-    c.requires.1.1.1.1.1.1.0 owns c.loop-request.invariant.worked in
-    let rooms = rooms_next workers worker c.loop-request.left.now c.in-Some.rest.now c.in-Some.request.now c.has.result
-    c.in-Some.ensures.cases.0 c.has.ensures c.if-has.true image (requests_of lines)
-    c.loop-request.rooms.items c.pop_front.new.self.items c.in-Some-pop_front.room c.in-Some-pop_front.ensures.items c.loop-request.invariant.rooms in
-    subst (λ bytes. Fits v q (length bytes)) (sym c.into_vec.ensures)
-    (room_fits image (requests_of lines) mine c.requires.1.1.1.1.1.1.0 (mine_among workers worker (requests_of lines)) q (q ∷ rest)
-    (replies_of told) v (length c.in-Some-pop_front.room) (g.met.H.HeapSeat.seat c.loop-request.seat) next.owned next.worked rooms.0)
+    let here = at_own c.args.worker.workers c.args.worker.number (g.H.HeapSeat.view c.args.seat.now) v c.loop-request.left.now c.in-Some.rest.now
+    c.in-Some.request.now c.has.result c.in-Some.ensures.cases.0 c.has.ensures c.if-has.true g.image c.args.requests.now
+    (replies_of c.loop-request.replies.items) (g.met.H.HeapSeat.seat c.loop-request.seat) c.requires.1.1.1.1.1.1.0 c.requires.1.1.1.1.1.0
+    c.requires.1.1.1.1.1.1.1.1.0 c.loop-request.invariant.roots c.loop-request.invariant.worked in
+    subst (λ bytes. Fits v (request_of c.in-Some.request.now) (length bytes)) (sym c.into_vec.ensures)
+    (here.fits c.loop-request.rooms.items c.pop_front.new.self.items c.in-Some-pop_front.room c.in-Some-pop_front.ensures.items
+    c.loop-request.invariant.rooms)
 
 pub returns-in_default-answered-clause-stopped : goal.returns-in_default-answered-clause-stopped
 returns-in_default-answered-clause-stopped g c = λ stopped.
-    let image = g.image in
     let v = g.H.HeapSeat.view c.loop-request.seat in
-    let lines = c.args.requests.now in
-    let workers = c.args.worker.workers in
-    let worker = c.args.worker.number in
-    let mine = worker_requests workers worker (requests_of lines) in
-    let q = request_of c.in-Some.request.now in
-    let rest = worker_requests workers worker (requests_of c.in-Some.rest.now) in
-    let told = c.loop-request.replies.items in
-    let owns = owns_still workers worker (g.H.HeapSeat.view c.args.seat.now) v c.loop-request.invariant.roots c.requires.1.1.1.1.1.0 in
-    let next = is_next workers worker c.loop-request.left.now c.in-Some.rest.now c.in-Some.request.now c.has.result c.in-Some.ensures.cases.0
-    c.has.ensures c.if-has.true image lines (replies_of told) v
-    c.requires.1.1.1.1.1.1.0 owns c.loop-request.invariant.worked in
+    let here = at_own c.args.worker.workers c.args.worker.number (g.H.HeapSeat.view c.args.seat.now) v c.loop-request.left.now c.in-Some.rest.now
+    c.in-Some.request.now c.has.result c.in-Some.ensures.cases.0 c.has.ensures c.if-has.true g.image c.args.requests.now
+    (replies_of c.loop-request.replies.items) (g.met.H.HeapSeat.seat c.loop-request.seat) c.requires.1.1.1.1.1.1.0 c.requires.1.1.1.1.1.0
+    c.requires.1.1.1.1.1.1.1.1.0 c.loop-request.invariant.roots c.loop-request.invariant.worked in
     record {
-      request = q;
-      others = rest;
+      request = request_of c.in-Some.request.now;
+      others = worker_requests c.args.worker.workers c.args.worker.number (requests_of c.in-Some.rest.now);
       before = v;
       seat = g.met.H.HeapSeat.seat c.loop-request.seat;
-      worked = next.worked;
+      worked = here.next.worked;
       may = c.answer-answered.ensures.crash;
     }
 
 pub returns-in_default-answered-clause-full : goal.returns-in_default-answered-clause-full
 returns-in_default-answered-clause-full g c =
-    let image = g.image in
     let v = g.H.HeapSeat.view c.loop-request.seat in
-    let lines = c.args.requests.now in
-    let workers = c.args.worker.workers in
-    let worker = c.args.worker.number in
-    let mine = worker_requests workers worker (requests_of lines) in
-    let q = request_of c.in-Some.request.now in
-    let rest = worker_requests workers worker (requests_of c.in-Some.rest.now) in
-    let told = c.loop-request.replies.items in
-    let owns = owns_still workers worker (g.H.HeapSeat.view c.args.seat.now) v c.loop-request.invariant.roots c.requires.1.1.1.1.1.0 in
-    let next = is_next workers worker c.loop-request.left.now c.in-Some.rest.now c.in-Some.request.now c.has.result c.in-Some.ensures.cases.0
-    c.has.ensures c.if-has.true image lines (replies_of told) v
-    c.requires.1.1.1.1.1.1.0 owns c.loop-request.invariant.worked in
+    let here = at_own c.args.worker.workers c.args.worker.number (g.H.HeapSeat.view c.args.seat.now) v c.loop-request.left.now c.in-Some.rest.now
+    c.in-Some.request.now c.has.result c.in-Some.ensures.cases.0 c.has.ensures c.if-has.true g.image c.args.requests.now
+    (replies_of c.loop-request.replies.items) (g.met.H.HeapSeat.seat c.loop-request.seat) c.requires.1.1.1.1.1.1.0 c.requires.1.1.1.1.1.0
+    c.requires.1.1.1.1.1.1.1.1.0 c.loop-request.invariant.roots c.loop-request.invariant.worked in
+    let mine = worker_requests c.args.worker.workers c.args.worker.number (requests_of c.args.requests.now) in
     refused_on g.H.HeapSeat.view g.O.Outbox.goes (tables_missing (put_into mine) (g.H.HeapSeat.view c.args.seat.now))
-    (answered mine (replies_of told)) c.args.seat.now c.loop-request.seat c.answer-answered.new.seat c.loop-request.invariant.full
+    (answered mine (replies_of c.loop-request.replies.items)) c.args.seat.now c.loop-request.seat c.answer-answered.new.seat
+    c.loop-request.invariant.full
     (λ x keeps. g.met.O.Outbox.goes_then x c.loop-request.seat c.answer-answered.new.seat keeps c.answer-answered.ensures.goes_on)
-    (knows_call q v (g.H.HeapSeat.view c.answer-answered.new.seat) next.shard c.answer-answered.ensures.calls)
+    (knows_call (request_of c.in-Some.request.now) v (g.H.HeapSeat.view c.answer-answered.new.seat) here.next.shard c.answer-answered.ensures.calls)
 
 pub returns-in_default-answered-clause-taken : goal.returns-in_default-answered-clause-taken
 returns-in_default-answered-clause-taken g c =
-    let image = g.image in
     let v = g.H.HeapSeat.view c.loop-request.seat in
-    let lines = c.args.requests.now in
-    let workers = c.args.worker.workers in
-    let worker = c.args.worker.number in
-    let mine = worker_requests workers worker (requests_of lines) in
+    let here = at_own c.args.worker.workers c.args.worker.number (g.H.HeapSeat.view c.args.seat.now) v c.loop-request.left.now c.in-Some.rest.now
+    c.in-Some.request.now c.has.result c.in-Some.ensures.cases.0 c.has.ensures c.if-has.true g.image c.args.requests.now
+    (replies_of c.loop-request.replies.items) (g.met.H.HeapSeat.seat c.loop-request.seat) c.requires.1.1.1.1.1.1.0 c.requires.1.1.1.1.1.0
+    c.requires.1.1.1.1.1.1.1.1.0 c.loop-request.invariant.roots c.loop-request.invariant.worked in
+    let mine = worker_requests c.args.worker.workers c.args.worker.number (requests_of c.args.requests.now) in
     let q = request_of c.in-Some.request.now in
-    let rest = worker_requests workers worker (requests_of c.in-Some.rest.now) in
-    let told = c.loop-request.replies.items in
-    let owns = owns_still workers worker (g.H.HeapSeat.view c.args.seat.now) v c.loop-request.invariant.roots c.requires.1.1.1.1.1.0 in
-    let next = is_next workers worker c.loop-request.left.now c.in-Some.rest.now c.in-Some.request.now c.has.result c.in-Some.ensures.cases.0
-    c.has.ensures c.if-has.true image lines (replies_of told) v
-    c.requires.1.1.1.1.1.1.0 owns c.loop-request.invariant.worked in
+    let rest = worker_requests c.args.worker.workers c.args.worker.number (requests_of c.in-Some.rest.now) in
+    let told = replies_of c.loop-request.replies.items in
     let start = g.H.HeapSeat.view c.args.seat.now in
     let w = g.H.HeapSeat.view c.answer-answered.new.seat in
-    subst (λ qs. HasTakenFew (tables_missing (put_into mine) start) (answered mine (replies_of told)) qs start w)
-    (sym (unanswered_now image mine (q ∷ rest) (replies_of told) v next.worked))
-    (taken_stopped mine (answered mine (replies_of told)) q rest start v w next.among c.loop-request.invariant.taken c.answer-answered.ensures.taken)
+    subst (λ qs. HasTakenFew (tables_missing (put_into mine) start) (answered mine told) qs start w)
+    (sym (unanswered_now g.image mine (q ∷ rest) told v here.next.worked))
+    (taken_stopped mine (answered mine told) q rest start v w here.next.among c.loop-request.invariant.taken c.answer-answered.ensures.taken)
 
 pub returns-in_default-answered-clause-calls : goal.returns-in_default-answered-clause-calls
 returns-in_default-answered-clause-calls g c = λ keys lists.
-    let image = g.image in
     let v = g.H.HeapSeat.view c.loop-request.seat in
-    let lines = c.args.requests.now in
-    let workers = c.args.worker.workers in
-    let worker = c.args.worker.number in
-    let mine = worker_requests workers worker (requests_of lines) in
-    let q = request_of c.in-Some.request.now in
-    let rest = worker_requests workers worker (requests_of c.in-Some.rest.now) in
-    let told = c.loop-request.replies.items in
-    let owns = owns_still workers worker (g.H.HeapSeat.view c.args.seat.now) v c.loop-request.invariant.roots c.requires.1.1.1.1.1.0 in
-    let next = is_next workers worker c.loop-request.left.now c.in-Some.rest.now c.in-Some.request.now c.has.result c.in-Some.ensures.cases.0
-    c.has.ensures c.if-has.true image lines (replies_of told) v
-    c.requires.1.1.1.1.1.1.0 owns c.loop-request.invariant.worked in
-    let w = g.H.HeapSeat.view c.answer-answered.new.seat in
-    let start = g.H.HeapSeat.view c.args.seat.now in
-    let rooms = rooms_next workers worker c.loop-request.left.now c.in-Some.rest.now c.in-Some.request.now c.has.result
-    c.in-Some.ensures.cases.0 c.has.ensures c.if-has.true image (requests_of lines)
-    c.loop-request.rooms.items c.pop_front.new.self.items c.in-Some-pop_front.room c.in-Some-pop_front.ensures.items c.loop-request.invariant.rooms in
-    let among = mine_among workers worker (requests_of lines) in
-    let short = c.requires.1.1.1.1.1.1.1.1.0.each q (among q next.among) in
-    let room = length c.in-Some-pop_front.room in
-    let fits = room_fits image (requests_of lines) mine c.requires.1.1.1.1.1.1.0 among q (q ∷ rest) (replies_of told) v room
-    (g.met.H.HeapSeat.seat c.loop-request.seat) next.owned next.worked rooms.0 in
-    let small = 33280 + 4 * (length keys + length mine) in
-    let larges = larges_of (answered mine (replies_of told)) in
-    few_more (length told + 1) (length mine) small (larges + large_calls_of q) (sum_by large_calls_of mine) start w
-    (let count = worked_count image mine (q ∷ rest) told v next.worked in omega arith)
-    (let all = larges_worked image mine (q ∷ rest) (replies_of told) v next.worked in let one = sum_by-cons large_calls_of q rest in omega arith)
-    (few_next (length told) small larges image mine rest q (replies_of told)
-    start v w room keys refl c.requires.1.1.1.1.1.1.0 next.owned next.worked lists short fits c.answer-answered.ensures.calls
-    (c.loop-request.invariant.calls keys lists))
+    let here = at_own c.args.worker.workers c.args.worker.number (g.H.HeapSeat.view c.args.seat.now) v c.loop-request.left.now c.in-Some.rest.now
+    c.in-Some.request.now c.has.result c.in-Some.ensures.cases.0 c.has.ensures c.if-has.true g.image c.args.requests.now
+    (replies_of c.loop-request.replies.items) (g.met.H.HeapSeat.seat c.loop-request.seat) c.requires.1.1.1.1.1.1.0 c.requires.1.1.1.1.1.0
+    c.requires.1.1.1.1.1.1.1.1.0 c.loop-request.invariant.roots c.loop-request.invariant.worked in
+    let mine = worker_requests c.args.worker.workers c.args.worker.number (requests_of c.args.requests.now) in
+    let rest = worker_requests c.args.worker.workers c.args.worker.number (requests_of c.in-Some.rest.now) in
+    calls_stopped g.image mine rest (request_of c.in-Some.request.now) c.loop-request.replies.items (g.H.HeapSeat.view c.args.seat.now) v
+    (g.H.HeapSeat.view c.answer-answered.new.seat) (length c.in-Some-pop_front.room) keys c.requires.1.1.1.1.1.1.0 here.next here.short
+    (here.fits c.loop-request.rooms.items c.pop_front.new.self.items c.in-Some-pop_front.room c.in-Some-pop_front.ensures.items
+    c.loop-request.invariant.rooms)
+    lists c.answer-answered.ensures.calls (c.loop-request.invariant.calls keys lists)
 
 pub returns-in_default-answered-clause-steps : goal.returns-in_default-answered-clause-steps
 returns-in_default-answered-clause-steps g c =
-    let image = g.image in
     let v = g.H.HeapSeat.view c.loop-request.seat in
-    let lines = c.args.requests.now in
-    let workers = c.args.worker.workers in
-    let worker = c.args.worker.number in
-    let mine = worker_requests workers worker (requests_of lines) in
+    let here = at_own c.args.worker.workers c.args.worker.number (g.H.HeapSeat.view c.args.seat.now) v c.loop-request.left.now c.in-Some.rest.now
+    c.in-Some.request.now c.has.result c.in-Some.ensures.cases.0 c.has.ensures c.if-has.true g.image c.args.requests.now
+    (replies_of c.loop-request.replies.items) (g.met.H.HeapSeat.seat c.loop-request.seat) c.requires.1.1.1.1.1.1.0 c.requires.1.1.1.1.1.0
+    c.requires.1.1.1.1.1.1.1.1.0 c.loop-request.invariant.roots c.loop-request.invariant.worked in
+    let mine = worker_requests c.args.worker.workers c.args.worker.number (requests_of c.args.requests.now) in
     let q = request_of c.in-Some.request.now in
-    let rest = worker_requests workers worker (requests_of c.in-Some.rest.now) in
-    let told = c.loop-request.replies.items in
-    let owns = owns_still workers worker (g.H.HeapSeat.view c.args.seat.now) v c.loop-request.invariant.roots c.requires.1.1.1.1.1.0 in
-    let next = is_next workers worker c.loop-request.left.now c.in-Some.rest.now c.in-Some.request.now c.has.result c.in-Some.ensures.cases.0
-    c.has.ensures c.if-has.true image lines (replies_of told) v
-    c.requires.1.1.1.1.1.1.0 owns c.loop-request.invariant.worked in
+    let rest = worker_requests c.args.worker.workers c.args.worker.number (requests_of c.in-Some.rest.now) in
     let w = g.H.HeapSeat.view c.answer-answered.new.seat in (
       c.loop-request.seat,
       c.loop-request.invariant.steps,
-      subst (λ qs. IsUnderWay qs v w) (sym (unanswered_now image mine (q ∷ rest) (replies_of told) v next.worked))
+      subst (λ qs. IsUnderWay qs v w) (sym (unanswered_now g.image mine (q ∷ rest) (replies_of c.loop-request.replies.items) v here.next.worked))
           (c.answer-answered.ensures.crash, c.answer-answered.ensures.calls),
       c.answer-answered.ensures.goes_on,
     )
@@ -253,36 +177,31 @@ loop-request-preserved-in-Ok g c =
     let q = request_of c.in-Some.request.now in
     let rest = worker_requests workers worker (requests_of c.in-Some.rest.now) in
     let told = c.loop-request.replies.items in
-    let owns = owns_still workers worker (g.H.HeapSeat.view c.args.seat.now) v c.loop-request.invariant.roots c.requires.1.1.1.1.1.0 in
-    let next = is_next workers worker c.loop-request.left.now c.in-Some.rest.now c.in-Some.request.now c.has.result c.in-Some.ensures.cases.0
-    c.has.ensures c.if-has.true image lines (replies_of told) v
-    c.requires.1.1.1.1.1.1.0 owns c.loop-request.invariant.worked in
+    let here = at_own c.args.worker.workers c.args.worker.number (g.H.HeapSeat.view c.args.seat.now) v c.loop-request.left.now c.in-Some.rest.now
+    c.in-Some.request.now c.has.result c.in-Some.ensures.cases.0 c.has.ensures c.if-has.true g.image c.args.requests.now
+    (replies_of c.loop-request.replies.items) (g.met.H.HeapSeat.seat c.loop-request.seat) c.requires.1.1.1.1.1.1.0 c.requires.1.1.1.1.1.0
+    c.requires.1.1.1.1.1.1.1.1.0 c.loop-request.invariant.roots c.loop-request.invariant.worked in
     let w = g.H.HeapSeat.view c.answer-answered.new.seat in
     let start = g.H.HeapSeat.view c.args.seat.now in
+    let owns = owns_still workers worker start v c.loop-request.invariant.roots c.requires.1.1.1.1.1.0 in
     let rooms = rooms_next workers worker c.loop-request.left.now c.in-Some.rest.now c.in-Some.request.now c.has.result
     c.in-Some.ensures.cases.0 c.has.ensures c.if-has.true image (requests_of lines)
     c.loop-request.rooms.items c.pop_front.new.self.items c.in-Some-pop_front.room c.in-Some-pop_front.ensures.items c.loop-request.invariant.rooms in
-    let among = mine_among workers worker (requests_of lines) in
-    let short = c.requires.1.1.1.1.1.1.1.1.0.each q (among q next.among) in
-    let room = length c.in-Some-pop_front.room in
-    let fits = room_fits image (requests_of lines) mine c.requires.1.1.1.1.1.1.0 among q (q ∷ rest) (replies_of told) v room
-    (g.met.H.HeapSeat.seat c.loop-request.seat) next.owned next.worked rooms.0 in
     let replied = c.in-Ok.ensures.ok in
     let now = answered_next image mine rest q told c.push_reserved.new.self.items c.in-Ok.reply replied.reply v c.push_reserved.ensures.items
-    replied.told_is next.worked in
-    let taken = taken_next mine (answered mine (replies_of told)) q replied.reply start v w next.among
+    replied.told_is here.next.worked in
+    let taken = taken_next mine (answered mine (replies_of told)) q replied.reply start v w here.next.among
     (puts_owned workers worker v (requests_of lines) owns) c.answer-answered.ensures.crash c.loop-request.invariant.taken
     replied.takes in
     let kept = g.met.O.Outbox.goes_then c.args.seat.now c.loop-request.seat c.answer-answered.new.seat c.loop-request.invariant.goes_on
     c.answer-answered.ensures.goes_on in
-    let knows = knows_call q v w next.shard c.answer-answered.ensures.calls in
     let counted : length lines - length c.in-Some.rest.now ≡ length lines - length c.loop-request.left.now + 1 =
     let most = c.loop-request.invariant.shorter in let long = c.in-Some.ensures.cases.1 in omega arith in
     let one_more : length told + 1 ≡ length c.push_reserved.new.self.items =
     let items = ap length c.push_reserved.ensures.items in let longer = length-append told (c.in-Ok.reply ∷ []) in omega arith in
     record {
       worked = work_replied image mine rest q told c.push_reserved.new.self.items c.in-Ok.reply v w (g.met.H.HeapSeat.seat c.loop-request.seat)
-          c.push_reserved.ensures.items next.worked c.answer-answered.ensures.crash c.in-Ok.ensures.ok;
+          c.push_reserved.ensures.items here.next.worked c.answer-answered.ensures.crash c.in-Ok.ensures.ok;
       rooms = rooms.1;
       reserved = let most = c.loop-request.invariant.reserved in
           let long = ap length (mine_next workers worker c.loop-request.left.now c.in-Some.rest.now c.in-Some.request.now c.has.result
@@ -295,23 +214,17 @@ loop-request-preserved-in-Ok g c =
       taken = subst (λ rs. HasTaken mine rs start w) (sym now) taken;
       full = subst (λ rs. AreFullRightly g.H.HeapSeat.view g.O.Outbox.goes
           (tables_missing (put_into mine) start) rs c.args.seat.now c.answer-answered.new.seat) (sym now)
-          (refused_next g.H.HeapSeat.view g.O.Outbox.goes (tables_missing (put_into mine) start)
-          (answered mine (replies_of told)) q replied.reply c.args.seat.now c.answer-answered.new.seat
-          (refused_on g.H.HeapSeat.view g.O.Outbox.goes (tables_missing (put_into mine) start)
-          (answered mine (replies_of told)) c.args.seat.now c.loop-request.seat c.answer-answered.new.seat c.loop-request.invariant.full
-          (λ x keeps. g.met.O.Outbox.goes_then x c.loop-request.seat c.answer-answered.new.seat keeps c.answer-answered.ensures.goes_on) knows)
-          kept (g.met.O.Outbox.goes_none c.answer-answered.new.seat)
+          (refused_answered g.H.HeapSeat.view g.O.Outbox.goes (tables_missing (put_into mine) start)
+          (answered mine (replies_of told)) q replied.reply c.args.seat.now c.loop-request.seat c.answer-answered.new.seat
+          c.loop-request.invariant.full
+          (λ x keeps. g.met.O.Outbox.goes_then x c.loop-request.seat c.answer-answered.new.seat keeps c.answer-answered.ensures.goes_on)
+          (knows_call q v w here.next.shard c.answer-answered.ensures.calls) kept (g.met.O.Outbox.goes_none c.answer-answered.new.seat)
           (λ is_put full. full_behind mine (answered mine (replies_of told)) q replied.reply start w taken full (replied.room is_put full)));
-      calls = λ keys lists. subst (λ rs. MakeFew (length c.push_reserved.new.self.items) (33280 + 4 * (length keys + length mine))
-          (larges_of rs) start w) (sym now)
-          (subst (λ n. MakeFew (length c.push_reserved.new.self.items) (33280 + 4 * (length keys + length mine)) n start w)
-          (sym (larges_push (answered mine (replies_of told)) q replied.reply))
-          (subst (λ n. MakeFew n (33280 + 4 * (length keys + length mine))
-          (larges_of (answered mine (replies_of told)) + large_calls_of q) start w) one_more
-          (few_next (length told) (33280 + 4 * (length keys + length mine)) (larges_of (answered mine (replies_of told))) image mine rest q
-          (replies_of told) start v w room keys refl
-          c.requires.1.1.1.1.1.1.0 next.owned next.worked lists short fits c.answer-answered.ensures.calls
-          (c.loop-request.invariant.calls keys lists))));
+      calls = λ keys lists. calls_answered image mine rest q told start v w (length c.in-Some-pop_front.room) keys
+          c.requires.1.1.1.1.1.1.0 here.next here.short
+          (here.fits c.loop-request.rooms.items c.pop_front.new.self.items c.in-Some-pop_front.room c.in-Some-pop_front.ensures.items
+          c.loop-request.invariant.rooms) lists c.answer-answered.ensures.calls (c.loop-request.invariant.calls keys lists)
+          c.push_reserved.new.self.items replied.reply one_more now;
       steps = subst (λ rs. TakesRequests g.H.HeapSeat.view g.O.Outbox.goes g.H.HeapSeat.has_none rs c.args.seat.now c.answer-answered.new.seat)
           (sym now)
           (takes_push g.H.HeapSeat.view g.O.Outbox.goes g.H.HeapSeat.has_none
@@ -345,7 +258,7 @@ loop-request-preserved-in-Ok g c =
           (length lines - length c.in-Some.rest.now)
           (answered mine (replies_of told)) (replies_of told) (replies_of c.push_reserved.new.self.items) (g.O.Outbox.sent c.args.outbox.now)
           (g.O.Outbox.sent c.loop-request.outbox) (g.O.Outbox.sent c.answer-answered.new.outbox) v
-          c.requires.1.1.1.1.1.1.0 next.owned next.worked (answered_now image mine (q ∷ rest) (replies_of told) v next.worked)
+          c.requires.1.1.1.1.1.1.0 here.next.owned here.next.worked (answered_now image mine (q ∷ rest) (replies_of told) v here.next.worked)
           (ap requests_of c.in-Some.ensures.cases.0) counted (sym c.has.ensures ∙ c.if-has.true)
           (ap replies_of c.push_reserved.ensures.items ∙ map_push reply_of told c.in-Ok.reply ∙ ap (λ o. replies_of told ++ (o ∷ [])) replied.told_is)
           (subst (λ o. HasSent (length lines - length c.loop-request.left.now) q o (g.O.Outbox.sent c.loop-request.outbox)
@@ -365,51 +278,39 @@ unreachable-requires g c =
 
 pub returns-clause-calls : goal.returns-clause-calls
 returns-clause-calls g c = λ keys lists.
-    let image = g.image in
     let v = g.H.HeapSeat.view c.loop-request.seat in
     let start = g.H.HeapSeat.view c.args.seat.now in
-    let lines = c.args.requests.now in
-    let workers = c.args.worker.workers in
-    let worker = c.args.worker.number in
-    let mine = worker_requests workers worker (requests_of lines) in
+    let mine = worker_requests c.args.worker.workers c.args.worker.number (requests_of c.args.requests.now) in
     let told = replies_of c.loop-request.replies.items in
-    let worked = subst (λ (ls : List Line). HasWorked image mine (worker_requests workers worker (requests_of ls)) told v)
-    (nil_from_length c.loop-request.left.now c.in_default.ensures.cases) c.loop-request.invariant.worked in
+    let worked = worked_through c.args.worker.workers c.args.worker.number g.image mine c.loop-request.left.now told v c.in_default.ensures.cases
+    c.loop-request.invariant.worked in
     let items = c.loop-request.replies.items in
     let small = 33280 + 4 * (length keys + length mine) in
     few_more (length items) (length mine) small (larges_of (answered mine told)) (sum_by large_calls_of mine) start v
-    (let count = worked_count image mine [] items v worked in omega arith)
-    (let all = larges_worked image mine [] told v worked in omega arith) (c.loop-request.invariant.calls keys lists)
+    (let count = worked_count g.image mine [] items v worked in omega arith)
+    (let all = larges_worked g.image mine [] told v worked in omega arith) (c.loop-request.invariant.calls keys lists)
 
 pub returns-clause-taken : goal.returns-clause-taken
 returns-clause-taken g c =
-    let image = g.image in
     let v = g.H.HeapSeat.view c.loop-request.seat in
     let start = g.H.HeapSeat.view c.args.seat.now in
-    let lines = c.args.requests.now in
-    let workers = c.args.worker.workers in
-    let worker = c.args.worker.number in
-    let mine = worker_requests workers worker (requests_of lines) in
+    let mine = worker_requests c.args.worker.workers c.args.worker.number (requests_of c.args.requests.now) in
     let told = replies_of c.loop-request.replies.items in
-    let worked = subst (λ (ls : List Line). HasWorked image mine (worker_requests workers worker (requests_of ls)) told v)
-    (nil_from_length c.loop-request.left.now c.in_default.ensures.cases) c.loop-request.invariant.worked in
+    let worked = worked_through c.args.worker.workers c.args.worker.number g.image mine c.loop-request.left.now told v c.in_default.ensures.cases
+    c.loop-request.invariant.worked in
     subst (λ qs. HasTakenFew (tables_missing (put_into mine) start) (answered mine told) qs start v)
-    (sym (unanswered_now image mine [] told v worked)) (taken_ended mine (answered mine told) start v c.loop-request.invariant.taken)
+    (sym (unanswered_now g.image mine [] told v worked)) (taken_ended mine (answered mine told) start v c.loop-request.invariant.taken)
 
 pub returns-clause-steps : goal.returns-clause-steps
 returns-clause-steps g c =
-    let image = g.image in
     let v = g.H.HeapSeat.view c.loop-request.seat in
-    let lines = c.args.requests.now in
-    let workers = c.args.worker.workers in
-    let worker = c.args.worker.number in
-    let mine = worker_requests workers worker (requests_of lines) in
+    let mine = worker_requests c.args.worker.workers c.args.worker.number (requests_of c.args.requests.now) in
     let told = replies_of c.loop-request.replies.items in
-    let worked = subst (λ (ls : List Line). HasWorked image mine (worker_requests workers worker (requests_of ls)) told v)
-    (nil_from_length c.loop-request.left.now c.in_default.ensures.cases) c.loop-request.invariant.worked in (
+    let worked = worked_through c.args.worker.workers c.args.worker.number g.image mine c.loop-request.left.now told v c.in_default.ensures.cases
+    c.loop-request.invariant.worked in (
       c.loop-request.seat,
       c.loop-request.invariant.steps,
-      subst (λ qs. IsUnderWay qs v v) (sym (unanswered_now image mine [] told v worked)) refl,
+      subst (λ qs. IsUnderWay qs v v) (sym (unanswered_now g.image mine [] told v worked)) refl,
       g.met.O.Outbox.goes_none c.loop-request.seat,
     )
 
