@@ -1,5 +1,6 @@
 pub mod ArriveLemmas
 pub mod DealLemmas
+pub mod DealtLemmas
 pub mod HandLemmas
 pub mod OrderedLemmas
 pub mod PostLemmas

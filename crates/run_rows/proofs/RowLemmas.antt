@@ -3,7 +3,7 @@ use Rattle.std.proofs.Common.{◌≡◌, ◌<◌, ◌+◌, ◌-◌, ◌%◌, ◌
 use Rattle.std.specs.Prelude.{Contains, filter, flat_map, nat_eq, ◌||◌}
 use Rattle.std.specs.List.{AllZip, list_any}
 use Rattle.std.specs.List.Sorted.{IsPermutation}
-use Rattle.std.proofs.lemmas.Bool.{and_parts, cases_eq, eqb-true}
+use Rattle.std.proofs.lemmas.Bool.{cases_eq}
 use Rattle.std.proofs.lemmas.List.{get_or-map, length-map}
 use Rattle.std.proofs.lemmas.List.Elements.{All-head, All-tail}
 use Rattle.std.proofs.lemmas.List.Sorted.{IsPermutation-refl}
@@ -15,8 +15,9 @@ use Rattle.dict_model.specs.Nodes.{shard_of}
 use Rattle.dict_model.specs.Requests.{Request}
 use Rattle.dict_model.specs.Shards.{Map}
 use Rattle.run_model.specs.Sending.{Sent, all_sent, worker_numbered}
-use Rattle.run_model.specs.Needs.{is_moved_to}
 use Rattle.run_model.specs.Workers.{Replies, worker_numbers, worker_of}
+use Rattle.run_model.proofs.TargetLemmas.{target_is_own}
+use Rattle.run_model.proofs.TogetherLemmas.{none_told as sent_none}
 use Rattle.shard_moves.specs.Tables.{is_flagged}
 use Rattle.shard_moves.proofs.TableLemmas.{flag_set, flag_stays}
 use Rattle.worker_run.specs.declared.worker.Worker.{Worker}
@@ -57,8 +58,7 @@ told_all all workers flags turns told requests = λ k d less. record {
   each = λ shard small target.
       let w = (get_or all k d).worker in
       let turn = turns.each k d less in
-      let owner : shard % w.workers ≡ w.number = eqb-true (worker_of w.workers shard) w.number
-      (and_parts (nat_eq (worker_of w.workers shard) w.number) (is_moved_to requests shard) target).0 in
+      let owner : shard % w.workers ≡ w.number = target_is_own w.workers w.number requests shard target in
       let here : shard % workers ≡ w.number = subst (λ n. shard % n ≡ w.number) turn.0 owner in
       let last : w.number + k + 1 ≡ workers = turn.1 in
       let at : workers - 1 - shard % workers ≡ k = subst (λ n. workers - 1 - n ≡ k) (sym here) (omega (arith, last)) in
@@ -66,10 +66,6 @@ told_all all workers flags turns told requests = λ k d less. record {
 }
 
 -- nothing is sent without a reply
-sent_none : (whole : Map) (ns : List (ℕ × Request)) → all_sent whole ns [] ≡ []
-sent_none whole [] = refl
-sent_none whole (n ∷ ns) = refl
-
 none_from : (workers : ℕ) (requests : List Request) (whole : Map) (test : Sent → Bool) (froms : List ℕ)
     → flat_map (λ from. filter test (all_sent whole (worker_numbered workers from requests) [])) froms ≡ []
 none_from workers requests whole test [] = refl
@@ -181,12 +177,6 @@ next_of_all {X} P all done now rest x each whole next = All-head P x rest (subst
   later : (before : List X) → All P (before ++ now) → All P now
   later [] h = h
   later (y ∷ ys) h = later ys (All-tail P y (ys ++ now) h)
-
--- what stands at a place of a list does whatever is told where none does
-pub same_at : {X : Type 0} (xs : List X) (i : ℕ) (a b : X) → i < length xs → get_or xs i a ≡ get_or xs i b
-same_at [] i a b inside = absurd (omega (arith, inside))
-same_at (x ∷ xs) zero a b inside = refl
-same_at (x ∷ xs) (suc i) a b inside = same_at xs i a b (omega (arith, inside))
 
 -- a list that is gone through, one element more, and at its end
 pub whole_more : {X : Type 0} (all done now rest : List X) (x : X) → done ++ now ≡ all → now ≡ x ∷ rest → (done ++ (x ∷ [])) ++ rest ≡ all

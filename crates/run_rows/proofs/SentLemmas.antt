@@ -1,7 +1,7 @@
 -- What a worker sends goes to shards that have a table, and what workers were told by their numbers.
 use Rattle.std.proofs.Common.{◌≡◌, ◌≢◌, ℕ, zero, suc, ◌+◌, ◌<◌, Bool, true, false, cond, nat_eq, List, [], ◌∷◌, All, Contains, length, map, get_or, Option, None, Some, refl, subst, ap, arith, ◌∙◌}
-use Rattle.std.specs.Prelude.{filter, ◌||◌}
-use Rattle.std.proofs.lemmas.Bool.{eq-eqb, ne_eqb}
+use Rattle.std.specs.Prelude.{filter}
+use Rattle.std.proofs.lemmas.Bool.{eq-eqb, ne_eqb, or_left}
 use Rattle.std.proofs.lemmas.List.Elements.{All-append, All-cons, All-filter, All-head, All-nil, All-tail, All-weaker}
 use Rattle.heap_model.proofs.MemberLemmas.{in_head, in_rest}
 use Rattle.dict_model.specs.Nodes.{shard_of}
@@ -11,6 +11,7 @@ use Rattle.run_model.specs.Needs.{is_moved_to}
 use Rattle.run_model.specs.Runs.{answered}
 use Rattle.run_model.specs.Sending.{Sent, all_sent, numbered, on_its_way, sends, worker_numbered}
 use Rattle.run_model.specs.Workers.{Replies, is_of_worker, worker_requests}
+use Rattle.run_model.proofs.TargetLemmas.{moved_behind}
 use Rattle.worker_run.specs.Sending.{GoesByTables}
 
 -- a move of these requests
@@ -20,30 +21,17 @@ MovesIn requests (get key) = Unit {0}
 MovesIn requests (del key) = Unit {0}
 MovesIn requests (move key to) = is_moved_to requests (shard_of to) ≡ true
 
-or_true : (a b : Bool) → b ≡ true → (a || b) ≡ true
-or_true true b is = refl
-or_true false b is = is
-
-true_or : (a b : Bool) → a ≡ true → (a || b) ≡ true
-true_or a b is = ap (λ x. x || b) is
-
-one_more : (q : Request) (qs : List Request) (shard : ℕ) → is_moved_to qs shard ≡ true → is_moved_to (q ∷ qs) shard ≡ true
-one_more (put key value) qs shard is = is
-one_more (get key) qs shard is = is
-one_more (del key) qs shard is = is
-one_more (move key to) qs shard is = or_true (nat_eq (shard_of to) shard) (is_moved_to qs shard) is
-
 moves_more : (q : Request) (qs : List Request) (r : Request) → MovesIn qs r → MovesIn (q ∷ qs) r
 moves_more q qs (put key value) is = tt
 moves_more q qs (get key) is = tt
 moves_more q qs (del key) is = tt
-moves_more q qs (move key to) is = one_more q qs (shard_of to) is
+moves_more q qs (move key to) is = moved_behind q qs (shard_of to) is
 
 moves_first : (q : Request) (qs : List Request) → MovesIn (q ∷ qs) q
 moves_first (put key value) qs = tt
 moves_first (get key) qs = tt
 moves_first (del key) qs = tt
-moves_first (move key to) qs = true_or (nat_eq (shard_of to) (shard_of to)) (is_moved_to qs (shard_of to)) (eq-eqb (shard_of to) (shard_of to) refl)
+moves_first (move key to) qs = or_left (nat_eq (shard_of to) (shard_of to)) (is_moved_to qs (shard_of to)) (eq-eqb (shard_of to) (shard_of to) refl)
 
 all_moves : (at : ℕ) (qs : List Request) → All (λ (n : ℕ × Request). MovesIn qs n.1) (numbered at qs)
 all_moves at [] = All-nil (λ (n : ℕ × Request). MovesIn [] n.1)

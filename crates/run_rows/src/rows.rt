@@ -32,8 +32,8 @@ use tool_ports::Gate;
 use trace_text::Request;
 use worker_parts::{Begun, Job, begin, leave_begun, targets_of_moves};
 
-/// All workers make the tables of their shards that values are moved to, each in a thread of its own
-/// where one can be made.
+/// All workers make the tables of their shards that values are moved to, each in a thread of its
+/// own where one can be made.
 fn begin_together<'a, R: Threads + Sync, C: Chance + Send>(
     rt: &R,
     shared: &'a Shared,
@@ -70,7 +70,8 @@ fn tables_of<C: Chance>(all: &[Begun<'_, C>], workers: usize) -> [bool; 8]
     requires some { 1 ≤ workers }
     requires count { length all.now ≡ workers }
     requires turns { AreInTurn (λ one. one.worker) workers all.now }
-    ensures { (requests : List RequestView) → All (AgreesWith (is_flagged result) requests) all.now }
+    ensures { (requests : List RequestView)
+        → All (AgreesWith (is_flagged result) requests) all.now }
 {
     let mut tables = [false; 8];
     for shard in 0..8 {
@@ -143,7 +144,8 @@ fn exchange<
     requires going { All (λ one. one.stopped ≡ false) all.items }
     requires turns { AreInTurn (λ one. one.worker) (length all.items) all.items }
     requires short { ValuesAreShort (requests_of requests.now) }
-    requires tables { All (AgreesWith (is_flagged tables.now) (requests_of requests.now)) all.items }
+    requires tables { All (AgreesWith (is_flagged tables.now) (requests_of requests.now))
+        all.items }
     ensures ended { IfOk result (λ ended. HaveEnded shared.now (requests_of requests.now)
         (length all.entry.items) ended.items) }
 {
@@ -187,9 +189,9 @@ fn run_over<'a, J: HeapOf + Sync, R: Threads + Wait + Sync, G: Gate + Sync, C: C
 }
 
 /// The rows of a run over one heap, whose jobs come with the last worker first: all make the tables
-/// of their shards that values are moved to; all work off their requests; all bring in what came for
-/// them, in the order of the requests' numbers. If one is stopped while tables are made no request is
-/// begun. What the workers ended with comes with the last one first too.
+/// of their shards that values are moved to; all work off their requests; all bring in what came
+/// for them, in the order of the requests' numbers. If one is stopped while tables are made no
+/// request is begun. What the workers ended with comes with the last one first too.
 ///
 /// `Err` only where memory is short.
 pub fn run_rows<'a, R: Threads + Wait + Sync, G: Gate + Sync, C: Chance + Send>(

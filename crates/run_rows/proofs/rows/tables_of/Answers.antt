@@ -1,9 +1,9 @@
 use Rattle.std.proofs.Common.{◌≡◌, ◌<◌, ◌-◌, ◌%◌, length, refl, ap, subst, ◌∙◌, arith}
 use Rattle.std.specs.Prelude.{get_or}
-use Rattle.std.proofs.lemmas.List.{length-set}
+use Rattle.std.proofs.lemmas.List.{get_or_default, length-set}
 use Rattle.dict_model.specs.Links.{shards}
 use Rattle.shard_moves.specs.Tables.{is_flagged}
-use Rattle.run_rows.proofs.RowLemmas.{AreToldOf, same_at, told_all, told_next}
+use Rattle.run_rows.proofs.RowLemmas.{AreToldOf, told_all, told_next}
 use Rattle.run_rows.proofs.rows.tables_of.Goals as goal
 
 pub loop-shard-preserved : goal.loop-shard-preserved
@@ -15,7 +15,7 @@ loop-shard-preserved g c =
     let has = is_flagged (get_or all at c.index-all-workers.result).tables n in
     told_next all c.args.workers n c.loop-shard.tables _ has c.loop-shard-test.true refl (length-set c.loop-shard.tables n has
     ∙ c.loop-shard.invariant.long)
-    (λ any. ap (λ one. is_flagged one.tables n) (same_at all at c.index-all-workers.result any inside)) c.loop-shard.invariant
+    (λ any. ap (λ one. is_flagged one.tables n) (get_or_default all at c.index-all-workers.result any inside)) c.loop-shard.invariant
 
 pub returns : goal.returns
 returns g c = λ requests. told_all c.args.all.now c.args.workers c.loop-shard.tables c.requires.turns
