@@ -1,13 +1,13 @@
 -- Maps that follow requests and their replies one by one are those after all of them, and what moves took out on the
 -- way is what arrives by them. Where these are the answered requests of a run that wasn't stopped, they are the maps of
 -- the image that is left.
-use Rattle.std.proofs.Common.{◌≡◌, ℕ, zero, suc, ◌+◌, ◌<◌, take, inl, inr, Bool, true, false, List, [], ◌∷◌, ◌++◌, length, filter, get_or, cond, Option, None, Some, append_assoc, refl, subst, sym, ap, ◌∙◌, arith}
+use Rattle.std.proofs.Common.{◌≡◌, ℕ, zero, suc, ◌+◌, ◌<◌, take, inl, inr, Bool, true, false, List, [], ◌∷◌, ◌++◌, length, get_or, cond, Option, None, Some, append_assoc, refl, subst, sym, ap, ◌∙◌, arith}
 use Rattle.std.specs.Prelude.{◌↔◌, IfSome, IsSome}
 use Rattle.std.specs.BTreeMap.{BTreeMap, get, IsOrdered}
 use Rattle.std.specs.Ordering.{nat_cmp}
 use Rattle.std.proofs.Math.Nat.{mod-lt}
 use Rattle.std.proofs.Math.Seq.{take-length, take-suc}
-use Rattle.std.proofs.lemmas.Bool.{eq-eqb, eqb-true, cond-false}
+use Rattle.std.proofs.lemmas.Bool.{eq-eqb}
 use Rattle.std.proofs.lemmas.List.{length-map, map-append}
 use Rattle.std.proofs.lemmas.List.Elements.{filter-append}
 use Rattle.std.proofs.lemmas.Option.{get_or_from_slice_get, slice_get-get_or}
@@ -22,8 +22,8 @@ use Rattle.run_model.specs.Arrivals.{IsWholeMap, arrival, arrivals, worker_arriv
 use Rattle.run_model.specs.Needs.{is_to}
 use Rattle.run_model.specs.Opened.{HasMaps}
 use Rattle.run_model.specs.Runs.{answered, of_shard, LeavesMaps}
-use Rattle.run_model.specs.Workers.{Replies, shard_asked, worker_of, is_of_worker}
-use Rattle.run_model.proofs.OneMapLemmas.{one_alike, one_beside, whole_map}
+use Rattle.run_model.specs.Workers.{Replies, shard_asked, worker_of}
+use Rattle.run_model.proofs.OneMapLemmas.{arrives_there, one_alike, one_beside, whole_map}
 use Rattle.worker_run.specs.Said.{Line, Told, request_of, requests_of, reply_of, replies_of}
 use Rattle.worker_run.proofs.RoomLemmas.{requests_next}
 use Rattle.shared_run.specs.Following.{AreAfter, AreAfterRun, AreMapsOf, puts_under}
@@ -151,29 +151,6 @@ maps_of_whole image whole maps is are = record {
       ap (λ (m : BTreeMap ℕ (List ℕ)). get nat_cmp m key) (get_or_from_slice_get maps (shard_of key) here.0 any here.1)
       ∙ one_map_of image (shard_of key) (get nat_cmp here.0) of.0 here.2 of.1 key ∙ of.2;
 }
-
-not_so : (test : Bool) → (test ≡ true → false ≡ true) → test ≡ false
-not_so true so = sym (so refl)
-not_so false so = refl
-
--- what passes the narrower of two tests is all there behind the wider one
-filter_within : {X : Type 0} (narrow wide : X → Bool) → ((x : X) → narrow x ≡ true → wide x ≡ true) → (xs : List X)
-    → filter narrow (filter wide xs) ≡ filter narrow xs
-filter_within narrow wide so [] = refl
-filter_within narrow wide so (x ∷ xs) = by_case (wide x) (so x) (filter_within narrow wide so xs) where
-  by_case : (b : Bool) → (narrow x ≡ true → b ≡ true) → filter narrow (filter wide xs) ≡ filter narrow xs
-      → filter narrow (cond b (x ∷ filter wide xs) (filter wide xs)) ≡ cond (narrow x) (x ∷ filter narrow xs) (filter narrow xs)
-  by_case true passes same = ap (λ ys. cond (narrow x) (x ∷ ys) ys) same
-  by_case false passes same = same ∙ sym (cond-false (narrow x) (x ∷ filter narrow xs) (filter narrow xs) (not_so (narrow x) passes))
-
--- what arrives in a shard arrives at its worker
-arrives_there : (workers shard : ℕ) (rs xs : List (Request × Reply))
-    → of_shard shard (rs ++ filter (λ r. is_of_worker workers (worker_of workers shard) r.0) xs) ≡ of_shard shard (rs ++ xs)
-arrives_there workers shard rs xs =
-    filter-append (λ r. is_to shard r.0) rs (filter (λ r. is_of_worker workers (worker_of workers shard) r.0) xs)
-    ∙ ap (λ ys. of_shard shard rs ++ ys) (filter_within (λ r. is_to shard r.0) (λ r. is_of_worker workers (worker_of workers shard) r.0)
-    (λ r to. eq-eqb (worker_of workers (shard_asked r.0)) (worker_of workers shard) (ap (worker_of workers) (eqb-true (shard_asked r.0) shard to))) xs)
-    ∙ sym (filter-append (λ r. is_to shard r.0) rs xs)
 
 -- what is left of a shard where a run wasn't stopped is its map after the requests and all that arrives
 left_of_shard : (image left : Image) (workers : ℕ) (requests : List Request) (replies : Replies) (whole : Map) → IsWholeMap image whole

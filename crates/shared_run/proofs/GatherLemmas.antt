@@ -1,6 +1,7 @@
 -- What the workers ended with, taken apart from the last one on, and put together by the workers' numbers.
-use Rattle.std.proofs.Common.{◌≡◌, ℕ, zero, suc, ◌+◌, ◌-◌, ◌<◌, ◌≤◌, ◌⊎◌, inl, inr, Bool, true, false, ◌||◌, List, [], ◌∷◌, ◌++◌, append-nil, append_assoc, get_or, length, length-append, map, Contains, refl, subst, sym, ap, ◌∙◌, arith}
-use Rattle.std.proofs.lemmas.List.{get_or-map, get_or_default, length-map, map-append}
+use Rattle.std.proofs.Common.{◌≡◌, ℕ, zero, suc, ◌+◌, ◌-◌, ◌<◌, ◌≤◌, inl, inr, Bool, true, false, List, [], ◌∷◌, ◌++◌, get_or, length, length-append, map, Contains, refl, subst, sym, ap, ◌∙◌, arith}
+use Rattle.std.proofs.lemmas.Bool.{or_cases, or_left, or_parts, or_right}
+use Rattle.std.proofs.lemmas.List.{get_or-map, get_or_default, length-map}
 use Rattle.std.proofs.lemmas.List.Elements.{Contains-append_cases}
 use Rattle.std.specs.List.Sorted.{IsPermutation}
 use Rattle.heap_model.proofs.MemberLemmas.{in_none}
@@ -19,101 +20,14 @@ use Rattle.worker_parts.specs.Jobs.{IsPartOf, image_of}
 use Rattle.worker_run.specs.Said.{Told, replies_of}
 use Rattle.shared_run.specs.Dealing.{Queue}
 use Rattle.shared_run.specs.Gathering.{AreParts}
-use Rattle.shared_run.proofs.DealLemmas.{at_place, at_seam, one_longer}
 use Rattle.shared_run.proofs.HandedLemmas.{sum_last}
-
--- something of each, the last one first
-abbrev pub backwards : {X Y : Type 0} → (X → Y) → List X → List Y
-backwards of [] = []
-backwards of (x ∷ xs) = backwards of xs ++ (of x ∷ [])
-
-backwards_long : {X Y : Type 0} (of : X → Y) (xs : List X) → length (backwards of xs) ≡ length xs
-backwards_long of [] = refl
-backwards_long of (x ∷ xs) = let more = one_longer (backwards of xs) (of x) in let rest = backwards_long of xs in omega arith
-
-at_back : {X Y : Type 0} (of : X → Y) (xs : List X) (i place : ℕ) (d : Y) (any : X) → i + place + 1 ≡ length xs
-    → get_or (backwards of xs) i d ≡ of (get_or xs place any)
-at_back of [] i place d any both = absurd (omega (arith, both))
-at_back of (x ∷ xs) i zero d any both =
-    let long = backwards_long of xs in
-    let last : i ≡ length (backwards of xs) = omega (arith, both, long) in
-    ap (λ n. get_or (backwards of xs ++ (of x ∷ [])) n d) last ∙ at_seam (backwards of xs) (of x) d
-at_back of (x ∷ xs) i (suc place) d any both =
-    let long = backwards_long of xs in
-    at_place (backwards of xs) (of x) d i (omega (arith, both, long)) ∙ at_back of xs i place d any (omega (arith, both))
-
--- the carriers of all, those of the last one first
-abbrev pub carriers_of : List Ended → List CarrierView
-carriers_of [] = []
-carriers_of (one ∷ rest) = carriers_of rest ++ one.carriers.items
-
-abbrev pub was_stopped : List Ended → Bool
-was_stopped [] = false
-was_stopped (one ∷ rest) = was_stopped rest || one.worked.stopped
-
-abbrev seats_of : List Ended → List SeatView
-seats_of ended = backwards (λ (one : Ended). one.worked.seat) ended
-
-abbrev told_of : List Ended → List (List Told)
-told_of ended = backwards (λ (one : Ended). one.worked.replies.items) ended
-
--- the last ones are taken apart, and these are left; what they had is this
-pub record AreTaken (all left : List Ended) (seats : List SeatView) (told : List Queue) (carriers : List CarrierView) (stopped : Bool) : Type 0 where
-  pub taken : List Ended
-  pub split : all ≡ left ++ taken
-  pub seats_are : seats ≡ seats_of taken
-  pub told_are : map (λ (q : Queue). q.items) told ≡ told_of taken
-  pub carriers_are : carriers ≡ carriers_of taken
-  pub stopped_is : stopped ≡ was_stopped taken
-
-pub taken_none : (all : List Ended) (seats : List SeatView) (told : List Queue) (carriers : List CarrierView) → seats ≡ [] → told ≡ []
-    → carriers ≡ [] → AreTaken all all seats told carriers false
-taken_none all seats told carriers no_seats no_told no_carriers = record {
-  taken = [];
-  split = sym (append-nil all);
-  seats_are = no_seats;
-  told_are = ap (map (λ (q : Queue). q.items)) no_told;
-  carriers_are = no_carriers;
-  stopped_is = refl;
-}
-
--- one more
-pub taken_more : (all left rest : List Ended) (one : Ended) (queue : Queue) (seats now_seats : List SeatView) (told now_told : List Queue)
-    (carriers now_carriers : List CarrierView) (stopped now : Bool)
-    → AreTaken all left seats told carriers stopped → left ≡ rest ++ (one ∷ []) → queue.items ≡ one.worked.replies.items
-    → now_seats ≡ seats ++ (one.worked.seat ∷ []) → now_told ≡ told ++ (queue ∷ [])
-    → now_carriers ≡ carriers ++ one.carriers.items → now ≡ stopped || one.worked.stopped → AreTaken all rest now_seats now_told now_carriers now
-taken_more all left rest one queue seats now_seats told now_told carriers now_carriers stopped now was pops items seats_more told_more
-    carriers_more now_is = record {
-      taken = one ∷ was.taken;
-      split = was.split ∙ ap (λ xs. xs ++ was.taken) pops ∙ append_assoc rest (one ∷ []) was.taken;
-      seats_are = seats_more ∙ ap (λ xs. xs ++ (one.worked.seat ∷ [])) was.seats_are;
-      told_are = ap (map (λ (q : Queue). q.items)) told_more ∙ map-append (λ (q : Queue). q.items) told (queue ∷ [])
-          ∙ ap (λ (xs : List (List Told)). xs ++ (queue.items ∷ [])) was.told_are ∙ ap (λ (r : List Told). told_of was.taken ++ (r ∷ [])) items;
-      carriers_are = carriers_more ∙ ap (λ xs. xs ++ one.carriers.items) was.carriers_are;
-      stopped_is = now_is ∙ ap (λ b. b || one.worked.stopped) was.stopped_is;
-    }
+use Rattle.shared_run.proofs.TakenApartLemmas.{AreTaken, at_back, backwards_long, carriers_of, seats_of, told_of, was_stopped}
 
 -- a run is stopped where one of the workers was
-either_true : (a b : Bool) → (a || b ≡ true) → (a ≡ true) ⊎ (b ≡ true)
-either_true true b e = inl refl
-either_true false b e = inr e
-
-both_false : (a b : Bool) → (a || b ≡ false) → (a ≡ false) × (b ≡ false)
-both_false true b e = let no : true ≡ false = e in absurd (cc)
-both_false false b e = (refl, e)
-
-left_true : (a b : Bool) → a ≡ true → a || b ≡ true
-left_true a b e = ap (λ c. c || b) e
-
-right_true : (a b : Bool) → b ≡ true → a || b ≡ true
-right_true true b e = refl
-right_true false b e = e
-
 stops_where : (ended : List Ended) → was_stopped ended ≡ true → (at : ℕ) × (at < length ended)
     × ((any : Ended) → (get_or ended at any).worked.stopped ≡ true)
 stops_where [] e = let no : false ≡ true = e in absurd (cc)
-stops_where (one ∷ rest) e = elim (either_true (was_stopped rest) one.worked.stopped e)
+stops_where (one ∷ rest) e = elim (or_cases (was_stopped rest) one.worked.stopped e)
     as (λ _. (at : ℕ) × (at < length (one ∷ rest)) × ((any : Ended) → (get_or (one ∷ rest) at any).worked.stopped ≡ true)) [
       | inl later ↦ let found = stops_where rest later in (suc found.0, (let below = found.1 in omega (arith, below)), λ any. found.2 any)
       | inr here ↦ (0, omega arith, λ any. here)
@@ -121,8 +35,8 @@ stops_where (one ∷ rest) e = elim (either_true (was_stopped rest) one.worked.s
 
 so_stopped : (ended : List Ended) (at : ℕ) (any : Ended) → at < length ended → (get_or ended at any).worked.stopped ≡ true → was_stopped ended ≡ true
 so_stopped [] at any below is = absurd (omega (arith, below))
-so_stopped (one ∷ rest) zero any below is = right_true (was_stopped rest) one.worked.stopped is
-so_stopped (one ∷ rest) (suc at) any below is = left_true (was_stopped rest) one.worked.stopped (so_stopped rest at any (omega (arith, below)) is)
+so_stopped (one ∷ rest) zero any below is = or_right (was_stopped rest) one.worked.stopped is
+so_stopped (one ∷ rest) (suc at) any below is = or_left (was_stopped rest) one.worked.stopped (so_stopped rest at any (omega (arith, below)) is)
 
 -- how many carriers there are, what is so of each, and where there is none
 carriers_long : (ended : List Ended) (count : ℕ → ℕ) → ((i place : ℕ) (any : Ended) → i + place + 1 ≡ length ended
@@ -150,7 +64,7 @@ no_carrier : (ended : List Ended) → ((at : ℕ) (any : Ended) → at < length 
     → was_stopped ended ≡ false → carriers_of ended ≡ []
 no_carrier [] none going = refl
 no_carrier (one ∷ rest) none going =
-    let both = both_false (was_stopped rest) one.worked.stopped going in
+    let both = or_parts (was_stopped rest) one.worked.stopped going in
     ap (λ xs. xs ++ one.carriers.items) (no_carrier rest (λ at any below. none (suc at) any (omega (arith, below))) both.0)
     ∙ none 0 one (omega arith) both.1
 

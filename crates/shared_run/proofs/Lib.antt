@@ -8,3 +8,4 @@ pub mod OpeningLemmas
 pub mod RunLemmas
 pub mod ScrambledLemmas
 pub mod HandedLemmas
+pub mod TakenApartLemmas

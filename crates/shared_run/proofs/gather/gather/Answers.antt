@@ -1,7 +1,8 @@
 use Rattle.std.proofs.Common.{◌≡◌, ◌||◌, [], ◌∷◌, length, length-append, subst, sym, ap, ◌∙◌, arith}
 use Rattle.std.proofs.lemmas.List.{nil_from_length}
 use Rattle.worker_run.specs.Said.{requests_of}
-use Rattle.shared_run.proofs.GatherLemmas.{AreTaken, parts_of_all, taken_more, taken_none}
+use Rattle.shared_run.proofs.GatherLemmas.{parts_of_all}
+use Rattle.shared_run.proofs.TakenApartLemmas.{AreTaken, taken_more, taken_none}
 use Rattle.shared_run.proofs.gather.gather.Goals as goal
 use Rattle.shared_run.proofs.gather.gather.Goals.{then-stopped, else-stopped}
 

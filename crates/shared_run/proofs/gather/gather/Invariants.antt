@@ -1,6 +1,6 @@
 use Rattle.std.proofs.Common.{◌≡◌, ◌≤◌, ◌+◌, length}
 use Rattle.std.specs.Vec.{vec_capacity}
-use Rattle.shared_run.proofs.GatherLemmas.{AreTaken}
+use Rattle.shared_run.proofs.TakenApartLemmas.{AreTaken}
 use Rattle.shared_run.proofs.gather.gather.Given as goal
 
 abbrev pub invariant-loop-one : goal.invariant-loop-one
