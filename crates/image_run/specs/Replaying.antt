@@ -28,10 +28,11 @@ draws_before (Tick shift) = 0
 draws_before (Settle word) = 0
 draws_before event = 1
 
--- the events of a line, and of all
+-- the events of a line
 abbrev pub events_by : ℕ → Event → List (ℕ × Event)
 events_by seat event = replicate (draws_before event) (seat, Tick None) ++ ((seat, event) ∷ [])
 
+-- those of all lines, in their order
 abbrev pub events_of : List (ℕ × Event) → List (ℕ × Event)
 events_of lines = flat_map (λ (line : ℕ × Event). events_by line.0 line.1) lines
 
@@ -47,10 +48,11 @@ pub record CanBeReplayed (seats : ℕ) (lines : List (ℕ × Event)) : Type 0 wh
   pub few : seats ≤ 8
   pub below : (line : ℕ × Event) → Contains lines line → line.0 < seats
 
--- the heap with the greatest budget, and its state as it is opened: all its blocks and roots belong to seat 0
+-- the heap with the greatest budget
 abbrev pub replay_setup : List ℕ → ℕ → Setup
 replay_setup words seats = setup_of words MOST_BUDGET seats
 
+-- its state as it is opened: all its blocks and roots belong to seat 0
 abbrev pub replay_opening : List ℕ → List Block → ℕ → TableState
 replay_opening words held seats = opened_state (replay_setup words seats) held (replicate (length held) 0) (replicate roots 0) seats
 

@@ -9,7 +9,7 @@ use Rattle.dictionary.specs.Reading.{RecoversTo}
 use Rattle.run_model.specs.Runs.{AnswerInOrder, StopsRightly, IsFullRightly, RepliesRightly, LeavesMaps, LeavesHeader, LeavesOthers, LeavesUsed, LeavesState}
 use Rattle.run_model.specs.Workers.{Replies}
 use Rattle.run_outcome.specs.Closed.{LeavesOrderly}
-use Rattle.shared_run.specs.Dealt.{HaveAsked}
+use Rattle.shared_run.specs.Dealt.{DealsThenScrambles}
 use Rattle.run_outcome.specs.Together.{HaveWorked}
 use Rattle.worker_run.specs.Said.{Told, replies_of}
 use Rattle.trace_text.specs.Replies.{replies_text}
@@ -24,6 +24,7 @@ pub record Options : Type 0 where
   pub with_sum : Bool
   pub with_map : Bool
 
+-- what the options of the code stand for
 abbrev pub options_of : RunOptions → Options
 options_of options = record {
   workers = options.workers;
@@ -85,4 +86,4 @@ pub record RunAsks {C One : Type 0} (seed_gives : C → ℕ → C → Type 0) (c
   pub left : List ℕ
   pub put_is : put ≡ bytes_of_words left
   pub state : LeavesState stopped (slice_index left)
-  pub asked : HaveAsked chance_gives word_gives options.workers stopped (capacity_of image) (slice_index left) begun new
+  pub asked : DealsThenScrambles chance_gives word_gives options.workers stopped (capacity_of image) (slice_index left) begun new

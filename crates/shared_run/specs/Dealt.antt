@@ -17,8 +17,8 @@ AreDealt {C} {One} chance_gives old (suc last) new = (chance : One) × (next : C
 
 -- the chances were asked for a chance for each of the workers and then, where the run was stopped, for the list heads,
 -- anchors and links of the image that is left, in the order of word index
-pub record HaveAsked {C One : Type 0} (chance_gives : C → ℕ → One → C → Type 0) (word_gives : C → ℕ → C → Type 0) (workers : ℕ) (stopped : Bool)
-    (capacity : ℕ) (left : Image) (old new : C) : Type 0 where
+pub record DealsThenScrambles {C One : Type 0} (chance_gives : C → ℕ → One → C → Type 0) (word_gives : C → ℕ → C → Type 0)
+    (workers : ℕ) (stopped : Bool) (capacity : ℕ) (left : Image) (old new : C) : Type 0 where
   pub dealt : C
   pub workers_first : AreDealt chance_gives old workers dealt
   pub then_nothing : stopped ≡ false → new ≡ dealt

@@ -5,7 +5,7 @@ use Rattle.std.specs.Prelude.{◌≡◌, ℕ, ◌+◌, Bool, List, [], ◌∷◌
 use Rattle.std.proofs.Common.{arith, ap, ◌∙◌}
 use Rattle.heap_model.specs.Image.{Image}
 use Rattle.crash_image.specs.Crash.{GivesAll, transient_words}
-use Rattle.shared_run.specs.Dealt.{AreDealt, HaveAsked}
+use Rattle.shared_run.specs.Dealt.{AreDealt, DealsThenScrambles}
 
 two_are_dealt : {C One : Type 0} (gives : C → ℕ → One → C → Type 0) (old next new : C) (second first : One) → gives old 1 second next
     → gives next 0 first new
@@ -15,16 +15,17 @@ two_are_dealt gives old next new second first of_one of_zero = (second, next, of
 none_is_dealt : {C One : Type 0} (gives : C → ℕ → One → C → Type 0) (old new : C) → AreDealt gives old 0 new → new ≡ old
 none_is_dealt gives old new dealt = dealt
 
--- chances that note what they are asked for, the last one in front: of a worker its number, and of a word what it gets
+-- chances that note what they are asked for, the last one in front: for a worker its number
 abbrev notes_worker : (One : Type 0) → List ℕ → ℕ → One → List ℕ → Type 0
 notes_worker One old worker chance new = new ≡ worker ∷ old
 
+-- for a word what it gets
 abbrev notes_word : List ℕ → ℕ → List ℕ → Type 0
 notes_word old word new = new ≡ word ∷ old
 
 -- what a run of so many workers over one superblock asks for, which leaves this image
 abbrev asks : (One : Type 0) → ℕ → Bool → Image → List ℕ → List ℕ → Type 0
-asks One workers stopped left old new = HaveAsked (notes_worker One) notes_word workers stopped 1 left old new
+asks One workers stopped left old new = DealsThenScrambles (notes_worker One) notes_word workers stopped 1 left old new
 
 -- each is noted once
 two_are_noted : (One : Type 0) (new : List ℕ) → AreDealt (notes_worker One) [] 2 new → new ≡ 0 ∷ 1 ∷ []

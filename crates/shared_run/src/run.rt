@@ -15,7 +15,7 @@ ghost use Rattle.tool_ports.specs.Chances.{ComesFrom};
 ghost use Rattle.crash_image.specs.Crash.{GivesAll, transient_words};
 ghost use Rattle.run_outcome.specs.Closed.{LeavesOrderly};
 ghost use Rattle.run_rows.specs.Turns.{AreInTurn};
-ghost use Rattle.shared_run.specs.Dealt.{AreGiven, HaveAsked};
+ghost use Rattle.shared_run.specs.Dealt.{AreGiven, DealsThenScrambles};
 ghost use Rattle.shared_run.specs.Following.{AreAfterRun, FollowMapsOf};
 ghost use Rattle.worker_parts.specs.Jobs.{IsJobOf};
 ghost use Rattle.shared_run.specs.Scrambled.{IsScrambled};
@@ -69,7 +69,8 @@ fn image_left<C: Chances>(
     requires layout { geometry.capacity ≡ capacity_of (slice_index closed.now) }
     requires same { geometry.capacity ≡ capacity_of (slice_index closed.kept) }
     ensures left { IsLeftOf stopped closed.now closed.kept result.items }
-    ensures long { length closed.kept ≡ length closed.now → length result.items ≡ length closed.now }
+    ensures long { length closed.kept ≡ length closed.now
+        → length result.items ≡ length closed.now }
     ensures chances { ComesFrom C.chance_gives C.word_gives chances.old chances.new }
     ensures scrambled { stopped ≡ true → GivesAll C.word_gives chances.old
         (map (slice_index result.items) (transient_words geometry.capacity)) chances.new }
@@ -185,8 +186,8 @@ fn run_workers<R: Threads + Wait + Sync, G: Gate + Sync, C: Chances>(
     ensures scrambled { IfOk result (λ o. o.stopped ≡ true → IsScrambled C.chance_gives C.word_gives
         (capacity_of (slice_index mapped.words)) (slice_index o.image.items)
         chances.old chances.new) }
-    ensures asked { IfOk result (λ o. HaveAsked C.chance_gives C.word_gives workers o.stopped
-        (capacity_of (slice_index mapped.words)) (slice_index o.image.items)
+    ensures asked { IfOk result (λ o. DealsThenScrambles C.chance_gives C.word_gives workers
+        o.stopped (capacity_of (slice_index mapped.words)) (slice_index o.image.items)
         chances.old chances.new) }
 {
     let geometry = mapped.heap().geometry();
@@ -234,8 +235,8 @@ pub fn run_trace<R: Threads + Wait + Sync, G: Gate + Sync, C: Chances>(
     requires short { ValuesAreShort (requests_of requests.now) }
 
     // The states that the workers' seats went through, and the heap that they left.
-    ensures worked { IfOk result (λ o. (now kept : List ℕ) × HaveWorked mapped.words mapped.held workers
-        budget (requests_of requests.now) (replies_of o.replies.items) o.stopped now kept
+    ensures worked { IfOk result (λ o. (now kept : List ℕ) × HaveWorked mapped.words mapped.held
+        workers budget (requests_of requests.now) (replies_of o.replies.items) o.stopped now kept
         o.image.items) }
 
     // Which requests are answered, and with which replies.
@@ -271,8 +272,8 @@ pub fn run_trace<R: Threads + Wait + Sync, G: Gate + Sync, C: Chances>(
     ensures scrambled { IfOk result (λ o. o.stopped ≡ true → IsScrambled C.chance_gives C.word_gives
         (capacity_of (slice_index mapped.words)) (slice_index o.image.items)
         chances.old chances.new) }
-    ensures asked { IfOk result (λ o. HaveAsked C.chance_gives C.word_gives workers o.stopped
-        (capacity_of (slice_index mapped.words)) (slice_index o.image.items)
+    ensures asked { IfOk result (λ o. DealsThenScrambles C.chance_gives C.word_gives workers
+        o.stopped (capacity_of (slice_index mapped.words)) (slice_index o.image.items)
         chances.old chances.new) }
 {
     what_the_workers_answered();
