@@ -5,6 +5,8 @@
 #![tactic(auto)]
 
 #[cfg(test)]
+mod believed;
+#[cfg(test)]
 mod conservative;
 #[cfg(test)]
 mod contended;
