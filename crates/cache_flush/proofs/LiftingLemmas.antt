@@ -7,7 +7,7 @@ use Rattle.heap_model.specs.Geometry.{superblock_of}
 use Rattle.core_model.specs.Cells.{data_cell}
 use Rattle.core_model.specs.Effects.{first_of, last_of, rest_of}
 use Rattle.core_model.specs.View.{Batch, View, Setup, no_batch, of_class}
-use Rattle.core_model.proofs.ShiftLemmas.{first_rest}
+use Rattle.core_model.proofs.ClassListLemmas.{first_rest}
 use Rattle.seat_state.proofs.EndLemmas.{last_append}
 use Rattle.heap_table.specs.Plays.{HasSoundState}
 use Rattle.heap_rule.specs.Shown.{CanLift, Shows}

@@ -9,7 +9,7 @@ use Rattle.core_model.specs.View.{View, no_batch, times_raw, times_classed, time
 use Rattle.core_model.specs.Effects.{seen_word, claimed, given, won, trimmed}
 use Rattle.core_model.specs.Sound.{Good, tally_of, times_cut}
 use Rattle.core_model.proofs.AnchorLemmas as on_anchor
-use Rattle.core_model.proofs.GiveLemmas as gives
+use Rattle.core_model.proofs.GivenLemmas as gives
 use Rattle.core_model.proofs.SoundLemmas.{batched}
 use Rattle.seat_index.specs.declared.owned.Ownership.{Ownership}
 use Rattle.seat_index.specs.declared.owned.Owned.{Owned}

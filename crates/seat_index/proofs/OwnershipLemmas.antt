@@ -8,8 +8,7 @@ use Rattle.core_model.specs.Effects.{steps, without_claim, claim_class}
 use Rattle.core_model.proofs.CountLemmas.{times_without_claim, class_without}
 use Rattle.core_model.proofs.FrameLemmas.{times_append}
 use Rattle.core_model.proofs.PlaceLemmas.{pick, skip, not-eq}
-use Rattle.core_model.proofs.SpanLemmas.{range_is, range_not, cases_range}
-use Rattle.core_model.proofs.RangeLemmas.{times_range}
+use Rattle.core_model.proofs.RangeLemmas.{times_range, range_is, range_not, cases_range}
 use Rattle.core_model.proofs.TotalLemmas.{eq-eqb-one, ne-eqb-none}
 use Rattle.heap_model.proofs.ListLemmas.{without_at}
 use Rattle.seat_state.proofs.CountLemmas.{without_off, class_absent}

@@ -8,8 +8,7 @@ use Rattle.core_model.specs.Effects.{steps, without_range, without_span, claim_c
 use Rattle.core_model.proofs.FrameLemmas.{times_append}
 use Rattle.core_model.proofs.LinkFrameLemmas.{span_covers}
 use Rattle.core_model.proofs.PlaceLemmas.{pick, skip, not-eq}
-use Rattle.core_model.proofs.SpanLemmas.{range_is, range_not, without_range_in, without_range_out, cases_range, in_range}
-use Rattle.core_model.proofs.RangeLemmas.{times_range, without_span_is, span_other}
+use Rattle.core_model.proofs.RangeLemmas.{times_range, without_span_is, span_other, range_is, range_not, without_range_in, without_range_out, cases_range, in_range}
 use Rattle.seat_state.proofs.CountLemmas.{no_span}
 use Rattle.seat_index.specs.declared.owned.Ownership.{Ownership}
 use Rattle.seat_index.specs.declared.owned.Ownership.TheVariants as ownership
