@@ -21,6 +21,7 @@ pub record IsFresh (v : View) : Type 0 where
   pub short : HasShortCaches v
   pub role_is : role v ≡ no_role
 
+-- it is such a seat of this heap
 abbrev pub IsFreshSeatOf : SharedView → SeatView → Type 0
 IsFreshSeatOf shared seat = IsSeatOf shared seat × IsFresh seat.view
 
@@ -28,6 +29,7 @@ IsFreshSeatOf shared seat = IsSeatOf shared seat × IsFresh seat.view
 pub record HasAllRoots (owned : List ℕ) : Type 0 where
   pub each : (root : ℕ) → root < roots → Contains owned root
 
+-- the last of these seats has each root
 abbrev pub HasLastAllRoots : List SeatView → Type 0
 HasLastAllRoots seats = (seat : SeatView) → get_or seats (length seats - 1) seat ≡ seat → HasAllRoots seat.view.roots
 
@@ -62,8 +64,10 @@ pub record IsBackFrom (s : CacheState) (seat : SeatView) : Type 0 where
 abbrev pub AreAt : TableId → List CarrierView → Type 0
 AreAt table carriers = All (λ (c : CarrierView). c.table ≡ table) carriers
 
+-- the same, by index
 abbrev pub AreAllAt : TableId → List CarrierView → Type 0
 AreAllAt table carriers = (j : ℕ) (x : CarrierView) → get_elem? carriers j ≡ some x → x.table ≡ table
 
+-- some table
 abbrev pub no_table : TableId
 no_table = record { words = 0; slots = 0; views_name = 0; atom = 0; block = 0; offset = 0; slot_names = [] }

@@ -20,6 +20,7 @@ pub record IsFresh (v : View) : Type 0 where
   pub short : HasShortCaches v
   pub role_is : role v ≡ no_role
 
+-- it is such a seat of this heap
 abbrev pub IsFreshSeatOf : SharedView → SeatView → Type 0
 IsFreshSeatOf shared seat = IsSeatOf shared seat × IsFresh seat.view
 
@@ -40,6 +41,7 @@ IsNoneOf b given = (a : Block) → Contains given a → a ≢ b
 abbrev pub HasRootsOf : ℕ → ℕ → SeatView → Type 0
 HasRootsOf number count seat = (root : ℕ) → root < roots → root % count ≡ number → Contains seat.view.roots root
 
+-- each of these seats has its roots
 abbrev pub HaveRoots : ℕ → List SeatView → Type 0
 HaveRoots count seats = (i : ℕ) (seat : SeatView) → i < length seats → get_or seats i seat ≡ seat → HasRootsOf i count seat
 
@@ -47,6 +49,7 @@ HaveRoots count seats = (i : ℕ) (seat : SeatView) → i < length seats → get
 abbrev pub HasBlocksOf : ℕ → ℕ → List Block → View → Type 0
 HasBlocksOf number count held v = (i : ℕ) (b : Block) → i < length held → get_or held i b ≡ b → i % count ≡ number → Contains (held_blocks v) b
 
+-- each of these seats has its blocks
 abbrev pub HaveBlocks : ℕ → List Block → List SeatView → Type 0
 HaveBlocks count held seats = (i : ℕ) (seat : SeatView) → i < length seats → get_or seats i seat ≡ seat → HasBlocksOf i count held seat.view
 
