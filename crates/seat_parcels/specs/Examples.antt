@@ -16,10 +16,11 @@ use Rattle.seat_parcels.specs.Going.{AcceptsAtMost, OffersAtMost}
 use Rattle.seat_parcels.specs.Parcels.{IsParcelOf, carried_value, or_zero, sent_of}
 use Rattle.seat_parcels.specs.Trays.{IsInStepWith}
 
--- two tables
+-- a table
 abbrev table : TableId
 table = record { words = 0; slots = 0; views_name = 0; atom = 0; block = 0; offset = 0; slot_names = [] }
 
+-- another table
 abbrev other_table : TableId
 other_table = record table { atom = 1 }
 
@@ -27,26 +28,31 @@ other_table = record table { atom = 1 }
 abbrev node : Block
 node = record { first_word = 1; words = 5 }
 
+-- what is known of the words up to its end
 abbrev words : List (Option ℕ)
 words = None ∷ Some 0 ∷ Some 9 ∷ Some 2 ∷ Some 25185 ∷ None ∷ []
 
--- a carrier that has it; one of whose words a crash may leave any; and one where nothing is known of them
+-- a carrier that has the block, with what is known of its words durable
 abbrev carrier : CarrierView
 carrier = record { table = table; view = record idle { volatile = words; durable = words }; block = node }
 
+-- one of whose words a crash may leave any value
 abbrev volatile : CarrierView
 volatile = record carrier { view = record idle { volatile = words } }
 
+-- one where nothing is known of its words
 abbrev unknown : CarrierView
 unknown = record carrier { view = idle }
 
--- request 3 sends it to key 10, request 4 to key 12, and request 5 to key 7
+-- request 3 sends it to key 10
 abbrev third : Parcel
 third = record { number = 3; key = 10; carrier = carrier }
 
+-- request 4 sends it to key 12
 abbrev fourth : Parcel
 fourth = record { number = 4; key = 12; carrier = carrier }
 
+-- request 5 sends it to key 7
 abbrev fifth : Parcel
 fifth = record { number = 5; key = 7; carrier = carrier }
 
@@ -121,10 +127,11 @@ put_rightly = (
 put_wrongly : ArePutRightly 3 0 (pass_with (third ∷ []) ∷ pass_with [] ∷ pass_with [] ∷ []) → ⊥
 put_wrongly rightly = let e : 2 ≡ 0 = All-head (λ x. goes_to 3 x ≡ 0) third [] rightly.0 in omega (arith, e)
 
--- a queue of one worker, and its box with these parcels put and kept
+-- a queue of one worker
 abbrev queues : List QueueView
 queues = record { queue = table; room = 4 } ∷ []
 
+-- its box with these parcels put and kept
 abbrev box_with : List Parcel → List Parcel → BoxView
 box_with put kept = record {
   queues = queues;

@@ -27,6 +27,7 @@ carried_value c = value_in (seen_image (contents_of c)) c.block
 abbrev pub sent_of : Parcel → Sent
 sent_of p = record { number = p.number; key = p.key; value = carried_value p.carrier }
 
+-- what parcels send, in their order
 abbrev pub all_sent_of : List Parcel → List Sent
 all_sent_of parcels = map sent_of parcels
 
