@@ -6,13 +6,15 @@ use Rattle.heap_rule.specs.Seated.{SeatView}
 use Rattle.seat_costs.specs.Asked.{HasAsked}
 use Rattle.seat_model.specs.CacheState.{CacheState, CacheValue, no_looks}
 
--- the most tickets that a call of alloc or free draws, exchanges that it wins, and batches that it gives, but for those that losses and moves pay
+-- the most tickets that a call of alloc or free draws, but for those that losses and moves pay
 abbrev pub most_draws : ℕ
 most_draws = 2 ^ 17
 
+-- the most exchanges that it wins
 abbrev pub most_wins : ℕ
 most_wins = 2 ^ 15
 
+-- the most batches that it gives
 abbrev pub most_gives : ℕ
 most_gives = 2 ^ 14
 
@@ -45,6 +47,7 @@ pub record KeepsCosts (v : View) (small large : ℕ) (w : View) (smalls larges :
   pub light : w.draws + small + light_draws * large + most_draws * (traces v + length w.large) + 16 * v.losses + 16 * v.moves
       ≤ v.draws + smalls + light_draws * larges + most_draws * (traces w + length v.large) + 16 * w.losses + 16 * w.moves
 
+-- the same between two states, by their counts of calls
 abbrev pub KeepsCounts : CacheState → CacheState → Type 0
 KeepsCounts s t = KeepsCosts s.view s.small_calls s.large_calls t.view t.small_calls t.large_calls
 

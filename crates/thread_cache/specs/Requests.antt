@@ -26,24 +26,27 @@ pub data IsRefused (bytes : ℕ) (looks : Looks) (v w : View) : Type 0 where
   by_class : (class : ℕ) → IsLeastClassFor bytes class → IsFull class looks v w → of_class v.caches class ≡ [] → IsRefused bytes looks v w
   by_span : largest_small < bytes → HasNoRoom (span_of bytes) looks v w → IsRefused bytes looks v w
 
+-- what the answer to a request says
 abbrev pub Answers : ℕ → Result Block AllocFault → View → View → Type 0
 Answers bytes (Ok b) v w = IsGranted bytes b v w
 Answers bytes (Err (Full looks)) v w = IsRefused bytes looks v w
 Answers bytes (Err (Stopped e)) v w = Stops e.step v w
 
--- what a request may cost, with this many moves: at most, and where no superblock is cut
+-- what a request may cost at most, with this many moves
 abbrev pub request_costs : ℕ → ℕ → Costs
 request_costs bytes moves = record no_costs { draws = 4108; wins = 2; cuts = 1; taken = span_of bytes; moves = moves }
 
+-- where no superblock is cut
 abbrev pub light_request : ℕ → ℕ → Costs
 light_request bytes moves = record no_costs { draws = 10; wins = 2; taken = span_of bytes; moves = moves }
 
--- a block that the seat holds: one of a class, or a large one
+-- a block of the class that the seat holds
 pub record IsSmallBlock (class : ℕ) (b : Block) (v : View) : Type 0 where
   pub is_class : IsClass class
   pub words : b.words ≡ words_of_class class
   pub there : 0 < times b.first_word (of_class v.small class)
 
+-- a large block that begins in superblock d
 pub record IsSpan (d : ℕ) (b : Block) (v : View) : Type 0 where
   pub there : 1 ≤ span_count d v.large
   pub block : b ≡ record { first_word = start_word v.setup.capacity d; words = superblock_words * span_count d v.large }
@@ -58,9 +61,10 @@ pub data MayBeGivenBack (b : Block) (v w : View) : Type 0 where
   of_a_class : (class : ℕ) → IsSmallBlock class b v → MayHoldLess b.first_word class v w → MayBeGivenBack b v w
   of_a_span : (d : ℕ) → IsSpan d b v → MayHaveSplit d v w → MayBeGivenBack b v w
 
--- what the freeing of a block may cost at most; and where no batch is given and no large block is freed
+-- what the freeing of a block may cost at most
 abbrev pub most_free_costs : Costs
 most_free_costs = record no_costs { draws = 36866; wins = 8192; gives = 4096; moves = 4096 }
 
+-- where no batch is given and no large block is freed
 abbrev pub light_free_costs : Costs
 light_free_costs = record no_costs { draws = 2 }

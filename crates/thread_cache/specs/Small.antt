@@ -90,9 +90,10 @@ IfGoing (Ok block) P = P
 IfGoing (Err (Full looks)) P = P
 IfGoing (Err (Stopped e)) P = ⊤
 
--- a draw beyond those of filling the cache, with this many moves: where no superblock is cut, and at most
+-- a draw beyond those of filling the cache, with this many moves, where no superblock is cut
 abbrev pub light_alloc : ℕ → Costs
 light_alloc moves = record no_costs { draws = 10; wins = 2; moves = moves }
 
+-- at most
 abbrev pub alloc_costs : ℕ → ℕ → Costs
 alloc_costs class moves = record no_costs { draws = blocks_of class + 12; wins = 2; cuts = 1; taken = 1; moves = moves }
