@@ -1,40 +1,34 @@
 -- What a request leaves, granted, refused or stopped, for a seat of a heap.
-use Rattle.std.proofs.Common.{◌≡◌, ◌<◌, ◌≤◌, ◌⊎◌, ℕ, ◌+◌, ◌-◌, ◌*◌, inl, inr, List, [], set, length, None, Result, Ok, Err, IfOk, OnOk, OnErr, IfErr, refl, ap, sym, subst, ◌∙◌, arith}
-use Rattle.std.proofs.lemmas.Bool.{cases_eq, cases_lt}
-use Rattle.std.proofs.lemmas.List.{get_or-set_same, get_or-set_other}
+use Rattle.std.proofs.Common.{◌≡◌, ◌<◌, ◌≤◌, ◌⊎◌, ℕ, ◌+◌, ◌-◌, inl, inr, [], length, None, Result, Ok, Err, IfOk, OnOk, OnErr, IfErr, refl, ap, sym, subst, ◌∙◌, arith}
 use Rattle.heap_model.specs.declared.block.Block.{Block}
-use Rattle.heap_model.specs.Sizes.{IsClass, IsLeastClassFor, largest_small, span_of, blocks_of}
-use Rattle.heap_model.proofs.SizeLemmas.{size_of-words}
+use Rattle.heap_model.specs.Sizes.{IsLeastClassFor, largest_small, span_of}
 use Rattle.size_table.proofs.ClassLemmas.{least_small, one_least}
 use Rattle.heap_seat.specs.declared.fault.AllocFault.{AllocFault}
 use Rattle.heap_seat.specs.declared.fault.AllocFault.TheVariants.{Full, Stopped as StoppedFault}
 use Rattle.heap_seat.specs.declared.fault.Looks.{Looks}
-use Rattle.heap_seat.specs.Alloc.{Adds, Allocates, FailsBy, IsSizeFor, Refuses, of_class as size_of_class, of_superblocks}
+use Rattle.heap_seat.specs.Alloc.{Adds, Allocates, FailsBy, Refuses}
 use Rattle.heap_seat.specs.Calls.{SameRefusals}
 use Rattle.heap_seat.specs.Looks.{FoundEmpty, FoundNoRoom, IsLastSeen}
 use Rattle.heap_seat.specs.Words.{IsOwn, KeepsPending}
 use Rattle.line_memory.specs.Marks.{IsMarked}
 use Rattle.line_memory.specs.Marked.{marked_words-has, marked_words-only}
-use Rattle.core_model.specs.View.{LastLook, View, of_class, one_if_some}
+use Rattle.core_model.specs.View.{LastLook, View, of_class}
 use Rattle.heap_table.specs.Plays.{HasSoundState}
 use Rattle.heap_rule.specs.Seated.{SeatView}
 use Rattle.seat_costs.specs.Costs.{Costs, one_draw}
-use Rattle.seat_costs.specs.Idle.{HasShortCaches, IsIdle}
 use Rattle.seat_costs.specs.Rows.{HoldingRow, Parts, Passes, Row, head_look, next_of, parts}
 use Rattle.seat_costs.specs.Words.{IsDurableAt, IsHeldWord, KeepsWord as KeepsRowWord}
-use Rattle.seat_costs.proofs.RowLemmas.{not_both}
 use Rattle.cache_fill.specs.Refills.{IsFilledInOrder, IsFull, IsLook}
-use Rattle.thread_cache.specs.Large.{HasAllocatedLarge}
 use Rattle.thread_cache.specs.Requests.{Answers, IsGranted, IsRefused, by_class, by_span, light_request, request_costs}
-use Rattle.thread_cache.specs.Small.{HasAllocated, IfGoing}
-use Rattle.seat_model.specs.CacheState.{CacheState, CallCounts, HasCounts, IsBetweenCalls, IsStateOf, counts_of, heap_view, heap_view_of, look_of}
-use Rattle.seat_model.specs.Changes.{HoldsBlock, HoldsSpan}
+use Rattle.thread_cache.specs.Small.{IfGoing}
+use Rattle.seat_model.specs.CacheState.{CacheState, CallCounts, HasCounts, IsStateOf, counts_of, heap_view, heap_view_of, look_of}
 use Rattle.seat_model.proofs.ChangedBlocks.{class_in, holds_by, span_by}
 use Rattle.seat_model.proofs.TakenBlocks.{large_words_stay, small_words_stay}
 use Rattle.seat_model.proofs.HeldLemmas.{own_held, word_law}
 use Rattle.thread_cache.specs.Serving.{HasSeenRoom, IsLight, IsServed, IsTurnedAway}
-use Rattle.thread_cache.proofs.CallLemmas.{at_state, runs_law, stops_law}
-use Rattle.thread_cache.proofs.LargeLemmas.{IsFew, IsPaid, LargeStep, paid_light, paid_most}
+use Rattle.thread_cache.proofs.CallLemmas.{at_state, runs_law, stops_law, call_step}
+use Rattle.thread_cache.proofs.LargeLemmas.{LargeStep}
+use Rattle.thread_cache.proofs.GrantedLemmas.{granted_going, granted_size, granted_words, holds_block, holds_span, one_span}
 
 -- the counts after a refusal
 pub full_step : (before s : CacheState) → before ≡ s → (bytes : ℕ) (looks : Looks) (x y : SeatView) → x.view ≡ before.view
@@ -47,9 +41,7 @@ pub full_step : (before s : CacheState) → before ≡ s → (bytes : ℕ) (look
       refused_looks = looks;
     })
 full_step before s is bytes looks x y view marks has ran = record {
-  was = record { view = view ∙ ap (λ (s : CacheState). s.view) is; marks = marks ∙ ap (λ (s : CacheState). s.marks) is };
-  has = has;
-  ran = ran;
+  call = call_step before s is x y _ view marks has ran;
   small = ap (λ (s : CacheState). s.small_calls) is;
   large = ap (λ (s : CacheState). s.large_calls + 1) is;
 }
@@ -57,49 +49,6 @@ full_step before s is bytes looks x y view marks has ran = record {
 pub full_counts_then : (small large refusals : ℕ) (v w : View) → next_of v < next_of w → HasCounts small large refusals v
     → HasCounts small (large + 1) (refusals + 1) w
 full_counts_then small large refusals v w later counts = (let c = counts.0 in omega arith, let c = counts.1 in omega arith)
-
--- the block that comes
-holds_block : (bytes class : ℕ) (b : Block) (v w : View) → IsLeastClassFor bytes class → HasAllocated class b v w → HoldsBlock class b v w
-holds_block bytes class b v w least allocated = record {
-  is_class = least.is_class;
-  words = allocated.size;
-  setup = ap (λ (p : Parts). p.setup) allocated.parts_are;
-  roots = ap (λ (p : Parts). p.roots) allocated.parts_are;
-  small = ap (λ (p : Parts). p.small) allocated.parts_are;
-  large = ap (λ (p : Parts). p.large) allocated.parts_are;
-}
-
-holds_span : (n : ℕ) (b : Block) (v w : View) → 1 ≤ n → (allocated : HasAllocatedLarge n b v w) → HoldsSpan allocated.first n b v w
-holds_span n b v w some allocated = record {
-  some = some;
-  block = allocated.block;
-  setup = ap (λ (p : Parts). p.setup) allocated.parts_are;
-  roots = ap (λ (p : Parts). p.roots) allocated.parts_are;
-  small = ap (λ (p : Parts). p.small) allocated.parts_are;
-  large = ap (λ (p : Parts). p.large) allocated.parts_are;
-}
-
--- the words that were held are so still
-granted_words : (bytes : ℕ) (b : Block) (v w : View) → HasSoundState v → IsGranted bytes b v w → (word : ℕ) → IsHeldWord v word → IsHeldWord w word
-granted_words bytes b v w has (by_class class least allocated) =
-    small_words_stay class b v w (class_in v has class least.is_class) (holds_block bytes class b v w least allocated)
-granted_words bytes b v w has (by_span large allocated) = large_words_stay allocated.first (span_of bytes) b v w
-    (holds_span (span_of bytes) b v w (omega arith) allocated)
-
-granted_going : (bytes : ℕ) (b : Block) (v w : View) → IsGranted bytes b v w → w.stopped ≡ None
-granted_going bytes b v w (by_class class least allocated) = allocated.going
-granted_going bytes b v w (by_span large allocated) = allocated.going
-
--- its size
-granted_size : (bytes : ℕ) (b : Block) (v w : View) → IsGranted bytes b v w → IsSizeFor bytes (8 * b.words)
-granted_size bytes b v w (by_class class least allocated) =
-    subst (IsSizeFor bytes) (size_of-words class least.is_class ∙ ap (λ n. 8 * n) (sym allocated.size)) (size_of_class class least)
-granted_size bytes b v w (by_span large allocated) =
-    let words = ap (λ (x : Block). x.words) allocated.block in subst (IsSizeFor bytes) (omega arith) (of_superblocks large)
-
--- a request of a class takes one superblock at most
-one_span : (bytes class : ℕ) → IsLeastClassFor bytes class → span_of bytes ≡ 1
-one_span bytes class least = let small = least_small bytes class least in omega arith
 
 -- a pending write-back of a word
 pub pending_of : (s : CacheState) (x y : SeatView) (n : CallCounts) → IsStateOf s x → (word : ℕ)
@@ -113,32 +62,32 @@ pending_of s x y n was word keeps pending = elim (keeps (subst (λ marks. IsMark
 module _ (bytes : ℕ) (s : CacheState) (x y : SeatView) (n : CallCounts) (step : LargeStep s x y n) (had : HasSoundState x.view)
     (later : next_of x.view < next_of y.view) where
   was_held : (word : ℕ) → IsOwn (heap_view s).held s.view.roots word → IsHeldWord x.view word
-  was_held word own = subst (λ (v : View). IsHeldWord v word) (sym step.was.view) (own_held s word own)
+  was_held word own = subst (λ (v : View). IsHeldWord v word) (sym step.call.was.view) (own_held s word own)
 
   has_state : HasSoundState s.view
-  has_state = subst HasSoundState step.was.view had
+  has_state = subst HasSoundState step.call.was.view had
 
   later_state : next_of s.view < next_of y.view
-  later_state = at_state (λ v. next_of v < next_of y.view) s x step.was later
+  later_state = at_state (λ v. next_of v < next_of y.view) s x step.call.was later
 
   -- granted
   module _ {a : Costs} (b : Block) (row : HoldingRow a x y) (same : SameRefusals (heap_view s) (heap_view_of y.view y.marks n)) where
     granted_heap : IsGranted bytes b s.view y.view → Allocates bytes b (heap_view s) (heap_view_of y.view y.marks n)
     granted_heap granted = record {
-      runs = runs_law s.view y.view s.marks y.marks (counts_of s) n step.has step.ran (granted_going bytes b s.view y.view granted) later_state;
+      runs = runs_law s.view y.view s.marks y.marks (counts_of s) n step.call.has step.call.ran (granted_going bytes b s.view y.view granted) later_state;
       size = granted_size bytes b s.view y.view granted;
       blocks = by_kind granted;
       words = λ word own. word_law s.view y.view s.marks y.marks (counts_of s) n word
-          (at_state (λ v. KeepsRowWord v y.view word) s x step.was (row.words word
+          (at_state (λ v. KeepsRowWord v y.view word) s x step.call.was (row.words word
           (was_held word own, granted_words bytes b s.view y.view has_state granted word (own_held s word own))));
-      pending = λ word own. pending_of s x y n step.was word (row.marks word
+      pending = λ word own. pending_of s x y n step.call.was word (row.marks word
           (was_held word own, granted_words bytes b s.view y.view has_state granted word (own_held s word own)));
       refusals = same;
     } where
       by_kind : IsGranted bytes b s.view y.view → Adds b (heap_view s) (heap_view_of y.view y.marks n)
-      by_kind (by_class class least allocated) = holds_by s.view y.view s.marks y.marks (counts_of s) n (λ not. not has_state step.has) class b
+      by_kind (by_class class least allocated) = holds_by s.view y.view s.marks y.marks (counts_of s) n (λ not. not has_state step.call.has) class b
           (class_in s.view has_state class least.is_class) (holds_block bytes class b s.view y.view least allocated)
-      by_kind (by_span large allocated) = span_by s.view y.view s.marks y.marks (counts_of s) n (λ not. not has_state step.has) allocated.first
+      by_kind (by_span large allocated) = span_by s.view y.view s.marks y.marks (counts_of s) n (λ not. not has_state step.call.has) allocated.first
           (span_of bytes) b (holds_span (span_of bytes) b s.view y.view (omega arith) allocated)
 
   -- refused
@@ -193,17 +142,17 @@ module _ (bytes : ℕ) (s : CacheState) (x y : SeatView) (n : CallCounts) (step 
       → IsRefused bytes looks s.view y.view
       → Refuses bytes looks (heap_view s) (heap_view_of y.view y.marks n)
   refused_heap looks row count bytes_are looks_are refused = record {
-    runs = runs_law s.view y.view s.marks y.marks (counts_of s) n step.has step.ran (refused_going looks refused) later_state;
+    runs = runs_law s.view y.view s.marks y.marks (counts_of s) n step.call.has step.call.ran (refused_going looks refused) later_state;
     found = found_none looks refused;
     taken = refused_taken looks refused;
     count = count;
     bytes_are = bytes_are;
     looks_are = looks_are;
-    pending = λ word own. pending_of s x y n step.was word (row.marks word (was_held word own));
+    pending = λ word own. pending_of s x y n step.call.was word (row.marks word (was_held word own));
   }
 
   answers_state : (result : Result Block AllocFault) → Answers bytes result x.view y.view → Answers bytes result s.view y.view
-  answers_state result = at_state (λ v. Answers bytes result v y.view) s x step.was
+  answers_state result = at_state (λ v. Answers bytes result v y.view) s x step.call.was
 
   -- by what was answered
   pub alloc_ok : {a : Costs} (result : Result Block AllocFault) → Answers bytes result x.view y.view → HoldingRow a x y
@@ -227,30 +176,30 @@ module _ (bytes : ℕ) (s : CacheState) (x y : SeatView) (n : CallCounts) (step 
   stop_cause (Ok b) not_full answers setup same = tt
   stop_cause (Err (Full looks)) not_full answers setup same = absurd (not_full looks refl)
   stop_cause (Err (StoppedFault e)) not_full answers setup same =
-      (stops_law s.view y.view s.marks y.marks (counts_of s) n e.step step.ran setup (answers_state (Err (StoppedFault e)) answers), same)
+      (stops_law s.view y.view s.marks y.marks (counts_of s) n e.step step.call.ran setup (answers_state (Err (StoppedFault e)) answers), same)
 
   light_by : {moves : ℕ} → (y.view.cuts ≡ x.view.cuts → HoldingRow (light_request bytes moves) x y) → IsLight s.view y.view
   light_by {moves} light cuts gives taken large =
       let passes : Passes (light_request bytes moves) s.view y.view =
-      at_state (λ v. Passes (light_request bytes moves) v y.view) s x step.was
-      (light (cuts ∙ ap (λ (v : View). v.cuts) (sym step.was.view))).passes in
+      at_state (λ v. Passes (light_request bytes moves) v y.view) s x step.call.was
+      (light (cuts ∙ ap (λ (v : View). v.cuts) (sym step.call.was.view))).passes in
       let d = passes.most.draws in let l = passes.more.losses in omega arith
 
   -- a request gives no batch
   no_gives : {moves : ℕ} → Passes (request_costs bytes moves) x.view y.view → y.view.gives ≡ s.view.gives
   no_gives {moves} passed =
-      let passes : Passes (request_costs bytes moves) s.view y.view = at_state (λ v. Passes (request_costs bytes moves) v y.view) s x step.was passed in
+      let passes : Passes (request_costs bytes moves) s.view y.view = at_state (λ v. Passes (request_costs bytes moves) v y.view) s x step.call.was passed in
       let least = passes.more.gives in let most = passes.most.gives in omega arith
 
   -- what a request may cost
   pub alloc_costs : Passes (request_costs bytes (y.view.moves - x.view.moves)) x.view y.view
       → Passes (request_costs bytes (y.view.moves - s.view.moves)) s.view y.view
-  alloc_costs = at_state (λ v. Passes (request_costs bytes (y.view.moves - v.moves)) v y.view) s x step.was
+  alloc_costs = at_state (λ v. Passes (request_costs bytes (y.view.moves - v.moves)) v y.view) s x step.call.was
 
   uncut_state : (y.view.cuts ≡ x.view.cuts → HoldingRow (light_request bytes (y.view.moves - x.view.moves)) x y) → y.view.cuts ≡ s.view.cuts
       → Passes (light_request bytes (y.view.moves - s.view.moves)) s.view y.view
-  uncut_state light cuts = at_state (λ v. Passes (light_request bytes (y.view.moves - v.moves)) v y.view) s x step.was
-      (light (cuts ∙ ap (λ (v : View). v.cuts) (sym step.was.view))).passes
+  uncut_state light cuts = at_state (λ v. Passes (light_request bytes (y.view.moves - v.moves)) v y.view) s x step.call.was
+      (light (cuts ∙ ap (λ (v : View). v.cuts) (sym step.call.was.view))).passes
 
   pub alloc_room : (result : Result Block AllocFault) → Answers bytes result x.view y.view
       → Passes (request_costs bytes (y.view.moves - x.view.moves)) x.view y.view
@@ -263,8 +212,8 @@ module _ (bytes : ℕ) (s : CacheState) (x y : SeatView) (n : CallCounts) (step 
     block = b;
     granted = answers_state (Ok b) answers;
     gives = no_gives passed;
-    order = λ class least. at_state (λ v. IsFilledInOrder class v y.view) s x step.was (order class least);
-    cached = λ class least. at_state (λ v. 1 ≤ length (of_class v.caches class) → Passes one_draw v y.view) s x step.was
+    order = λ class least. at_state (λ v. IsFilledInOrder class v y.view) s x step.call.was (order class least);
+    cached = λ class least. at_state (λ v. 1 ≤ length (of_class v.caches class) → Passes one_draw v y.view) s x step.call.was
         (λ some. (cached class least some).passes);
     costs = alloc_costs passed;
     uncut = uncut_state light;
@@ -317,85 +266,3 @@ module _ (bytes : ℕ) (s : CacheState) (x y : SeatView) (n : CallCounts) (step 
     kind_of : AllocFault → ℕ
     kind_of (Full l) = 1
     kind_of (StoppedFault f) = 0
-
--- a seat that has the same stays idle
-pub same_between : (v w : View) → IsIdle v → HasShortCaches v → w.batch ≡ v.batch → w.raw ≡ v.raw → w.split ≡ v.split → w.cutting ≡ v.cutting
-    → w.classed ≡ v.classed → w.caches ≡ v.caches → IsIdle w × HasShortCaches w
-same_between v w idle short batch raw split cutting classed caches = (
-  record {
-    batch = batch ∙ idle.batch;
-    raw = raw ∙ idle.raw;
-    split = split ∙ idle.split;
-    cutting = cutting ∙ idle.cutting;
-    classed = classed ∙ idle.classed;
-  },
-  record { each = λ class is. let s = short.each class is in let e = ap (λ l. length (of_class l class)) caches in omega arith },
-)
-
-pub parts_between : (v w : View) → IsIdle v → HasShortCaches v → parts w ≡ parts v → IsIdle w × HasShortCaches w
-parts_between v w idle short same = same_between v w idle short (ap (λ (p : Parts). p.batch) same) (ap (λ (p : Parts). p.raw) same)
-    (ap (λ (p : Parts). p.split) same) (ap (λ (p : Parts). p.cutting) same) (ap (λ (p : Parts). p.classed) same) (ap (λ (p : Parts). p.caches) same)
-
--- the caches stay short
-pub short_but : (v : View) (class : ℕ) (cache : List ℕ) (caches : List (List ℕ)) → class < length v.caches → HasShortCaches v
-    → caches ≡ set v.caches class cache → length cache < blocks_of class
-    → (c : ℕ) → IsClass c → length (of_class caches c) < blocks_of c
-short_but v class cache caches below short is few c is_class = elim (cases_eq c class) as (λ _. length (of_class caches c) < blocks_of c) [
-  | inl same ↦ subst (λ k. length (of_class caches k) < blocks_of k) (sym same)
-      (let e = ap length (ap (λ l. of_class l class) is ∙ get_or-set_same v.caches class cache [] below) in omega arith)
-  | inr other ↦ let e = ap length (ap (λ l. of_class l c) is ∙ get_or-set_other v.caches class c cache [] other) in
-      let s = short.each c is_class in omega arith
-]
-
-pub alloc_between : (bytes : ℕ) (v w : View) (has : HasSoundState v) (result : Result Block AllocFault) → IsIdle v → HasShortCaches v
-    → Answers bytes result v w → IsBetweenCalls w
-alloc_between bytes v w has (Ok b) idle short (by_class class least allocated) going = (
-  record {
-    batch = ap (λ (p : Parts). p.batch) allocated.parts_are ∙ idle.batch;
-    raw = ap (λ (p : Parts). p.raw) allocated.parts_are ∙ idle.raw;
-    split = ap (λ (p : Parts). p.split) allocated.parts_are ∙ idle.split;
-    cutting = ap (λ (p : Parts). p.cutting) allocated.parts_are ∙ idle.cutting;
-    classed = ap (λ (p : Parts). p.classed) allocated.parts_are ∙ idle.classed;
-  },
-  record {
-    each = short_but v class allocated.cache w.caches (let long = (has.sound.good.set_up has.seat v has.below has.at).caches in
-        let last = least.is_class.last in omega arith) short (ap (λ (p : Parts). p.caches) allocated.parts_are) allocated.short;
-  },
-)
-alloc_between bytes v w has (Ok b) idle short (by_span large allocated) going = same_between v w idle short
-    (ap (λ (p : Parts). p.batch) allocated.parts_are) (ap (λ (p : Parts). p.raw) allocated.parts_are)
-    (ap (λ (p : Parts). p.split) allocated.parts_are) (ap (λ (p : Parts). p.cutting) allocated.parts_are)
-    (ap (λ (p : Parts). p.classed) allocated.parts_are) (ap (λ (p : Parts). p.caches) allocated.parts_are)
-alloc_between bytes v w has (Err (Full looks)) idle short (by_class class least full none) going = parts_between v w idle short full.parts_are
-alloc_between bytes v w has (Err (Full looks)) idle short (by_span large none) going = parts_between v w idle short none.parts_are
-alloc_between bytes v w has (Err (StoppedFault e)) idle short stop going = not_both stop.at going
-
--- what a request costs is few
-pub request_few : (bytes moves : ℕ) → IsFew (request_costs bytes moves)
-request_few bytes moves = record { draws = omega arith; wins = omega arith; gives = omega arith; cuts = omega arith }
-
--- it draws few tickets, or it cut a superblock or stopped
-module _ (bytes moves : ℕ) (x y : SeatView) (ran : x.view.stopped ≡ None) (passes : Passes (request_costs bytes moves) x.view y.view) where
-  paid_for : x.view.taken + length y.view.large ≤ y.view.taken + length x.view.large
-      → (y.view.cuts ≡ x.view.cuts → HoldingRow (light_request bytes moves) x y) → IsPaid x.view y.view
-  paid_for left light = elim (cases_lt x.view.cuts y.view.cuts) as (λ _. IsPaid x.view y.view) [
-    | inl rose ↦ paid_most (request_costs bytes moves) x.view y.view (request_few bytes moves) passes
-        (let g = passes.more.gives in let going = ap one_if_some ran in omega arith)
-    | inr none ↦ paid_light (light_request bytes moves) x.view y.view (omega arith) (light (let c = passes.more.cuts in omega arith)).passes
-        (let c = passes.more.cuts in let g = passes.more.gives in let going = ap one_if_some ran in omega arith)
-  ]
-
-  pub alloc_paid : (result : Result Block AllocFault) → Answers bytes result x.view y.view
-      → IfGoing result (y.view.cuts ≡ x.view.cuts → HoldingRow (light_request bytes moves) x y)
-      → OnErr result (Row (request_costs bytes moves) x y) → IsPaid x.view y.view
-  alloc_paid (Ok b) (by_class class least allocated) light row =
-      paid_for (let t = passes.more.taken in let spans = ap (λ (p : Parts). length p.large) allocated.parts_are in omega arith) light
-  alloc_paid (Ok b) (by_span large allocated) light row =
-      paid_for (let t = allocated.taken in let spans = ap (λ (p : Parts). length p.large) allocated.parts_are in omega arith) light
-  alloc_paid (Err (Full looks)) (by_class class least full none) light row =
-      paid_for (let t = passes.more.taken in let spans = ap (λ (p : Parts). length p.large) full.parts_are in omega arith) light
-  alloc_paid (Err (Full looks)) (by_span large none) light row =
-      paid_for (let t = passes.more.taken in let spans = ap (λ (p : Parts). length p.large) none.parts_are in omega arith) light
-  alloc_paid (Err (StoppedFault e)) stop light row = paid_most (request_costs bytes moves) x.view y.view (request_few bytes moves) passes
-      (let c = passes.more.cuts in let g = passes.more.gives in let t = passes.more.taken in let spans = ap length row.view.large in
-      let going = ap one_if_some ran in let stops = ap one_if_some stop.at in omega arith)

@@ -28,7 +28,8 @@ use Rattle.seat_model.proofs.ChangedBlocks.{class_in, gives_by, gives_span_by}
 use Rattle.seat_model.proofs.TakenBlocks.{held_same}
 use Rattle.seat_model.proofs.HeldLemmas.{held_is, own_held, word_law}
 use Rattle.thread_cache.specs.Serving.{IsLight, IsPutBack}
-use Rattle.thread_cache.proofs.AllocLemmas.{pending_of, same_between, short_but}
+use Rattle.thread_cache.proofs.AllocLemmas.{pending_of}
+use Rattle.thread_cache.proofs.IdleLemmas.{same_between, short_but}
 use Rattle.thread_cache.proofs.CallLemmas.{at_state, runs_law}
 use Rattle.thread_cache.proofs.LargeLemmas.{IsFew, IsPaid, LargeStep, paid_light, paid_most}
 
@@ -69,31 +70,31 @@ module _ (b : Block) (s : CacheState) (x y : SeatView) (n : CallCounts) (step : 
     (later : next_of x.view < next_of y.view) {a : Costs}
     (row : RowBut (IsHeldOutside x.view b) a x y) (same : SameRefusals (heap_view s) (heap_view_of y.view y.marks n)) where
   has_state : HasSoundState s.view
-  has_state = subst HasSoundState step.was.view had
+  has_state = subst HasSoundState step.call.was.view had
 
   passes : Passes a s.view y.view
-  passes = at_state (λ v. Passes a v y.view) s x step.was row.passes
+  passes = at_state (λ v. Passes a v y.view) s x step.call.was row.passes
 
   outside : (word : ℕ) → IsOwn (heap_view s).held s.view.roots word → (IsIn b word → ⊥) → IsHeldOutside x.view b word
-  outside word own out = (subst (λ (v : View). IsHeldWord v word) (sym step.was.view) (own_held s word own), out)
+  outside word own out = (subst (λ (v : View). IsHeldWord v word) (sym step.call.was.view) (own_held s word own), out)
 
   -- it is gone
   loses : IsGivenBack b s.view y.view → Loses b (heap_view s) (heap_view_of y.view y.marks n)
-  loses (of_a_class class is freed) = gives_by s.view y.view s.marks y.marks (counts_of s) n (λ not. not has_state step.has) class b
+  loses (of_a_class class is freed) = gives_by s.view y.view s.marks y.marks (counts_of s) n (λ not. not has_state step.call.has) class b
       (class_in s.view has_state class is.is_class)
       (gives_block class b s.view y.view passes.setup passes.roots is (ap (λ (p : Parts). p.small) freed.parts_are)
       (ap (λ (p : Parts). p.large) freed.parts_are))
-  loses (of_a_span d is freed) = gives_span_by s.view y.view s.marks y.marks (counts_of s) n (λ not. not has_state step.has) d b
+  loses (of_a_span d is freed) = gives_span_by s.view y.view s.marks y.marks (counts_of s) n (λ not. not has_state step.call.has) d b
       (gives_span d b s.view y.view passes.setup passes.roots is (ap (λ (p : Parts). p.small) freed.parts_are)
       (ap (λ (p : Parts). p.large) freed.parts_are))
 
   pub free_ok : (result : Result ⊤ Stopped) → OnOk result (IsGivenBack b x.view y.view)
       → OnOk result (Frees b (heap_view s) (heap_view_of y.view y.marks n))
-  free_ok (Ok r) given = let is = at_state (λ v. IsGivenBack b v y.view) s x step.was given in record {
-    runs = runs_law s.view y.view s.marks y.marks (counts_of s) n step.has step.ran (given_going b s.view y.view is)
-        (at_state (λ v. next_of v < next_of y.view) s x step.was later);
+  free_ok (Ok r) given = let is = at_state (λ v. IsGivenBack b v y.view) s x step.call.was given in record {
+    runs = runs_law s.view y.view s.marks y.marks (counts_of s) n step.call.has step.call.ran (given_going b s.view y.view is)
+        (at_state (λ v. next_of v < next_of y.view) s x step.call.was later);
     gone = (loses is).gone;
-    pending = λ word own out. pending_of s x y n step.was word (row.marks word (outside word own out));
+    pending = λ word own out. pending_of s x y n step.call.was word (row.marks word (outside word own out));
   }
   free_ok (Err e) given = tt
 
@@ -103,31 +104,31 @@ module _ (b : Block) (s : CacheState) (x y : SeatView) (n : CallCounts) (step : 
   may_lose (of_a_class class is may) = elim may.small [
     | inl stays ↦ let all = held_same y.view s.view.setup s.view.small s.view.large passes.setup stays may.large in
         (λ c there. subst (λ l. Contains l c) all there, λ c there other. subst (λ l. Contains l c) (sym all) there)
-    | inr less ↦ let l = gives_by s.view y.view s.marks y.marks (counts_of s) n (λ not. not has_state step.has) class b
+    | inr less ↦ let l = gives_by s.view y.view s.marks y.marks (counts_of s) n (λ not. not has_state step.call.has) class b
         (class_in s.view has_state class is.is_class)
         (gives_block class b s.view y.view passes.setup passes.roots is less may.large) in (l.only, l.keeps)
   ]
   may_lose (of_a_span d is may) = elim may.large [
     | inl stays ↦ let all = held_same y.view s.view.setup s.view.small s.view.large passes.setup may.small stays in
         (λ c there. subst (λ l. Contains l c) all there, λ c there other. subst (λ l. Contains l c) (sym all) there)
-    | inr less ↦ let l = gives_span_by s.view y.view s.marks y.marks (counts_of s) n (λ not. not has_state step.has) d b
+    | inr less ↦ let l = gives_span_by s.view y.view s.marks y.marks (counts_of s) n (λ not. not has_state step.call.has) d b
         (gives_span d b s.view y.view passes.setup passes.roots is may.small less) in (l.only, l.keeps)
   ]
 
   pub free_others : MayBeGivenBack b x.view y.view → MayFree b (heap_view s) (heap_view_of y.view y.marks n)
-  free_others may = let l = may_lose (at_state (λ v. MayBeGivenBack b v y.view) s x step.was may) in record {
+  free_others may = let l = may_lose (at_state (λ v. MayBeGivenBack b v y.view) s x step.call.was may) in record {
     only = l.0;
     keeps = l.1;
     roots = passes.roots;
     words = λ word own out. word_law s.view y.view s.marks y.marks (counts_of s) n word
-        (at_state (λ v. KeepsRowWord v y.view word) s x step.was (row.words word (outside word own out)));
+        (at_state (λ v. KeepsRowWord v y.view word) s x step.call.was (row.words word (outside word own out)));
     refusals = same;
   }
 
   free_cached : (y.view.gives ≡ x.view.gives → y.view.large ≡ x.view.large → RowBut (IsHeldOutside x.view b) light_free_costs x y)
       → y.view.gives ≡ s.view.gives → y.view.large ≡ s.view.large → Passes light_free_costs s.view y.view
-  free_cached light gives large = at_state (λ v. Passes light_free_costs v y.view) s x step.was
-      (light (gives ∙ ap (λ (v : View). v.gives) (sym step.was.view)) (large ∙ ap (λ (v : View). v.large) (sym step.was.view))).passes
+  free_cached light gives large = at_state (λ v. Passes light_free_costs v y.view) s x step.call.was
+      (light (gives ∙ ap (λ (v : View). v.gives) (sym step.call.was.view)) (large ∙ ap (λ (v : View). v.large) (sym step.call.was.view))).passes
 
   free_light : (result : Result ⊤ Stopped) → OnOk result (y.view.gives ≡ x.view.gives → y.view.large ≡ x.view.large
       → RowBut (IsHeldOutside x.view b) light_free_costs x y) → OnOk result (IsLight s.view y.view)
@@ -148,7 +149,7 @@ module _ (b : Block) (s : CacheState) (x y : SeatView) (n : CallCounts) (step : 
         cuts = let most = costs.most.cuts in let more = costs.more.cuts in omega arith;
         costs = costs;
         cached = free_cached light;
-        given = at_state (λ v. IsGivenBack b v y.view) s x step.was given;
+        given = at_state (λ v. IsGivenBack b v y.view) s x step.call.was given;
       }
   free_put are (Err e) given light = tt
 

@@ -1,39 +1,37 @@
 -- What an offer and an accept leave of a seat of a heap.
-use Rattle.std.proofs.Common.{◌≡◌, ◌<◌, ◌≤◌, ℕ, ◌+◌, inl, inr, Bool, true, false, cond, not, nat_eq, List, [], ◌∷◌, None, Ok, Err, Result, IfOk, IfErr, OnOk, OnErr, get_or, length, length-append, ap, sym, subst, ◌∙◌, arith}
+use Rattle.std.proofs.Common.{◌≡◌, ◌<◌, ◌≤◌, ℕ, ◌+◌, inl, inr, not, nat_eq, None, Ok, Err, Result, IfOk, IfErr, OnOk, OnErr, length, length-append, ap, sym, subst, ◌∙◌, arith}
 use Rattle.std.specs.Prelude.{Contains}
 use Rattle.line_memory.specs.declared.memory.Stopped.{Stopped}
 use Rattle.heap_model.specs.declared.block.Block.{Block}
 use Rattle.heap_model.specs.Blocks.{IsIn}
 use Rattle.heap_seat.specs.Alloc.{Adds}
-use Rattle.heap_seat.specs.Calls.{IsSmallCall, counted}
 use Rattle.heap_seat.specs.Handing.{Accepts, ComesWith, Offers}
-use Rattle.heap_seat.specs.Words.{IsOwn, KeepsOwn}
+use Rattle.heap_seat.specs.Words.{IsOwn}
 use Rattle.atomic_table.specs.Seated.{TableId}
 use Rattle.core_model.specs.Carriers.{accepted}
 use Rattle.heap_model.specs.Geometry.{superblock_of}
 use Rattle.core_model.specs.Held.{IsHeld}
-use Rattle.core_model.specs.Splitting.{chosen_spans}
-use Rattle.core_model.specs.View.{LastLook, Role, Setup, Span, View, of_class, one_if_some}
+use Rattle.core_model.specs.View.{Role, View, of_class, one_if_some}
 use Rattle.heap_table.specs.Plays.{HasSoundState}
 use Rattle.seat_index.specs.declared.owned.Holding.{Holding}
-use Rattle.seat_index.specs.declared.owned.Holding.TheVariants as holding
 use Rattle.seat_index.specs.Holdings.{HoldsAlone}
 use Rattle.heap_rule.specs.Carried.{CarrierView, Carries}
 use Rattle.heap_rule.specs.Seated.{SeatView}
 use Rattle.seat_index.proofs.OwnedCarriers.{all_roots}
-use Rattle.seat_costs.specs.Costs.{NoneFalls, RisesBy, one_draw}
-use Rattle.seat_costs.specs.Rows.{HasDrawn, Passes, Row, SameLooks, Stops, after_ticket, next_of}
+use Rattle.seat_costs.specs.Costs.{one_draw}
+use Rattle.seat_costs.specs.Rows.{HasDrawn, Row, Stops, after_ticket, next_of}
 use Rattle.seat_costs.specs.Words.{IsHeldWord, KeepsWord as KeepsRowWord}
-use Rattle.seat_model.specs.CacheState.{CacheState, CallCounts, IsBetweenCalls, IsStateOf, counts_of, heap_view, heap_view_of, held_blocks, look_of, opened_kinds}
+use Rattle.seat_model.specs.CacheState.{CacheState, CallCounts, IsBetweenCalls, IsStateOf, counts_of, heap_view, heap_view_of, held_blocks}
 use Rattle.seat_model.proofs.HandedBlocks.{accept_has, accept_keeps, accept_new, accept_only, alone_held, alone_listed, alone_word, held_alike, offer_gone, offer_keeps, offer_only}
 use Rattle.seat_model.proofs.HeldLemmas.{held_is, own_held, word_held, word_law}
 use Rattle.seat_model.proofs.ListedBlocks.{listed}
 use Rattle.thread_cache.specs.Sending.{AcceptRow, ComesWith as BringsWords, GoesWith as SendsWords, HasAccepted, HasOffered, OfferRow}
-use Rattle.thread_cache.specs.Handing.{IsSent, OnlyDraws, contents_of}
-use Rattle.thread_cache.specs.Keeps.{KeepsCosts}
+use Rattle.thread_cache.specs.Handing.{IsSent, contents_of}
 use Rattle.thread_cache.proofs.AllocLemmas.{pending_of}
 use Rattle.thread_cache.proofs.FreeLemmas.{held_block}
-use Rattle.thread_cache.proofs.CallLemmas.{SmallStep, at_state, runs_law, small_own}
+use Rattle.thread_cache.proofs.CallLemmas.{SmallStep, at_state, runs_law}
+use Rattle.thread_cache.proofs.HandledLemmas.{IsHandled, fewer_spans, handled, one_span}
+use Rattle.seat_index.specs.declared.owned.Holding.TheVariants as holding
 
 module _ (b : Block) (table : TableId) (v w : View) where
   pub offered_between : (answer : Result CarrierView Stopped) → IfOk answer (λ c. HasOffered b c table v w)
@@ -81,95 +79,6 @@ module _ (carrier : CarrierView) (v w : View) where
   accepted_later (Ok b) has stops ran = let e = ap next_of has.left in let f = ap next_of has.drawn.left in let l = has.drawn.later in omega arith
   accepted_later (Err e) has stops ran = let n = stops.0.now ran in let l = ap after_ticket stops.0.last in omega arith
 
--- what both leave and cost, whatever they answer
-pub record IsHandled (v w : View) : Type 0 where
-  pub setup : w.setup ≡ v.setup
-  pub roots : w.roots ≡ v.roots
-  pub floor : v.floor ≤ w.floor
-  pub next : next_of v ≤ next_of w
-  pub more : NoneFalls v w
-  pub most : RisesBy one_draw v w
-  pub no_less : v.used_look.word + w.used_look.taken ≤ w.used_look.word + v.used_look.taken
-
-pub handled : (v w : View) (offers accepts : ℕ) → Passes one_draw (record v { offers = offers; accepts = accepts }) w → IsHandled v w
-handled v w offers accepts p = record {
-  setup = p.setup;
-  roots = p.roots;
-  floor = p.floor;
-  next = p.next;
-  more = let m = p.more in record {
-    draws = m.draws;
-    wins = m.wins;
-    losses = m.losses;
-    gives = m.gives;
-    moves = m.moves;
-    cuts = m.cuts;
-    taken = m.taken;
-  };
-  most = let m = p.most in record { draws = m.draws; wins = m.wins; gives = m.gives; cuts = m.cuts; taken = m.taken; moves = m.moves };
-  no_less = p.looks.no_less;
-}
-
--- how many large blocks are held then
-fewer_spans : (test : ℕ → Bool) (spans : List Span) → length (chosen_spans test spans) ≤ length spans
-fewer_spans test [] = omega arith
-fewer_spans test (span ∷ spans) = by_test (test span.first) (fewer_spans test spans) where
-  by_test : (t : Bool) → length (chosen_spans test spans) ≤ length spans
-      → length (cond t (span ∷ chosen_spans test spans) (chosen_spans test spans)) ≤ length (span ∷ spans)
-  by_test true rest = omega arith
-  by_test false rest = omega arith
-
-one_span : (u : View) (b : Block) (h : Holding) → HoldsAlone u b h → length u.large ≤ 1
-one_span u b (holding.Small class) alone = let e = ap length alone.none_large in omega arith
-one_span u b (holding.Large d n) alone = let e = ap length alone.once in omega arith
-
-module _ (s : CacheState) (x y : SeatView) (n : CallCounts) (step : SmallStep s x y n) (leaves : IsHandled x.view y.view) where
-  does : IsHandled s.view y.view
-  does = at_state (λ v. IsHandled v y.view) s x step.was leaves
-
-  pub handed_counted : SameLooks x.view y.view → IsSmallCall (heap_view s) (heap_view_of y.view y.marks n)
-  handed_counted same = let looks = at_state (λ v. SameLooks v y.view) s x step.was same in record {
-    goes_on = record {
-      capacity = ap (λ (k : Setup). k.capacity) does.setup;
-      kinds = ap opened_kinds does.setup;
-      budget = ap (λ (k : Setup). k.budget) does.setup;
-      tickets = does.next;
-      used = does.no_less;
-    };
-    small = step.small ∙ ap (λ o. counted o s.small_calls) (sym step.ran);
-    large = step.large;
-    taken = let least = does.more.taken in let most = does.most.taken in omega arith;
-    used_look = ap look_of looks.used;
-    head_look = λ list. ap (λ (l : LastLook). look_of (get_or y.view.head_looks list l)) looks.used
-        ∙ ap (λ heads. look_of (get_or heads list s.view.used_look)) looks.heads;
-    refusals = record { count = step.refusals; bytes = step.bytes; looks = step.refused };
-  }
-
-  pub handed_draws : y.view.losses ≡ x.view.losses → OnlyDraws s.view y.view
-  handed_draws same = let l = at_state (λ v. y.view.losses ≡ v.losses) s x step.was same in let more = does.more in let most = does.most in
-      let a = more.moves in let b = most.moves in let c = more.wins in let d = most.wins in let e = more.gives in let f = most.gives in
-      let g = more.cuts in let h = most.cuts in let i = more.taken in let j = most.taken in let k = most.draws in
-      record { draws = omega arith; wins = omega arith; losses = l; taken = omega arith; cuts = omega arith; gives = omega arith; moves = omega arith }
-
-  pub handed_keeps : x.view.accepts + length y.view.large ≤ y.view.accepts + length x.view.large
-      → KeepsCosts s.view s.small_calls s.large_calls y.view n.small_calls n.large_calls
-  handed_keeps paid = record {
-    setup = does.setup;
-    roots = does.roots;
-    floor = does.floor;
-    none_falls = does.more;
-    small_rise = let e = step.small in omega arith;
-    large_rise = let e = step.large in omega arith;
-    draws = let e = step.small in let f = step.large in let l = does.more.losses in let m = does.more.moves in let d = does.most.draws in omega arith;
-    wins = let f = step.large in let d = does.most.wins in let m = does.more.moves in omega arith;
-    gives = let f = step.large in let d = does.most.gives in omega arith;
-    cuts = let f = step.large in let d = does.most.cuts in omega arith;
-    light = let e = step.small in let f = step.large in let l = does.more.losses in let d = does.most.draws in
-        let c = does.more.cuts in let g = does.more.gives in let t = does.more.taken in
-        let ran = ap one_if_some step.ran in let spans : s.view.accepts + length y.view.large ≤ y.view.accepts + length s.view.large =
-        at_state (λ v. v.accepts + length y.view.large ≤ y.view.accepts + length v.large) s x step.was paid in omega arith;
-  }
-
 -- where the same parts are held
 drawn_alike : (v u : View) → HasDrawn v u → (a : Block) → IsHeld v a → IsHeld u a
 drawn_alike v u drawn = held_alike v u (ap (λ (x : View). x.setup) drawn.left) (ap (λ (x : View). x.small) drawn.left)
@@ -190,17 +99,17 @@ module _ (s : CacheState) (x : SeatView) (was : IsStateOf s x) (had : HasSoundSt
 module _ (b : Block) (s : CacheState) (x y : SeatView) (n : CallCounts) (step : SmallStep s x y n) (had : HasSoundState x.view) where
   module _ (c : CarrierView) (table : TableId) (has : HasOffered b c table x.view y.view) where
     pub offer_blocks : Contains (heap_view s).held b → Adds b (heap_view_of y.view y.marks n) (heap_view s)
-    offer_blocks held = let before = drawn_alike x.view has.behind has.drawn b (state_held s x step.was had b held) in record {
-      new = λ there. offer_gone has.behind b (subst (λ v. IsHeld v b) has.left (held_is y.view step.has b there));
+    offer_blocks held = let before = drawn_alike x.view has.behind has.drawn b (state_held s x step.call.was had b held) in record {
+      new = λ there. offer_gone has.behind b (subst (λ v. IsHeld v b) has.left (held_is y.view step.call.has b there));
       has = held;
-      keeps = λ a there. held_state s x step.was had a (drawn_back x.view has.behind has.drawn a
-          (offer_keeps has.behind has.has b before a (subst (λ v. IsHeld v a) has.left (held_is y.view step.has a there))));
+      keeps = λ a there. held_state s x step.call.was had a (drawn_back x.view has.behind has.drawn a
+          (offer_keeps has.behind has.has b before a (subst (λ v. IsHeld v a) has.left (held_is y.view step.call.has a there))));
       only = λ a there. elim (offer_only has.behind has.has b before a
-          (drawn_alike x.view has.behind has.drawn a (state_held s x step.was had a there))) [
+          (drawn_alike x.view has.behind has.drawn a (state_held s x step.call.was had a there))) [
             | inl same ↦ inl same
             | inr left ↦ inr (listed y.view a (subst (λ v. IsHeld v a) (sym has.left) left))
           ];
-      roots = ap (λ (v : View). v.roots) (sym step.was.view) ∙ sym (roots_of has);
+      roots = ap (λ (v : View). v.roots) (sym step.call.was.view) ∙ sym (roots_of has);
     } where
       roots_of : HasOffered b c table x.view y.view → y.view.roots ≡ x.view.roots
       roots_of h = ap (λ (v : View). v.roots) h.left ∙ all_roots h.behind.roots ∙ ap (λ (v : View). v.roots) h.drawn.left
@@ -215,9 +124,9 @@ module _ (b : Block) (s : CacheState) (x y : SeatView) (n : CallCounts) (step : 
       contents = record {
         words = λ word within.
             let is = sends.words word (alone_word x.view c.view b has.carries.holding has.carries.alone has.carries.capacity_is had
-            (state_held s x step.was had b held) word within) in
+            (state_held s x step.call.was had b held) word within) in
             let p = word_law s.view c.view s.marks s.marks (counts_of s) (counts_of s) word
-            (at_state (λ v. KeepsRowWord v c.view word) s x step.was is) in
+            (at_state (λ v. KeepsRowWord v c.view word) s x step.call.was is) in
             record { volatile = p.volatile; durable = p.durable };
       };
     }
@@ -227,17 +136,17 @@ module _ (b : Block) (s : CacheState) (x y : SeatView) (n : CallCounts) (step : 
       → OnOk result (Offers b (heap_view s) (heap_view_of y.view y.marks n))
   offer_ok table (Err e) has row later held = tt
   offer_ok table (Ok c) has row later held = record {
-    runs = runs_law s.view y.view s.marks y.marks (counts_of s) n step.has step.ran going
-        (at_state (λ v. next_of v < next_of y.view) s x step.was later);
+    runs = runs_law s.view y.view s.marks y.marks (counts_of s) n step.call.has step.call.ran going
+        (at_state (λ v. next_of v < next_of y.view) s x step.call.was later);
     blocks = offer_blocks c table has held;
-    words = λ word own. word_law s.view y.view s.marks y.marks (counts_of s) n word (kept word (word_held y.view step.has word own));
-    pending = λ word own. pending_of s x y n step.was word (row.marks word (word_held y.view step.has word own));
+    words = λ word own. word_law s.view y.view s.marks y.marks (counts_of s) n word (kept word (word_held y.view step.call.has word own));
+    pending = λ word own. pending_of s x y n step.call.was word (row.marks word (word_held y.view step.call.has word own));
   } where
     going : y.view.stopped ≡ None
     going = ap (λ (v : View). v.stopped) has.left ∙ ap (λ (v : View). v.stopped) has.drawn.left ∙ has.drawn.went
 
     kept : (word : ℕ) → IsHeldWord y.view word → KeepsRowWord s.view y.view word
-    kept word held = at_state (λ v. KeepsRowWord v y.view word) s x step.was (let p = row.words word held in
+    kept word held = at_state (λ v. KeepsRowWord v y.view word) s x step.call.was (let p = row.words word held in
         record { volatile = p.volatile; durable = p.durable })
 
   module _ (c : CarrierView) (has : HasAccepted b c x.view y.view) where
@@ -248,23 +157,23 @@ module _ (b : Block) (s : CacheState) (x y : SeatView) (n : CallCounts) (step : 
     capacity = carries.capacity_is ∙ ap (λ (v : View). v.setup.capacity) (sym has.drawn.left)
 
     after : HasSoundState (accepted has.behind c.view)
-    after = subst HasSoundState has.left step.has
+    after = subst HasSoundState has.left step.call.has
 
     pub accept_blocks : Adds b (heap_view s) (heap_view_of y.view y.marks n)
     accept_blocks = record {
       new = λ there. accept_new has.behind c.view b carries.holding carries.alone capacity has.has after
-          (drawn_alike x.view has.behind has.drawn b (state_held s x step.was had b there));
+          (drawn_alike x.view has.behind has.drawn b (state_held s x step.call.was had b there));
       has = listed y.view b (subst (λ v. IsHeld v b) (sym has.left) (accept_has has.behind c.view b carries.holding carries.alone capacity
           has.has after));
       keeps = λ a there. listed y.view a (subst (λ v. IsHeld v a) (sym has.left)
           (accept_keeps has.behind c.view b carries.holding carries.alone capacity has.has after a
-          (drawn_alike x.view has.behind has.drawn a (state_held s x step.was had a there))));
+          (drawn_alike x.view has.behind has.drawn a (state_held s x step.call.was had a there))));
       only = λ a there. elim (accept_only has.behind c.view b carries.holding carries.alone capacity has.has after a
-          (subst (λ v. IsHeld v a) has.left (held_is y.view step.has a there))) [
+          (subst (λ v. IsHeld v a) has.left (held_is y.view step.call.has a there))) [
             | inl same ↦ inl same
-            | inr mine ↦ inr (held_state s x step.was had a (drawn_back x.view has.behind has.drawn a mine))
+            | inr mine ↦ inr (held_state s x step.call.was had a (drawn_back x.view has.behind has.drawn a mine))
           ];
-      roots = ap (λ (v : View). v.roots) has.left ∙ ap (λ (v : View). v.roots) has.drawn.left ∙ ap (λ (v : View). v.roots) step.was.view;
+      roots = ap (λ (v : View). v.roots) has.left ∙ ap (λ (v : View). v.roots) has.drawn.left ∙ ap (λ (v : View). v.roots) step.call.was.view;
     }
 
     pub accept_contents : BringsWords c.view y.view → ComesWith b (contents_of c) (heap_view_of y.view y.marks n)
@@ -273,25 +182,25 @@ module _ (b : Block) (s : CacheState) (x y : SeatView) (n : CallCounts) (step : 
       durable = λ word within. brings.left word (theirs word within);
     } where
       theirs : (word : ℕ) → IsIn b word → IsHeldWord c.view word
-      theirs = alone_word y.view c.view b carries.holding carries.alone (capacity ∙ ap (λ (v : View). v.setup.capacity) (sym has.left)) step.has
+      theirs = alone_word y.view c.view b carries.holding carries.alone (capacity ∙ ap (λ (v : View). v.setup.capacity) (sym has.left)) step.call.has
           (subst (λ v. IsHeld v b) (sym has.left) (accept_has has.behind c.view b carries.holding carries.alone capacity has.has after))
 
     pub accepts_law : AcceptRow x y → next_of x.view < next_of y.view → Accepts b (heap_view s) (heap_view_of y.view y.marks n)
     accepts_law row later = record {
-      runs = runs_law s.view y.view s.marks y.marks (counts_of s) n step.has step.ran going
-          (at_state (λ v. next_of v < next_of y.view) s x step.was later);
+      runs = runs_law s.view y.view s.marks y.marks (counts_of s) n step.call.has step.call.ran going
+          (at_state (λ v. next_of v < next_of y.view) s x step.call.was later);
       blocks = accept_blocks;
       words = λ word own. word_law s.view y.view s.marks y.marks (counts_of s) n word (kept word (mine word own));
-      pending = λ word own. pending_of s x y n step.was word (row.marks word (mine word own));
+      pending = λ word own. pending_of s x y n step.call.was word (row.marks word (mine word own));
     } where
       going : y.view.stopped ≡ None
       going = ap (λ (v : View). v.stopped) has.left ∙ ap (λ (v : View). v.stopped) has.drawn.left ∙ has.drawn.went
 
       mine : (word : ℕ) → IsOwn (heap_view s).held s.view.roots word → IsHeldWord x.view word
-      mine word own = subst (λ (v : View). IsHeldWord v word) (sym step.was.view) (own_held s word own)
+      mine word own = subst (λ (v : View). IsHeldWord v word) (sym step.call.was.view) (own_held s word own)
 
       kept : (word : ℕ) → IsHeldWord x.view word → KeepsRowWord s.view y.view word
-      kept word held = at_state (λ v. KeepsRowWord v y.view word) s x step.was (let p = row.words word held in
+      kept word held = at_state (λ v. KeepsRowWord v y.view word) s x step.call.was (let p = row.words word held in
           record { volatile = p.volatile; durable = p.durable })
 
 -- over both answers
@@ -314,11 +223,6 @@ module _ (b : Block) (s : CacheState) (x y : SeatView) (n : CallCounts) (step : 
       → IfOk result (λ c. IsSent b c s)
   offer_sent table t (Ok c) has sends same of held = offer_sent_law b s x y n step had c table has t same of sends held
   offer_sent table t (Err e) has sends same of held = tt
-
-  pub handed_own : {A E : Type 0} (result : Result A E) → OnErr result (Row one_draw x y)
-      → OnErr result (KeepsOwn (heap_view s) (heap_view_of y.view y.marks n))
-  handed_own (Ok a) none = tt
-  handed_own (Err e) none = small_own s x y n step none.view.passes none
 
   module _ (c : CarrierView) where
     pub accept_handled : (result : Result Block (Stopped × CarrierView)) → OnOk result (AcceptRow x y) → OnErr result (Row one_draw x y)

@@ -1,25 +1,21 @@
 -- What a call that takes or gives blocks is for a seat of a heap, besides what it does to the blocks.
-use Rattle.std.proofs.Common.{◌≡◌, ◌<◌, ◌≤◌, ◌⊎◌, ℕ, ◌+◌, ◌*◌, inl, inr, length, None, Result, Ok, Err, OnErr, IfErr, refl, ap, sym, ◌∙◌, arith}
+use Rattle.std.proofs.Common.{◌≡◌, ◌<◌, ◌≤◌, ◌⊎◌, ℕ, ◌+◌, ◌*◌, inl, inr, length, None, refl, ap, sym, ◌∙◌, arith}
 use Rattle.heap_seat.specs.Calls.{IsLargeCall, counted}
 use Rattle.heap_seat.specs.Looks.{IsMade as IsMadeHeap}
-use Rattle.heap_seat.specs.Tickets.{Stops as HeapStops}
-use Rattle.heap_seat.specs.Words.{IsOwn, KeepsOwn, KeepsPending}
-use Rattle.line_memory.specs.declared.memory.Stopped.{Stopped}
+use Rattle.heap_seat.specs.Words.{IsOwn, KeepsPending}
 use Rattle.core_model.specs.View.{LastLook, Role, View, one_if_some, role}
 use Rattle.heap_table.specs.Plays.{HasSoundState}
 use Rattle.heap_rule.specs.Seated.{SeatView}
 use Rattle.seat_costs.specs.Costs.{Costs}
-use Rattle.seat_costs.specs.Rows.{IsKeptOrMade, Passes, Row, Stops, ViewRow, after_ticket, head_look, next_of}
-use Rattle.seat_model.specs.CacheState.{CacheState, CallCounts, HasCounts, IsStateOf, counts_of, heap_view, heap_view_of, look_of}
-use Rattle.seat_model.proofs.HeldLemmas.{kept_at, pending_at}
+use Rattle.seat_costs.specs.Rows.{IsKeptOrMade, Passes, Row, Stops, after_ticket, head_look, next_of}
+use Rattle.seat_model.specs.CacheState.{CacheState, CallCounts, HasCounts, counts_of, heap_view, heap_view_of, look_of}
+use Rattle.seat_model.proofs.HeldLemmas.{pending_at}
 use Rattle.thread_cache.specs.Keeps.{KeepsCosts, light_draws, most_draws, most_gives, most_wins, traces}
-use Rattle.thread_cache.proofs.CallLemmas.{at_state, goes_on_law, stops_law}
+use Rattle.thread_cache.proofs.CallLemmas.{CallStep, at_state, call_step, goes_on_law}
 
 -- a state, and the seat and the counts after a call of it that counts as a large one
 pub record LargeStep (s : CacheState) (x y : SeatView) (n : CallCounts) : Type 0 where
-  pub was : IsStateOf s x
-  pub has : HasSoundState y.view
-  pub ran : s.view.stopped ≡ None
+  pub call : CallStep s x y n
   pub small : n.small_calls ≡ s.small_calls
   pub large : n.large_calls ≡ s.large_calls + 1
 
@@ -27,9 +23,7 @@ pub large_step : (before s : CacheState) → before ≡ s → (x y : SeatView) �
     → s.view.stopped ≡ None
     → LargeStep s x y (record (counts_of before) { large_calls = before.large_calls + 1 })
 large_step before s is x y view marks has ran = record {
-  was = record { view = view ∙ ap (λ (s : CacheState). s.view) is; marks = marks ∙ ap (λ (s : CacheState). s.marks) is };
-  has = has;
-  ran = ran;
+  call = call_step before s is x y _ view marks has ran;
   small = ap (λ (s : CacheState). s.small_calls) is;
   large = ap (λ (s : CacheState). s.large_calls + 1) is;
 }
@@ -74,13 +68,13 @@ look_law v w before now (inr made) = inr (record {
 
 module _ {a : Costs} (s : CacheState) (x y : SeatView) (n : CallCounts) (step : LargeStep s x y n) (passed : Passes a x.view y.view) where
   passes : Passes a s.view y.view
-  passes = at_state (λ v. Passes a v y.view) s x step.was passed
+  passes = at_state (λ v. Passes a v y.view) s x step.call.was passed
 
   pub large_counted : (most : ℕ) → a.taken ≤ most → IsLargeCall most (heap_view s) (heap_view_of y.view y.marks n)
   large_counted most few = record {
     goes_on = goes_on_law s.view y.view s.marks y.marks (counts_of s) n passes;
     small = step.small;
-    large = step.large ∙ ap (λ o. counted o s.large_calls) (sym step.ran);
+    large = step.large ∙ ap (λ o. counted o s.large_calls) (sym step.call.ran);
     taken = passes.more.taken;
     few = let t = passes.most.taken in omega arith;
     looks = record {
@@ -104,32 +98,15 @@ module _ {a : Costs} (s : CacheState) (x y : SeatView) (n : CallCounts) (step : 
       wins = let f = step.large in let d = passes.most.wins in let m = passes.more.moves in let most = few.wins in omega arith;
       gives = let f = step.large in let d = passes.most.gives in let most = few.gives in omega arith;
       cuts = let f = step.large in let d = passes.most.cuts in let most = few.cuts in omega arith;
-      light = let e = step.small in let f = step.large in let p : IsPaid s.view y.view = at_state (λ v. IsPaid v y.view) s x step.was paid in
+      light = let e = step.small in let f = step.large in let p : IsPaid s.view y.view = at_state (λ v. IsPaid v y.view) s x step.call.was paid in
           omega arith;
     },
     passes.role_is,
   )
 
-  pub large_own : {b : Costs} → Row b x y → KeepsOwn (heap_view s) (heap_view_of y.view y.marks n)
-  large_own {b} row = kept_at s y.view (heap_view_of y.view y.marks n) refl refl refl refl (at_state (λ v. ViewRow b v y.view) s x step.was row.view)
-
-  pub large_refused : (b : Costs) {A E : Type 0} (result : Result A E) → OnErr result (Row b x y)
-      → OnErr result (KeepsOwn (heap_view s) (heap_view_of y.view y.marks n))
-  large_refused b (Ok r) row = tt
-  large_refused b (Err e) row = large_own row
-
   pub large_pending : Row a x y → (word : ℕ) → IsOwn (heap_view s).held s.view.roots word
       → KeepsPending (heap_view s) (heap_view_of y.view y.marks n) word
-  large_pending row = pending_at s x y (heap_view_of y.view y.marks n) step.was refl refl refl row
-
-  pub large_stop : (ticket : ℕ) → Stops ticket x.view y.view → HeapStops ticket (heap_view s) (heap_view_of y.view y.marks n)
-  large_stop ticket stop = stops_law s.view y.view s.marks y.marks (counts_of s) n ticket step.ran passes.setup
-      (at_state (λ v. Stops ticket v y.view) s x step.was stop)
-
-  pub large_stops : {A : Type 0} (result : Result A Stopped) → IfErr result (λ e. Stops e.step x.view y.view)
-      → IfErr result (λ e. HeapStops e.step (heap_view s) (heap_view_of y.view y.marks n))
-  large_stops (Ok b) stop = tt
-  large_stops (Err e) stop = large_stop e.step stop
+  large_pending row = pending_at s x y (heap_view_of y.view y.marks n) step.call.was refl refl refl row
 
 -- a draw more is a ticket more
 pub draws_later : {a : Costs} (v w : View) → Passes a v w → v.draws < w.draws → next_of v < next_of w

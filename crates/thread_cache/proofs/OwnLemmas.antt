@@ -1,5 +1,5 @@
 -- What a step on an own word leaves, behind the draw of its ticket.
-use Rattle.std.proofs.Common.{◌≡◌, ◌<◌, ◌⊎◌, ℕ, zero, suc, ◌+◌, inl, inr, Bool, true, false, cond, nat_eq, get_or, Option, None, Some, refl, ap, sym, subst, ◌∙◌, arith}
+use Rattle.std.proofs.Common.{◌≡◌, ◌<◌, ◌⊎◌, ℕ, ◌+◌, inl, inr, Bool, true, false, cond, nat_eq, Option, None, Some, refl, ap, sym, subst, ◌∙◌, arith}
 use Rattle.std.proofs.lemmas.Bool.{cases_lt}
 use Rattle.std.proofs.lemmas.List.{get_or-set_same}
 use Rattle.heap_model.specs.Counting.{times, total}
@@ -9,25 +9,29 @@ use Rattle.heap_model.proofs.SizeLemmas.{two_words}
 use Rattle.line_memory.specs.Marks.{IsMarked}
 use Rattle.core_model.specs.declared.event.Event.TheVariants.{Load, Settle, Store}
 use Rattle.core_model.specs.Cells.{Cell, used_cell, head_cell, info_cell, anchor_cell, link_cell, root_cell, data_cell, no_cell, cell_at}
-use Rattle.core_model.specs.Effects.{last_of, learn, stored, used_up}
+use Rattle.core_model.specs.Effects.{last_of, stored, used_up, drew}
 use Rattle.core_model.specs.View.{Batch, View, no_batch}
 use Rattle.core_model.proofs.OwnerLemmas.{which_class}
 use Rattle.seat_state.proofs.BlockRanges.{in_classes_word}
 use Rattle.heap_table.specs.Plays.{HasSoundState, IsEvent}
 use Rattle.heap_rule.specs.Fences.{IsLineMarked, IsSeatFence, Owns}
 use Rattle.heap_rule.specs.Seated.{SeatView}
-use Rattle.heap_rule.specs.Shown.{Can, CanStore}
+use Rattle.heap_rule.specs.Shown.{Can, CanStore, IsShownFor}
 use Rattle.heap_rule.proofs.RawLemmas.{volatile_long}
 use Rattle.heap_rule.proofs.SettleLemmas.{own_below}
 use Rattle.seat_index.proofs.ViewBlocks.{block_class}
-use Rattle.seat_costs.specs.Costs.{Costs}
+use Rattle.seat_costs.specs.Costs.{Costs, one_draw}
 use Rattle.seat_costs.specs.Rows.{HasDrawn, Row, SameLooks, Stops, ViewRow, after_ticket, parts}
 use Rattle.seat_costs.specs.Words.{IsDurableAt, IsHeldWord, KeepsWord, MayBe, seen_at, times_held}
 use Rattle.seat_costs.proofs.OnceLemmas.{not_held}
 use Rattle.seat_costs.proofs.RowLemmas.{not_both}
 use Rattle.seat_costs.proofs.StoreLemmas.{fenced}
 use Rattle.seat_costs.proofs.WordLemmas.{owns_held}
-use Rattle.superblock_lists.proofs.PopLemmas.{drawn_as}
+use Rattle.seat_costs.proofs.StoredLemmas.{stored_only}
+use Rattle.seat_costs.specs.Stores.{HasStored}
+use Rattle.std.specs.Bool.{⊤}
+use Rattle.std.specs.Prelude.{Result, Ok, Err, OnErr, OnOk, IfErr}
+use Rattle.line_memory.specs.declared.memory.Stopped.{Stopped}
 use Rattle.thread_cache.specs.Own.{Drew, HasFenced, HasValue, HasMarkedLine, MayHave, MayRead, RunsOn}
 
 -- what a draw and a step behind it leave, where the step changes no part
@@ -107,41 +111,16 @@ still_none : (word : ℕ) (b : Batch) → b ≡ no_batch → record b { linked =
 still_none word b bare = subst (λ (x : Batch). record x { linked = cond (nat_eq word (last_of x.blocks)) false x.linked } ≡ x) (sym bare)
     (ap (λ l. record no_batch { linked = l }) (one_of (nat_eq word 0)))
 
--- a store to a held word changes no part, and what is known of that word alone
-record IsStoredAlone (x y : View) : Type 0 where
-  parts_are : parts y ≡ parts x
-  stopped : y.stopped ≡ x.stopped
-  last : y.last_ticket ≡ x.last_ticket
-  used : y.used_look ≡ x.used_look
-  heads : y.head_looks ≡ x.head_looks
-  volatile : y.volatile ≡ x.volatile
-  durable : y.durable ≡ x.durable
-
-alone : (x v : View) (cell : Cell) (value : ℕ) → 0 < times_held v cell → x.batch ≡ no_batch → IsStoredAlone x (stored x cell value)
-alone x v used_cell value held bare = absurd (omega arith)
-alone x v (head_cell list) value held bare = absurd (omega arith)
-alone x v (info_cell d) value held bare = absurd (omega arith)
-alone x v (anchor_cell d) value held bare = absurd (omega arith)
-alone x v (link_cell d) value held bare = absurd (omega arith)
-alone x v (root_cell i) value held bare = record {
-  parts_are = refl;
-  stopped = refl;
-  last = refl;
-  used = refl;
-  heads = refl;
-  volatile = refl;
-  durable = refl;
-}
-alone x v (data_cell word) value held bare = record {
-  parts_are = ap (λ b. record (parts x) { batch = b }) (still_none word x.batch bare);
-  stopped = refl;
-  last = refl;
-  used = refl;
-  heads = refl;
-  volatile = refl;
-  durable = refl;
-}
-alone x v no_cell value held bare = absurd (omega arith)
+-- a store to a held word changes no part
+held_parts : (x v : View) (cell : Cell) (value : ℕ) → 0 < times_held v cell → x.batch ≡ no_batch → parts (stored x cell value) ≡ parts x
+held_parts x v used_cell value held bare = absurd (omega arith)
+held_parts x v (head_cell list) value held bare = absurd (omega arith)
+held_parts x v (info_cell d) value held bare = absurd (omega arith)
+held_parts x v (anchor_cell d) value held bare = absurd (omega arith)
+held_parts x v (link_cell d) value held bare = absurd (omega arith)
+held_parts x v (root_cell i) value held bare = refl
+held_parts x v (data_cell word) value held bare = ap (λ b. record (parts x) { batch = b }) (still_none word x.batch bare)
+held_parts x v no_cell value held bare = absurd (omega arith)
 
 -- what is known of a word that was not stored to yet
 may_read_then : (v u : View) (word : ℕ) → KeepsWord v u word → (read : ℕ) → MayRead u word read → MayRead v word read
@@ -151,53 +130,42 @@ may_read_then v u word keeps read (inl seen) = by_seen (seen_at v word) refl whe
   by_seen (Some x) some = inl (subst (λ o. MayBe o read) (sym some) (subst (λ o. MayBe o read) (keeps.volatile x some) seen))
 may_read_then v u word keeps read (inr left) = keeps.durable read left
 
-module _ (v u : View) (has : HasSoundState v) (word value : ℕ) (drawn : HasDrawn v u) (held : IsHeldWord v word) (bare : v.batch ≡ no_batch) where
-  pub can_store : Can u (Store word value)
-  can_store = subst (λ (x : View). Can x (Store word value)) (sym drawn.left) (record {
-    going = drawn.went;
-    ticket = refl;
-    shown = (owns_held v word held, by_cell (cell_at v.setup.capacity word) held (can_cell v has value (cell_at v.setup.capacity word) held bare));
-  }) where
-    by_cell : (cell : Cell) → 0 < times_held v cell → CanStore v cell value → CanStore (drawn_as v drawn.ticket u) cell value
-    by_cell used_cell some can = can
-    by_cell (head_cell list) some can = can
-    by_cell (info_cell d) some can = can
-    by_cell (anchor_cell d) some can = absurd (omega arith)
-    by_cell (link_cell d) some can = can
-    by_cell (root_cell i) some can = can
-    by_cell (data_cell k) some can = record { uncached = can.uncached; in_batch = can.in_batch }
-    by_cell no_cell some can = can
+module _ (v : View) (word value : ℕ) (held : IsHeldWord v word) (bare : v.batch ≡ no_batch) where
+  pub may_store_held : HasSoundState v → IsShownFor v (Store word value)
+  may_store_held has = (owns_held v word held, can_cell v has value (cell_at v.setup.capacity word) held bare)
 
-  module _ (w : View) (found : ℕ) (event : IsEvent (Store word value) u found w) where
-    abbrev x : View
-    x = record (used_up u) { volatile = learn u.volatile word value }
+  module _ (w : View) where
+    pub has_stored : HasStored word value v w → HasValue word value v w
+    has_stored done = record {
+      runs = record {
+        ran = done.ran;
+        going = done.going;
+        parts_are = ap parts done.left ∙ held_parts x v (cell_at v.setup.capacity word) value held bare;
+        later = let last : w.last_ticket ≡ Some done.ticket = ap (λ (y : View). y.last_ticket) done.left
+            ∙ ap (λ (y : View). y.last_ticket) (stored_only x (cell_at v.setup.capacity word) value) in
+            let is = ap after_ticket last in let least = done.later in omega arith;
+      };
+      seen = done.seen;
+    } where
+      x : View
+      x = used_up (drew v done.ticket)
 
-    held_u : 0 < times_held v (cell_at u.setup.capacity word)
-    held_u = subst (λ n. 0 < times_held v (cell_at n word)) (sym (ap (λ (y : View). y.setup.capacity) drawn.left)) held
+    pub store_drew : (result : Result ⊤ Stopped) → OnOk result (HasStored word value v w) → IfErr result (λ e. Stops e.step v w) → Drew v w
+    store_drew (Ok x) done stops = runs_drew v w (has_stored done).runs
+    store_drew (Err e) done stops = stop_drew v w e.step stops
 
-    is_alone : IsStoredAlone x w
-    is_alone = subst (IsStoredAlone x) (sym event.after) (alone x v (cell_at u.setup.capacity word) value held_u
-        (ap (λ (y : View). y.batch) drawn.left ∙ bare))
-
-    seen_now : seen_at w word ≡ Some value
-    seen_now = ap (λ values. get_or values word None) is_alone.volatile
-        ∙ get_or-set_same u.volatile word (Some value) None (let l = volatile_long u event.before in
-        let b = own_below u word event.may.ready.0 in omega arith)
-
-    pub has_stored : HasValue word value v w
-    has_stored = record { runs = runs_on v u w drawn is_alone.stopped is_alone.parts_are is_alone.last; seen = seen_now }
-
-    pub store_looks : SameLooks v u → SameLooks v w
-    store_looks before = same_looks v u w drawn before is_alone.used is_alone.heads
-
-    pub store_crash : MayHave word value v w
-    store_crash = record {
-      each = λ read may. elim may as (λ _. (read ≡ value) ⊎ MayRead v word read) [
-        | inl seen ↦ inl (subst (λ o. MayBe o read) seen_now seen)
-        | inr left ↦ inr (may_read_then v u word (drawn.words word (owns_held v word held)) read
-            (inr (subst (λ values. MayBe (get_or values word None) read) is_alone.durable left)))
-      ];
-    }
+-- a crash leaves the value, or what was left or seen before
+pub store_crash : (v w : SeatView) (word value : ℕ) → IsHeldWord v.view word → (result : Result ⊤ Stopped)
+    → OnOk result (HasStored word value v.view w.view) → OnErr result (Row one_draw v w) → MayHave word value v.view w.view
+store_crash v w word value held (Ok x) done none = record {
+  each = λ read may. elim may as (λ _. (read ≡ value) ⊎ MayRead v.view word read) [
+    | inl seen ↦ inl (subst (λ o. MayBe o read) done.seen seen)
+    | inr left ↦ inr (done.crash read left)
+  ];
+}
+store_crash v w word value held (Err e) done row = record {
+  each = λ read may. inr (may_read_then v.view w.view word (row.view.words word held) read may);
+}
 
 -- a write-back, and a fence
 module _ (v u w : SeatView) (drawn : HasDrawn v.view u.view) where
@@ -232,19 +200,3 @@ module _ (v u w : SeatView) (drawn : HasDrawn v.view u.view) where
     durable = λ word own marked. fenced u w fence word (subst (λ (y : View). Owns y word) (sym drawn.left) own)
         (subst (λ m. IsMarked m word) (sym marks) marked);
   }
-
--- a store leaves what a crash leaves
-stored_durable : (v : View) (cell : Cell) (value : ℕ) → (stored v cell value).durable ≡ v.durable
-stored_durable v used_cell value = refl
-stored_durable v (head_cell list) value = refl
-stored_durable v (info_cell d) value = refl
-stored_durable v (anchor_cell d) zero = refl
-stored_durable v (anchor_cell d) (suc n) = refl
-stored_durable v (link_cell d) value = refl
-stored_durable v (root_cell i) value = refl
-stored_durable v (data_cell word) value = refl
-stored_durable v no_cell value = refl
-
-pub store_durable : (word value : ℕ) (u w : View) (found : ℕ) → IsEvent (Store word value) u found w → w.durable ≡ u.durable
-store_durable word value u w found e = ap (λ (x : View). x.durable) e.after
-    ∙ stored_durable (record (used_up u) { volatile = learn u.volatile word value }) (cell_at u.setup.capacity word) value

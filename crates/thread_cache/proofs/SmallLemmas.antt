@@ -1,14 +1,13 @@
 -- What holding and freeing a block of a class leaves.
 use Rattle.std.proofs.Common.{◌≡◌, ◌≢◌, ◌≤◌, ◌<◌, ℕ, ◌+◌, inl, inr, Bool, true, false, cond, ◌&&◌, nat_eq, nat_le, nat_lt, List, [], ◌∷◌, Option, None, Some, length, set, refl, ap, sym, subst, ◌∙◌, le-leb, leb-true, lt-ltb, ltb-true, arith}
 use Rattle.std.specs.Bool.{⊤}
-use Rattle.std.specs.Prelude.{Result, Ok, Err, OnErr, OnOk, IfErr}
+use Rattle.std.specs.Prelude.{Result, Ok, Err, OnOk, IfErr}
 use Rattle.std.proofs.lemmas.Bool.{cases_lt}
-use Rattle.std.proofs.lemmas.List.{get_or-set_same, set-set}
 use Rattle.heap_model.specs.Blocks.{IsIn}
 use Rattle.heap_model.specs.Counting.{times, total, one_if, without}
 use Rattle.heap_model.specs.Geometry.{start_word, superblocks_end}
 use Rattle.heap_model.specs.Sizes.{IsClass, blocks_of, words_of_class}
-use Rattle.heap_model.proofs.SizeLemmas.{four_blocks, two_words}
+use Rattle.heap_model.proofs.SizeLemmas.{two_words}
 use Rattle.line_memory.specs.declared.memory.Stopped.{Stopped}
 use Rattle.core_model.specs.declared.event.Event.TheVariants.{Store, Tick}
 use Rattle.core_model.specs.declared.event.Shift.TheVariants.{Alloc, Free}
@@ -16,7 +15,7 @@ use Rattle.core_model.specs.Cells.{Cell, used_cell, head_cell, info_cell, anchor
 use Rattle.core_model.specs.Effects.{drew, first_of, last_of, learn, rest_of, stored, used_up}
 use Rattle.core_model.specs.ViewAfter.{after_free}
 use Rattle.core_model.specs.Guards.{IsOwn}
-use Rattle.core_model.specs.View.{Batch, View, of_class, times_block, no_batch}
+use Rattle.core_model.specs.View.{Batch, View, of_class, times_block}
 use Rattle.core_model.proofs.OwnerLemmas.{in_lists_total}
 use Rattle.core_model.proofs.PlaceLemmas.{and_both, and_is, cell_at_index, not-eq, skip}
 use Rattle.core_model.proofs.ClassListLemmas.{first_rest, in_classes_set, within_without}
@@ -31,19 +30,17 @@ use Rattle.heap_rule.proofs.SettleLemmas.{own_index}
 use Rattle.heap_rule.proofs.StoredLemmas.{of_none}
 use Rattle.seat_index.proofs.ViewBlocks.{block_once, block_range}
 use Rattle.heap_table.specs.Plays.{HasSoundState, IsEvent}
-use Rattle.cache_flush.specs.Flushes.{HasFlushed, cache_costs, cache_runs, with_cache}
-use Rattle.cache_flush.specs.Runs.{runs_of}
-use Rattle.cache_flush.proofs.RunLemmas.{runs_few}
-use Rattle.superblock_lists.proofs.PopLemmas.{drawn_as, still_owns}
+use Rattle.superblock_lists.proofs.PopLemmas.{still_owns}
 use Rattle.seat_costs.specs.Costs.{Costs, IsWithin, no_costs, one_draw}
 use Rattle.seat_costs.specs.Draws.{Settles}
-use Rattle.seat_costs.specs.Idle.{IsIdle}
 use Rattle.seat_costs.specs.Rows.{HasDrawn, HoldingRow, Parts, Passes, Row, RowBut, SameLooks, Stops, StoringRow, parts}
 use Rattle.seat_costs.specs.Words.{IsHeldWord, times_held}
 use Rattle.seat_costs.proofs.DrawLemmas.{early_rest, early_words, row_of_stop, shifted_is, stops}
 use Rattle.seat_costs.proofs.RowLemmas.{but_fewer, but_then, row_but, stops_passed}
 use Rattle.seat_costs.proofs.WordLemmas.{owns_held, still_held}
-use Rattle.thread_cache.specs.Small.{HasAllocated, HasCached, HasFreed, HasWay, IsHeldOutside, MayHoldLess, block_of, free_costs, with_freed}
+use Rattle.seat_costs.proofs.StoredLemmas.{drawn_as}
+use Rattle.seat_model.proofs.ChangedBlocks.{class_in}
+use Rattle.thread_cache.specs.Small.{HasAllocated, HasCached, HasWay, IsHeldOutside, MayHoldLess, block_of, with_freed}
 
 -- a held block is the seat's once, and so neither cached nor in the batch
 module _ (v : View) (has : HasSoundState v) (class block : ℕ) (is : IsClass class) (held : 0 < times block (of_class v.small class)) where
@@ -173,7 +170,7 @@ module _ (v : View) (has : HasSoundState v) (class block : ℕ) (is : IsClass cl
         small = inl (row.small ∙ ap (λ (x : Parts). x.small) way.parts_are);
       }
 
-within_itself : {a : Costs} → IsWithin a a
+pub within_itself : {a : Costs} → IsWithin a a
 within_itself = record { draws = omega arith; wins = omega arith; gives = omega arith; cuts = omega arith; taken = omega arith; moves = omega arith }
 
 -- a word outside the block is not counted for it
@@ -213,9 +210,6 @@ module _ (v : View) (class block : ℕ) (below : class < length v.small) (held :
         (let same = held_words k (cell_at v.setup.capacity k) (own_index v k (owns_held v k kept.0)) kept.1 in let h = kept.0 in omega (arith, same, h))
   ]
 
-class_below : (v : View) → HasSoundState v → (class : ℕ) → IsClass class → class < length v.small
-class_below v has class is = let long = (has.sound.good.set_up has.seat v has.below has.at).small in let last = is.last in omega arith
-
 -- a row that stores to no held word, as one that may
 pub row_storing : {a : Costs} (word : ℕ) (v w : SeatView) → Row a v w → StoringRow word a v w
 row_storing {a} word v w p = record {
@@ -243,91 +237,11 @@ freed_row v t w has class block is held storing holding may = but_then v t w
     within_itself storing.but)
     (but_fewer Kept one_draw t w (λ k kept. (
       still_held v.view t.view storing.but.passes.setup storing.small storing.large storing.but.passes.roots k kept.0,
-      held_outside v.view class block (class_below v.view has class is) held w.view (holding.passes.setup ∙ storing.but.passes.setup)
+      held_outside v.view class block (class_in v.view has class is) held w.view (holding.passes.setup ∙ storing.but.passes.setup)
           (holding.passes.roots ∙ storing.but.passes.roots) may k kept,
     )) within_itself holding) where
       Kept : ℕ → Type 0
       Kept = IsHeldOutside v.view (block_of class block)
-
--- the cache is flushed once it has as many blocks as a superblock
-module _ (v t : View) (has : HasSoundState v) (class block : ℕ) (is : IsClass class) (cached : HasCached block class v t) where
-  in_caches : class < length v.caches
-  in_caches = let long = (has.sound.good.set_up has.seat v has.below has.at).caches in let last = is.last in omega arith
-
-  cache_is : of_class t.caches class ≡ block ∷ of_class v.caches class
-  cache_is = ap (λ (p : Parts). of_class p.caches class) cached.parts_are
-      ∙ get_or-set_same v.caches class (block ∷ of_class v.caches class) [] in_caches
-
-  pub one_more : length (of_class t.caches class) ≡ length (of_class v.caches class) + 1
-  one_more = let e = ap length cache_is in omega arith
-
-  pub freed_short : length (of_class t.caches class) < blocks_of class → HasFreed block class v t
-  freed_short few = record {
-    going = cached.going;
-    cache = block ∷ of_class v.caches class;
-    kept = λ less. refl;
-    flushed = λ more. absurd (let m = one_more in omega (arith, few, more));
-    gave = λ more. absurd (let m = one_more in omega (arith, few, more));
-    gives = λ more. absurd (let m = one_more in omega (arith, few, more));
-    by = λ more. absurd (let m = one_more in omega (arith, few, more));
-    short = let m = one_more in omega (arith, few);
-    parts_are = cached.parts_are;
-  }
-
-  same_runs : cache_runs t class ≡ runs_of v.setup.capacity (block ∷ of_class v.caches class)
-  same_runs = ap (λ (p : Parts). runs_of p.setup.capacity (of_class t.caches class)) cached.parts_are ∙ ap (runs_of v.setup.capacity) cache_is
-
-  pub freed_flushed : (w : View) → v.gives ≤ t.gives → t.gives ≤ v.gives + 0 → blocks_of class ≤ length (of_class t.caches class)
-      → HasFlushed class t w → HasFreed block class v w
-  freed_flushed w before none many flushed = record {
-    going = flushed.going;
-    cache = [];
-    kept = λ less. absurd (let m = one_more in omega (arith, many, less));
-    flushed = λ more. refl;
-    gave = λ more. let four = four_blocks class is in let now = flushed.gave (omega (arith, many)) in omega (arith, before, now);
-    gives = λ more. let now = flushed.gives in let r = same_runs in omega (arith, before, none, now);
-    by = λ more. (t, (cached, flushed.by));
-    short = let four = four_blocks class is in omega arith;
-    parts_are = flushed.parts_are ∙ ap (with_cache class []) cached.parts_are
-        ∙ ap (λ l. record (with_freed class block [] (parts v)) { caches = l }) (set-set v.caches class (block ∷ of_class v.caches class) []);
-  }
-
-  pub idle_still : IsIdle v → t.batch ≡ no_batch
-  idle_still idle = ap (λ (p : Parts). p.batch) cached.parts_are ∙ idle.batch
-
-pub freed_behind : {a : Costs} (v w x : SeatView) (class block : ℕ) → MayHoldLess block class v.view w.view → Row a w x
-    → MayHoldLess block class v.view x.view
-freed_behind v w x class block may row = record {
-  large = row.view.large ∙ may.large;
-  small = elim may.small [ inl same ↦ inl (row.view.small ∙ same) | inr less ↦ inr (row.view.small ∙ less) ];
-}
-
--- a free, and the flush behind it
-pub flushed_row : (v t w : SeatView) (has : HasSoundState v.view) (class block : ℕ) (is : IsClass class)
-    (held : 0 < times block (of_class v.view.small class)) → MayHoldLess block class v.view t.view
-    → length (of_class t.view.caches class) ≤ blocks_of class
-    → RowBut (IsHeldOutside v.view (block_of class block)) (record no_costs { draws = 2 }) v t → Row (cache_costs t.view class) t w
-    → RowBut (IsHeldOutside v.view (block_of class block)) (free_costs (blocks_of class)) v w
-flushed_row v t w has class block is held may few row flush = let runs = runs_few t.view.setup.capacity (of_class t.view.caches class) in
-    but_fewer Kept (free_costs (blocks_of class)) v w (λ k kept. kept)
-    (record {
-      draws = omega (arith, few);
-      wins = omega (arith, few);
-      gives = omega (arith, few);
-      cuts = omega arith;
-      taken = omega arith;
-      moves = omega (arith, few);
-    })
-    (but_then v t w row (but_fewer Kept (cache_costs t.view class) t w
-    (λ k kept. held_outside v.view class block (class_below v.view has class is) held t.view row.passes.setup row.passes.roots may k kept)
-    within_itself (row_but t w flush))) where
-      Kept : ℕ → Type 0
-      Kept = IsHeldOutside v.view (block_of class block)
-
-pub free_costs_most : (class : ℕ) (v t : SeatView) (block : ℕ) → RowBut (IsHeldOutside v.view (block_of class block))
-    (record no_costs { draws = 2 }) v t → RowBut (IsHeldOutside v.view (block_of class block)) (free_costs (blocks_of class)) v t
-free_costs_most class v t block row = but_fewer (IsHeldOutside v.view (block_of class block)) (free_costs (blocks_of class)) v t (λ k kept. kept)
-    (record { draws = omega arith; wins = omega arith; gives = omega arith; cuts = omega arith; taken = omega arith; moves = omega arith }) row
 
 -- the first block of a cache is held
 rest_length : (bs : List ℕ) → 1 ≤ length bs → length (rest_of bs) + 1 ≡ length bs
@@ -356,7 +270,3 @@ module _ (v early w : View) (class found : ℕ) (settles : Settles v early) (eve
   pub alloc_looks : w.stopped ≡ None → SameLooks v w
   alloc_looks going = let left = shifted_is v early settles (Some (Alloc class)) w found event going in
       record { used = ap (λ (x : View). x.used_look) left; heads = ap (λ (x : View). x.head_looks) left }
-
-pub on_err : {A E P : Type 0} (result : Result A E) → P → OnErr result P
-on_err (Ok x) p = tt
-on_err (Err e) p = p

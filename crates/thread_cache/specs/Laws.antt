@@ -2,9 +2,10 @@
 use Rattle.std.proofs.Common.{ℕ, refl, ◌∙◌, arith}
 use Rattle.seat_costs.proofs.AskedLemmas.{asked_none, asked_then}
 use Rattle.seat_model.specs.CacheState.{CacheState, CacheValue}
-use Rattle.thread_cache.specs.Keeps.{KeepsCosts, KeepsHeap, KeepsSeat}
+use Rattle.thread_cache.specs.Keeps.{KeepsCounts, KeepsHeap, KeepsSeat}
 
-costs_none : (s : CacheState) → KeepsCosts s.view s.small_calls s.large_calls s.view s.small_calls s.large_calls
+-- no call costs nothing
+costs_none : (s : CacheState) → KeepsCounts s s
 costs_none s = record {
   setup = refl;
   roots = refl;
@@ -27,9 +28,8 @@ costs_none s = record {
   light = omega arith;
 }
 
-costs_row : (s t u : CacheState) → KeepsCosts s.view s.small_calls s.large_calls t.view t.small_calls t.large_calls
-    → KeepsCosts t.view t.small_calls t.large_calls u.view u.small_calls u.large_calls
-    → KeepsCosts s.view s.small_calls s.large_calls u.view u.small_calls u.large_calls
+-- the costs of two rows of calls are those of both
+pub costs_row : (s t u : CacheState) → KeepsCounts s t → KeepsCounts t u → KeepsCounts s u
 costs_row s t u p q = record {
   setup = q.setup ∙ p.setup;
   roots = q.roots ∙ p.roots;

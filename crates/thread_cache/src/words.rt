@@ -14,7 +14,7 @@ ghost use Rattle.thread_cache.specs.Own.{Drew, HasFenced, HasValue, HasMarkedLin
 
 use heap_rule::{Seat, Shared};
 use line_memory::{Chance, Stopped};
-use seat_costs::draw;
+use seat_costs::{draw, draw_and_store};
 
 /// What loads see of an own word.
 pub(crate) fn load<C: Chance>(
@@ -67,9 +67,7 @@ pub(crate) fn store<C: Chance>(
     ensures seat { IsSeatOf shared.now seat.new }
 {
     seat.recall_soundness();
-    draw(seat, shared, chance)?;
-    seat.store_word(shared, word, value);
-    Ok(())
+    draw_and_store(seat, shared, word, value, chance)
 }
 
 /// Asks for the words of an own word's line to be made durable, which the next fence awaits.

@@ -2,10 +2,10 @@ use Rattle.std.proofs.Common.{ℕ, arith, subst}
 use Rattle.large_block.specs.Fresh.{IsPast, Takes}
 use Rattle.large_block.specs.declared.fresh.Take.TheVariants.{Got}
 use Rattle.large_block.specs.Holds.{HasHeld}
-use Rattle.large_block.proofs.HoldLemmas.{on_err}
 use Rattle.seat_costs.specs.Rows.{Row}
 use Rattle.seat_costs.proofs.AskedLemmas.{asked_then}
 use Rattle.thread_cache.proofs.SpanLemmas.{allocated, held_row, no_room, not_held_row, taking}
+use Rattle.seat_costs.proofs.ResultLemmas.{on_err}
 use Rattle.thread_cache.proofs.large.alloc_large.Goals as goal
 
 pub returns-in-Past-clause-refused : goal.returns-in-Past-clause-refused

@@ -4,7 +4,8 @@ use Rattle.core_model.specs.declared.event.Shift.TheVariants.{Alloc}
 use Rattle.seat_costs.proofs.DrawLemmas.{row_of_stop, stops}
 use Rattle.seat_costs.proofs.RowLemmas.{row_of}
 use Rattle.seat_costs.proofs.ShiftLemmas.{shift_row}
-use Rattle.thread_cache.proofs.SmallLemmas.{alloc_looks, allocated, on_err}
+use Rattle.thread_cache.proofs.SmallLemmas.{alloc_looks, allocated}
+use Rattle.seat_costs.proofs.ResultLemmas.{on_err}
 use Rattle.thread_cache.proofs.small.alloc_cached.Goals as goal
 
 pub returns-in_err-draw_with-clause-stopped : goal.returns-in_err-draw_with-clause-stopped

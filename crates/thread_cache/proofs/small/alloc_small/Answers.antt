@@ -2,7 +2,7 @@ use Rattle.std.proofs.Common.{arith, subst}
 use Rattle.cache_fill.specs.Refills.{Refills}
 use Rattle.seat_costs.proofs.AskedLemmas.{asked_then}
 use Rattle.thread_cache.proofs.GrantLemmas.{alloc_light, alloc_row, filled_alloc, full_light, full_row, order_held, order_still, stopped_row}
-use Rattle.thread_cache.proofs.SmallLemmas.{on_err}
+use Rattle.seat_costs.proofs.ResultLemmas.{on_err}
 use Rattle.thread_cache.proofs.small.alloc_small.Goals as goal
 
 pub returns-in_err-block-in-Filled-clause-none : goal.returns-in_err-block-in-Filled-clause-none

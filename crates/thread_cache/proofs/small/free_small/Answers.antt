@@ -1,7 +1,7 @@
 use Rattle.std.proofs.Common.{arith}
-use Rattle.cache_flush.proofs.FlushLemmas.{on_ok_then}
 use Rattle.seat_costs.proofs.AskedLemmas.{asked_then}
-use Rattle.thread_cache.proofs.SmallLemmas.{flushed_row, freed_flushed, freed_short, one_more}
+use Rattle.thread_cache.proofs.FlushedLemmas.{flushed_row, freed_flushed, freed_short, one_more}
+use Rattle.seat_costs.proofs.ResultLemmas.{on_ok_then}
 use Rattle.thread_cache.proofs.small.free_small.Goals as goal
 
 pub returns-then-count-blocks_of-clause-freed : goal.returns-then-count-blocks_of-clause-freed

@@ -1,7 +1,8 @@
 use Rattle.std.proofs.Common.{ap, refl, ◌∙◌}
 use Rattle.seat_model.specs.CacheState.{CacheState}
-use Rattle.thread_cache.proofs.CallLemmas.{asked_at, counts_then, small_step, state_is}
-use Rattle.thread_cache.proofs.HandedLemmas.{accept_brings, accept_handled, accept_ok, accept_paid, accepted_between, accepted_later, handed_counted, handed_draws, handed_keeps, handed_own}
+use Rattle.thread_cache.proofs.CallLemmas.{asked_at, counts_then, refused_own, small_step, state_is}
+use Rattle.thread_cache.proofs.HandedLemmas.{accept_brings, accept_handled, accept_ok, accept_paid, accepted_between, accepted_later}
+use Rattle.thread_cache.proofs.HandledLemmas.{handed_counted, handed_draws, handed_keeps}
 use Rattle.thread_cache.proofs.cache_seat.CacheSeat.accept.Goals as goal
 
 pub invariant_of-self-inside : goal.invariant_of-self-inside
@@ -37,9 +38,9 @@ returns-in-Ok-clause-brought g c = accept_brings c.args.carrier.block c.args.sel
     c.accept-answer.ensures.accepted c.accept-answer.ensures.brought
 
 pub returns-in-Ok-clause-unchanged : goal.returns-in-Ok-clause-unchanged
-returns-in-Ok-clause-unchanged g c = handed_own c.args.carrier.block c.args.self.now.state c.self.inside.seat c.accept-answer.new.seat _
+returns-in-Ok-clause-unchanged g c = refused_own c.args.self.now.state c.self.inside.seat c.accept-answer.new.seat _
     (small_step _ c.args.self.now.state (state_is c.self.view_is) c.self.inside.seat c.accept-answer.new.seat refl refl
-    c.recall_soundness-in-Ok.ensures c.in-Ok.ensures.ok) c.recall_soundness.ensures c.accept-answer.result c.accept-answer.ensures.none
+    c.recall_soundness-in-Ok.ensures c.in-Ok.ensures.ok).call _ c.accept-answer.result c.accept-answer.ensures.none
 
 pub returns-in-Ok-clause-counted : goal.returns-in-Ok-clause-counted
 returns-in-Ok-clause-counted g c = handed_counted c.args.self.now.state c.self.inside.seat c.accept-answer.new.seat _

@@ -1,7 +1,8 @@
 use Rattle.std.proofs.Common.{ap, refl, sym, ◌∙◌}
 use Rattle.seat_model.specs.CacheState.{CacheState}
-use Rattle.thread_cache.proofs.CallLemmas.{asked_at, counts_then, small_step, state_is}
-use Rattle.thread_cache.proofs.HandedLemmas.{handed_counted, handed_draws, handed_keeps, handed_own, offer_handled, offer_ok, offer_paid, offer_sent, offered_between, offered_later}
+use Rattle.thread_cache.proofs.CallLemmas.{asked_at, counts_then, refused_own, small_step, state_is}
+use Rattle.thread_cache.proofs.HandedLemmas.{offer_handled, offer_ok, offer_paid, offer_sent, offered_between, offered_later}
+use Rattle.thread_cache.proofs.HandledLemmas.{handed_counted, handed_draws, handed_keeps}
 use Rattle.thread_cache.proofs.FreeLemmas.{held_block}
 use Rattle.thread_cache.proofs.cache_seat.CacheSeat.offer.Goals as goal
 
@@ -43,9 +44,9 @@ returns-clause-sent g c = offer_sent c.args.block c.args.self.now.state c.self.i
     (sym c.self.inside.of.table) (ap (λ (s : CacheState). s.table) (state_is c.self.view_is)) c.requires
 
 pub returns-clause-unchanged : goal.returns-clause-unchanged
-returns-clause-unchanged g c = handed_own c.args.block c.args.self.now.state c.self.inside.seat c.offer-answer.new.seat _
+returns-clause-unchanged g c = refused_own c.args.self.now.state c.self.inside.seat c.offer-answer.new.seat _
     (small_step _ c.args.self.now.state (state_is c.self.view_is) c.self.inside.seat c.offer-answer.new.seat refl refl
-    c.recall_soundness-2.ensures c.in_ok-check_running.ensures.ok) c.recall_soundness.ensures c.offer-answer.result c.offer-answer.ensures.none
+    c.recall_soundness-2.ensures c.in_ok-check_running.ensures.ok).call _ c.offer-answer.result c.offer-answer.ensures.none
 
 pub returns-clause-counted : goal.returns-clause-counted
 returns-clause-counted g c = handed_counted c.args.self.now.state c.self.inside.seat c.offer-answer.new.seat _

@@ -1,14 +1,14 @@
 use Rattle.std.proofs.Common.{◌<◌, OnOk, ap, refl, arith, ◌∙◌, sym, subst}
 use Rattle.core_model.specs.View.{View}
 use Rattle.cache_flush.specs.All.{HasFlushedAll, all_costs, cached}
-use Rattle.cache_flush.proofs.FlushLemmas.{on_ok_then}
 use Rattle.seat_costs.specs.Rows.{Passes}
 use Rattle.seat_model.specs.CacheState.{CacheState}
-use Rattle.thread_cache.proofs.CallLemmas.{asked_at, state_is}
+use Rattle.thread_cache.proofs.CallLemmas.{asked_at, keeps_own, state_is}
 use Rattle.thread_cache.specs.Quiet.{as_large, had_stopped}
 use Rattle.thread_cache.proofs.CallLemmas.{kept_with}
-use Rattle.thread_cache.proofs.LargeLemmas.{large_counted, large_counts_then, large_keeps, large_own, large_pending, large_step}
+use Rattle.thread_cache.proofs.LargeLemmas.{large_counted, large_counts_then, large_keeps, large_pending, large_step}
 use Rattle.thread_cache.proofs.QuietLemmas.{quiet_between, quiet_few, quiet_later, quiet_paid}
+use Rattle.seat_costs.proofs.ResultLemmas.{on_ok_then}
 use Rattle.thread_cache.proofs.cache_seat.CacheSeat.quiet.Goals as goal
 
 pub invariant_of-self-inside : goal.invariant_of-self-inside
@@ -32,9 +32,9 @@ invariant_of-self-inside g c =
     )
 
 pub returns-clause-unchanged : goal.returns-clause-unchanged
-returns-clause-unchanged g c = large_own c.args.self.now.state c.self.inside.seat c.flush_all-answer.new.seat _
+returns-clause-unchanged g c = keeps_own c.args.self.now.state c.self.inside.seat c.flush_all-answer.new.seat _
     (large_step _ c.args.self.now.state (state_is c.self.view_is) c.self.inside.seat c.flush_all-answer.new.seat refl refl
-    c.recall_soundness-2.ensures c.in_ok-check_running.ensures.ok) c.flush_all-answer.ensures.row.view.passes c.flush_all-answer.ensures.row
+    c.recall_soundness-2.ensures c.in_ok-check_running.ensures.ok).call c.flush_all-answer.ensures.row
 
 pub returns-clause-pending : goal.returns-clause-pending
 returns-clause-pending g c = large_pending c.args.self.now.state c.self.inside.seat c.flush_all-answer.new.seat _

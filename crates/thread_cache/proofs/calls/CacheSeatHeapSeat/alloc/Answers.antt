@@ -1,8 +1,9 @@
 use Rattle.std.proofs.Common.{◌+◌, ap, arith, refl, sym, ◌∙◌}
 use Rattle.seat_model.specs.CacheState.{CacheState}
-use Rattle.thread_cache.proofs.AllocLemmas.{alloc_between, alloc_costs, alloc_none, alloc_ok, alloc_paid, alloc_room, full_cause, full_counts_then, full_step, request_few, stop_cause}
-use Rattle.thread_cache.proofs.CallLemmas.{asked_at, kept_with, next_low, state_is}
-use Rattle.thread_cache.proofs.LargeLemmas.{large_counted, large_counts_then, large_keeps, large_refused, large_step}
+use Rattle.thread_cache.proofs.AllocLemmas.{alloc_costs, alloc_none, alloc_ok, alloc_room, full_cause, full_counts_then, full_step, stop_cause}
+use Rattle.thread_cache.proofs.IdleLemmas.{alloc_between, alloc_paid, request_few}
+use Rattle.thread_cache.proofs.CallLemmas.{asked_at, kept_with, next_low, refused_own, state_is}
+use Rattle.thread_cache.proofs.LargeLemmas.{large_counted, large_counts_then, large_keeps, large_step}
 use Rattle.thread_cache.proofs.calls.CacheSeatHeapSeat.alloc.Goals as goal
 
 pub overflow_add-self : goal.overflow_add-self
@@ -68,10 +69,9 @@ returns-in-Some-clause-none g c = alloc_none c.args.bytes c.args.self.now.state 
     c.alloc-answer.ensures.row.passes c.alloc-answer.ensures.light
 
 pub returns-in-Some-clause-unchanged : goal.returns-in-Some-clause-unchanged
-returns-in-Some-clause-unchanged g c = large_refused c.args.self.now.state c.self.inside.seat c.alloc-answer.new.seat _
+returns-in-Some-clause-unchanged g c = refused_own c.args.self.now.state c.self.inside.seat c.alloc-answer.new.seat _
     (full_step _ c.args.self.now.state (state_is c.self.view_is) c.args.bytes c.in-Some.looks c.self.inside.seat c.alloc-answer.new.seat refl
-    refl c.recall_soundness-2.ensures c.in_ok-check_running.ensures.ok)
-    c.alloc-answer.ensures.row.passes _ c.alloc-answer.result c.alloc-answer.ensures.none
+    refl c.recall_soundness-2.ensures c.in_ok-check_running.ensures.ok).call _ c.alloc-answer.result c.alloc-answer.ensures.none
 
 pub returns-in-Some-clause-counted : goal.returns-in-Some-clause-counted
 returns-in-Some-clause-counted g c = large_counted c.args.self.now.state c.self.inside.seat c.alloc-answer.new.seat _
@@ -92,9 +92,9 @@ returns-in-Some-clause-kept g c = record {
 }
 
 pub returns-in-None-clause-unchanged : goal.returns-in-None-clause-unchanged
-returns-in-None-clause-unchanged g c = large_refused c.args.self.now.state c.self.inside.seat c.alloc-answer.new.seat _
+returns-in-None-clause-unchanged g c = refused_own c.args.self.now.state c.self.inside.seat c.alloc-answer.new.seat _
     (large_step _ c.args.self.now.state (state_is c.self.view_is) c.self.inside.seat c.alloc-answer.new.seat refl refl
-    c.recall_soundness-2.ensures c.in_ok-check_running.ensures.ok) c.alloc-answer.ensures.row.passes _ c.alloc-answer.result c.alloc-answer.ensures.none
+    c.recall_soundness-2.ensures c.in_ok-check_running.ensures.ok).call _ c.alloc-answer.result c.alloc-answer.ensures.none
 
 pub returns-in-None-clause-counted : goal.returns-in-None-clause-counted
 returns-in-None-clause-counted g c = large_counted c.args.self.now.state c.self.inside.seat c.alloc-answer.new.seat _

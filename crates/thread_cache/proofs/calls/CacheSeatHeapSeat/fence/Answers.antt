@@ -1,6 +1,7 @@
 use Rattle.std.proofs.Common.{ap, refl, ◌∙◌, sym}
 use Rattle.seat_model.specs.CacheState.{CacheState}
-use Rattle.thread_cache.proofs.CallLemmas.{asked_at, between_then, counts_then, kept_with, small_counted, small_fences, small_keeps, small_own, small_step, small_stops, state_is}
+use Rattle.thread_cache.proofs.CallLemmas.{asked_at, between_then, call_stops, counts_then, keeps_own, kept_with, small_counted, small_keeps, small_step, state_is}
+use Rattle.thread_cache.proofs.WordCallLemmas.{small_fences}
 use Rattle.thread_cache.proofs.calls.CacheSeatHeapSeat.fence.Goals as goal
 
 pub invariant_of-self-inside : goal.invariant_of-self-inside
@@ -21,9 +22,9 @@ invariant_of-self-inside g c =
     )
 
 pub returns-clause-unchanged : goal.returns-clause-unchanged
-returns-clause-unchanged g c = small_own c.args.self.now.state c.self.inside.seat c.fence-answer.new.seat _
+returns-clause-unchanged g c = keeps_own c.args.self.now.state c.self.inside.seat c.fence-answer.new.seat _
     (small_step _ c.args.self.now.state (state_is c.self.view_is) c.self.inside.seat c.fence-answer.new.seat refl refl
-    c.recall_soundness-2.ensures c.in_ok-check_running.ensures.ok) c.fence-answer.ensures.row.view.passes c.fence-answer.ensures.row
+    c.recall_soundness-2.ensures c.in_ok-check_running.ensures.ok).call c.fence-answer.ensures.row
 
 pub returns-clause-counted : goal.returns-clause-counted
 returns-clause-counted g c = small_counted c.args.self.now.state c.self.inside.seat c.fence-answer.new.seat _
@@ -41,10 +42,9 @@ returns-clause-kept g c = record {
 }
 
 pub returns-clause-stopped : goal.returns-clause-stopped
-returns-clause-stopped g c = small_stops c.args.self.now.state c.self.inside.seat c.fence-answer.new.seat _
+returns-clause-stopped g c = call_stops c.args.self.now.state c.self.inside.seat c.fence-answer.new.seat _
     (small_step _ c.args.self.now.state (state_is c.self.view_is) c.self.inside.seat c.fence-answer.new.seat refl refl
-    c.recall_soundness-2.ensures c.in_ok-check_running.ensures.ok)
-    c.fence-answer.ensures.row.view.passes c.fence-answer.result c.fence-answer.ensures.stopped
+    c.recall_soundness-2.ensures c.in_ok-check_running.ensures.ok).call c.fence-answer.ensures.row.view.passes c.fence-answer.result c.fence-answer.ensures.stopped
 
 pub returns-clause-ok : goal.returns-clause-ok
 returns-clause-ok g c = small_fences c.args.self.now.state c.self.inside.seat c.fence-answer.new.seat _

@@ -1,8 +1,8 @@
 use Rattle.std.proofs.Common.{ap, arith, refl, sym, ◌∙◌}
 use Rattle.seat_model.specs.CacheState.{CacheState}
-use Rattle.thread_cache.proofs.CallLemmas.{asked_at, kept_with, next_low, state_is}
+use Rattle.thread_cache.proofs.CallLemmas.{asked_at, call_stops, kept_with, next_low, state_is}
 use Rattle.thread_cache.proofs.FreeLemmas.{free_between, free_costs, free_few, free_ok, free_others, free_paid, free_put, held_block}
-use Rattle.thread_cache.proofs.LargeLemmas.{large_counted, large_counts_then, large_keeps, large_step, large_stops}
+use Rattle.thread_cache.proofs.LargeLemmas.{large_counted, large_counts_then, large_keeps, large_step}
 use Rattle.thread_cache.proofs.calls.CacheSeatHeapSeat.free.Goals as goal
 
 pub free-answer-requires-clause-held : goal.free-answer-requires-clause-held
@@ -68,9 +68,9 @@ returns-clause-others g c = free_others c.args.b c.args.self.now.state c.self.in
     }) c.free-answer.ensures.may
 
 pub returns-clause-stopped : goal.returns-clause-stopped
-returns-clause-stopped g c = large_stops c.args.self.now.state c.self.inside.seat c.free-answer.new.seat _
+returns-clause-stopped g c = call_stops c.args.self.now.state c.self.inside.seat c.free-answer.new.seat _
     (large_step _ c.args.self.now.state (state_is c.self.view_is) c.self.inside.seat c.free-answer.new.seat refl refl
-    c.recall_soundness-2.ensures c.in_ok-check_running.ensures.ok) c.free-answer.ensures.row.passes c.free-answer.result c.free-answer.ensures.stopped
+    c.recall_soundness-2.ensures c.in_ok-check_running.ensures.ok).call c.free-answer.ensures.row.passes c.free-answer.result c.free-answer.ensures.stopped
 
 pub returns-clause-counted : goal.returns-clause-counted
 returns-clause-counted g c = large_counted c.args.self.now.state c.self.inside.seat c.free-answer.new.seat _

@@ -6,7 +6,8 @@ use Rattle.seat_costs.proofs.WordLemmas.{owns_held}
 use Rattle.seat_costs.specs.Words.{IsHeldWord}
 use Rattle.seat_model.specs.CacheState.{CacheState}
 use Rattle.thread_cache.specs.Own.{HasValue}
-use Rattle.thread_cache.proofs.CallLemmas.{asked_at, between_then, counts_then, kept_with, small_counted, small_keeps, small_loads, small_own, small_step, small_stops, spot_held, spot_low, state_is}
+use Rattle.thread_cache.proofs.CallLemmas.{asked_at, between_then, call_stops, counts_then, keeps_own, kept_with, small_counted, small_keeps, small_step, state_is}
+use Rattle.thread_cache.proofs.WordCallLemmas.{small_loads, spot_held, spot_low}
 use Rattle.thread_cache.proofs.calls.CacheSeatHeapSeat.load.Goals as goal
 
 pub word-word-requires : goal.word-word-requires
@@ -36,9 +37,9 @@ invariant_of-self-inside g c =
     )
 
 pub returns-clause-unchanged : goal.returns-clause-unchanged
-returns-clause-unchanged g c = small_own c.args.self.now.state c.self.inside.seat c.load-answer.new.seat _
+returns-clause-unchanged g c = keeps_own c.args.self.now.state c.self.inside.seat c.load-answer.new.seat _
     (small_step _ c.args.self.now.state (state_is c.self.view_is) c.self.inside.seat c.load-answer.new.seat refl refl
-    c.recall_soundness-2.ensures c.in_ok-check_running.ensures.ok) c.load-answer.ensures.row.view.passes c.load-answer.ensures.row
+    c.recall_soundness-2.ensures c.in_ok-check_running.ensures.ok).call c.load-answer.ensures.row
 
 pub returns-clause-counted : goal.returns-clause-counted
 returns-clause-counted g c = small_counted c.args.self.now.state c.self.inside.seat c.load-answer.new.seat _
@@ -56,10 +57,9 @@ returns-clause-kept g c = record {
 }
 
 pub returns-clause-stopped : goal.returns-clause-stopped
-returns-clause-stopped g c = small_stops c.args.self.now.state c.self.inside.seat c.load-answer.new.seat _
+returns-clause-stopped g c = call_stops c.args.self.now.state c.self.inside.seat c.load-answer.new.seat _
     (small_step _ c.args.self.now.state (state_is c.self.view_is) c.self.inside.seat c.load-answer.new.seat refl refl
-    c.recall_soundness-2.ensures c.in_ok-check_running.ensures.ok)
-    c.load-answer.ensures.row.view.passes c.load-answer.result c.load-answer.ensures.stopped
+    c.recall_soundness-2.ensures c.in_ok-check_running.ensures.ok).call c.load-answer.ensures.row.view.passes c.load-answer.result c.load-answer.ensures.stopped
 
 pub returns-clause-ok : goal.returns-clause-ok
 returns-clause-ok g c = small_loads c.args.self.now.state c.self.inside.seat c.load-answer.new.seat _

@@ -7,7 +7,8 @@ use Rattle.seat_costs.specs.Rows.{StoringRow}
 use Rattle.seat_costs.specs.Words.{IsHeldWord}
 use Rattle.seat_model.specs.CacheState.{CacheState}
 use Rattle.thread_cache.specs.Own.{HasValue, MayHave}
-use Rattle.thread_cache.proofs.CallLemmas.{asked_at, between_then, counts_then, kept_with, small_counted, small_keeps, small_may_store, small_step, small_stops, small_stores, small_unstored, spot_held, spot_low, state_is}
+use Rattle.thread_cache.proofs.CallLemmas.{asked_at, between_then, call_stops, counts_then, kept_with, refused_own, small_counted, small_keeps, small_step, state_is}
+use Rattle.thread_cache.proofs.WordCallLemmas.{small_may_store, small_stores, spot_held, spot_low}
 use Rattle.thread_cache.proofs.calls.CacheSeatHeapSeat.store.Goals as goal
 
 pub word-word-requires : goal.word-word-requires
@@ -41,10 +42,9 @@ invariant_of-self-inside g c =
     )
 
 pub returns-clause-unchanged : goal.returns-clause-unchanged
-returns-clause-unchanged g c = small_unstored c.args.self.now.state c.self.inside.seat c.store-answer.new.seat _
+returns-clause-unchanged g c = refused_own c.args.self.now.state c.self.inside.seat c.store-answer.new.seat _
     (small_step _ c.args.self.now.state (state_is c.self.view_is) c.self.inside.seat c.store-answer.new.seat refl refl
-    c.recall_soundness-2.ensures c.in_ok-check_running.ensures.ok)
-    c.store-answer.ensures.row.but.passes c.store-answer.result c.store-answer.ensures.none
+    c.recall_soundness-2.ensures c.in_ok-check_running.ensures.ok).call _ c.store-answer.result c.store-answer.ensures.none
 
 pub returns-clause-counted : goal.returns-clause-counted
 returns-clause-counted g c = small_counted c.args.self.now.state c.self.inside.seat c.store-answer.new.seat _
@@ -62,10 +62,9 @@ returns-clause-kept g c = record {
 }
 
 pub returns-clause-stopped : goal.returns-clause-stopped
-returns-clause-stopped g c = small_stops c.args.self.now.state c.self.inside.seat c.store-answer.new.seat _
+returns-clause-stopped g c = call_stops c.args.self.now.state c.self.inside.seat c.store-answer.new.seat _
     (small_step _ c.args.self.now.state (state_is c.self.view_is) c.self.inside.seat c.store-answer.new.seat refl refl
-    c.recall_soundness-2.ensures c.in_ok-check_running.ensures.ok)
-    c.store-answer.ensures.row.but.passes c.store-answer.result c.store-answer.ensures.stopped
+    c.recall_soundness-2.ensures c.in_ok-check_running.ensures.ok).call c.store-answer.ensures.row.but.passes c.store-answer.result c.store-answer.ensures.stopped
 
 pub returns-clause-ok : goal.returns-clause-ok
 returns-clause-ok g c = small_stores c.args.self.now.state c.self.inside.seat c.store-answer.new.seat _
