@@ -1,5 +1,5 @@
 -- What a granted request is of a block: which words it has, and how long it is.
-use Rattle.std.proofs.Common.{◌≡◌, ◌≤◌, ℕ, ◌-◌, ◌*◌, None, ap, sym, subst, ◌∙◌, arith}
+use Rattle.std.proofs.Common.{◌≡◌, ◌≤◌, ℕ, ◌*◌, None, ap, sym, subst, ◌∙◌, arith}
 use Rattle.heap_model.specs.declared.block.Block.{Block}
 use Rattle.heap_model.specs.Sizes.{IsLeastClassFor, span_of}
 use Rattle.heap_model.proofs.SizeLemmas.{size_of-words}
@@ -13,7 +13,8 @@ use Rattle.thread_cache.specs.Large.{HasAllocatedLarge}
 use Rattle.thread_cache.specs.Requests.{IsGranted, by_class, by_span}
 use Rattle.thread_cache.specs.Small.{HasAllocated}
 use Rattle.seat_model.specs.Changes.{HoldsBlock, HoldsSpan}
-use Rattle.seat_model.proofs.ChangedBlocks.{class_in, large_words_stay, small_words_stay}
+use Rattle.seat_model.proofs.ChangedBlocks.{class_in}
+use Rattle.seat_model.proofs.TakenBlocks.{large_words_stay, small_words_stay}
 
 -- the block that comes
 pub holds_block : (bytes class : ℕ) (b : Block) (v w : View) → IsLeastClassFor bytes class → HasAllocated class b v w → HoldsBlock class b v w

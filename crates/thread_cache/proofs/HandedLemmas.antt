@@ -31,7 +31,6 @@ use Rattle.thread_cache.proofs.AllocLemmas.{pending_of}
 use Rattle.thread_cache.proofs.FreeLemmas.{held_block}
 use Rattle.thread_cache.proofs.CallLemmas.{SmallStep, at_state, runs_law}
 use Rattle.thread_cache.proofs.HandledLemmas.{IsHandled, fewer_spans, handled, one_span}
-use Rattle.seat_index.specs.declared.owned.Holding.TheVariants as holding
 
 module _ (b : Block) (table : TableId) (v w : View) where
   pub offered_between : (answer : Result CarrierView Stopped) → IfOk answer (λ c. HasOffered b c table v w)

@@ -1,5 +1,5 @@
 -- What a request of any size, and the freeing of any block, leave.
-use Rattle.std.proofs.Common.{◌≡◌, ◌<◌, ◌≤◌, ℕ, ◌+◌, ◌-◌, ◌*◌, inl, inr, true, nat_le, nat_lt, length, Result, Ok, Err, IfOk, OnOk, IfErr, OnErr, refl, ap, sym, subst, arith}
+use Rattle.std.proofs.Common.{◌≡◌, ◌<◌, ◌≤◌, ℕ, ◌+◌, ◌*◌, inl, inr, true, nat_le, nat_lt, length, Result, Ok, Err, IfOk, OnOk, IfErr, OnErr, refl, ap, sym, subst, arith}
 use Rattle.std.specs.Bool.{⊤}
 use Rattle.std.proofs.lemmas.Bool.{cases_lt, leb-true}
 use Rattle.heap_model.specs.declared.block.Block.{Block}

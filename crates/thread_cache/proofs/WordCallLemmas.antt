@@ -12,7 +12,6 @@ use Rattle.line_memory.specs.declared.memory.Stopped.{Stopped}
 use Rattle.line_memory.specs.Marks.{IsMarked, marked_words}
 use Rattle.line_memory.specs.Marked.{marked_words-has, marked_words-only}
 use Rattle.heap_model.specs.Geometry.{image_words, root_word}
-use Rattle.core_model.specs.Effects.{seen}
 use Rattle.core_model.specs.View.{View}
 use Rattle.heap_rule.specs.Seated.{SeatView}
 use Rattle.seat_costs.specs.Costs.{one_draw}
@@ -22,7 +21,7 @@ use Rattle.seat_costs.proofs.WordLemmas.{owns_held}
 use Rattle.heap_rule.proofs.SettleLemmas.{own_below}
 use Rattle.seat_model.specs.CacheState.{CacheState, CallCounts, counts_of, heap_view, heap_view_of}
 use Rattle.seat_model.proofs.HeldLemmas.{own_held, read_from, read_to, seat_law, word_law}
-use Rattle.seat_model.proofs.ChangedBlocks.{held_same}
+use Rattle.seat_model.proofs.TakenBlocks.{held_same}
 use Rattle.thread_cache.specs.Own.{HasFenced, HasValue, HasMarkedLine, MayHave, RunsOn}
 use Rattle.thread_cache.proofs.CallLemmas.{SmallStep, at_state, runs_law}
 
