@@ -1,8 +1,7 @@
 -- Worked examples by computation: all caches of a seat that are given back.
-use Rattle.std.proofs.Common.{◌≤◌, ◌≡◌, ◌<◌, ℕ, [], ◌∷◌, replicate, length, refl, ap, ◌∙◌, arith}
-use Rattle.std.proofs.lemmas.List.{get_or-replicate}
-use Rattle.heap_model.specs.Sizes.{IsClass}
-use Rattle.core_model.specs.View.{Parts, View, of_class}
+use Rattle.std.proofs.Common.{◌≤◌, ◌≡◌, ◌<◌, [], ◌∷◌, length, refl, ap, ◌∙◌, arith}
+use Rattle.core_model.specs.View.{Parts, View}
+use Rattle.seat_costs.proofs.IdleLemmas.{none_cached}
 use Rattle.cache_flush.specs.All.{GivesCaches, HasFlushedAll, cached, gave_cache, gave_no_cache}
 use Rattle.cache_examples.specs.Runs.{all_given, full_cache, gives_both, gives_the_one, no_run, one_cached, one_listed, without_tickets}
 use Rattle.cache_examples.specs.Seats.{before, later, with_cached}
@@ -16,10 +15,8 @@ flushes_none = record {
   gives = refl;
   by = gave_no_cache before refl;
   parts_are = refl;
-  empty = none_cached;
-} where
-  none_cached : (class : ℕ) → IsClass class → of_class (replicate 21 []) class ≡ []
-  none_cached class is = get_or-replicate 21 class [] [] (omega (arith, is.last))
+  empty = λ class is. none_cached 21 class;
+}
 
 -- two runs by two batches
 pub flushes_both : HasFlushedAll full_cache all_given

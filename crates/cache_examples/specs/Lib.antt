@@ -5,5 +5,6 @@ pub mod Blocks
 pub mod Runs
 pub mod Flushes
 pub mod Serving
+pub mod Refusals
 pub mod Quiet
 pub mod Costs

@@ -98,6 +98,7 @@ keeps_a_claim full = let e = ap (λ (p : Parts). p.raw) full.parts_are in absurd
 pub has_cut : IsFull 20 all_taken before (record refused { cuts = 1 }) → ⊥
 has_cut full = let e : 1 ≡ 0 = full.cuts in omega (arith, e)
 
+-- a last look at this word by this ticket, once the seat had taken a superblock
 abbrev taken_one : ℕ → ℕ → LastLook
 taken_one word ticket = record (look_at word ticket) { taken = 1 }
 

@@ -1,10 +1,10 @@
 -- Worked examples by computation: seats that keep nothing back, and what emptying all caches may do.
-use Rattle.std.proofs.Common.{◌≡◌, ◌≤◌, ◌+◌, ℕ, [], ◌∷◌, Option, None, Some, false, length, replicate, refl, ap, sym, ◌∙◌, arith}
+use Rattle.std.proofs.Common.{◌≡◌, ◌≤◌, ◌+◌, ℕ, [], ◌∷◌, Option, None, Some, false, length, refl, ap, sym, ◌∙◌, arith}
 use Rattle.std.proofs.lemmas.List.{get_or-replicate}
-use Rattle.heap_model.specs.Sizes.{IsClass}
 use Rattle.core_model.specs.View.{Batch, View, of_class}
 use Rattle.heap_seat.specs.Calls.{counted as counted_calls}
 use Rattle.seat_model.specs.Emptied.{KeepsNothing}
+use Rattle.seat_costs.proofs.IdleLemmas.{none_cached}
 use Rattle.cache_flush.specs.All.{cached}
 use Rattle.seat_model.specs.CacheState.{CacheState}
 use Rattle.thread_cache.specs.Quiet.{HasEmptyCaches, IsQuietCall, as_large, does_nothing, had_stopped}
@@ -16,9 +16,7 @@ pub holds_much : KeepsNothing (record (with_held (1080 ∷ []) (later 9 4 2 befo
   roots = 5 ∷ [];
   seen_used = Some 2;
 })
-holds_much = record { idle = record { batch = refl; raw = refl; split = refl; cutting = refl; classed = refl }; empty = none_cached } where
-  none_cached : (class : ℕ) → IsClass class → of_class (replicate 21 []) class ≡ []
-  none_cached class is = get_or-replicate 21 class [] [] (omega (arith, is.last))
+holds_much = record { idle = record { batch = refl; raw = refl; split = refl; cutting = refl; classed = refl }; empty = λ class is. none_cached 21 class }
 
 -- a cached block, one in the batch, and a claim of each kind are kept back
 pub keeps_a_cached_block : KeepsNothing (with_cached (1080 ∷ []) before) → ⊥

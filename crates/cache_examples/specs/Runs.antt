@@ -19,25 +19,31 @@ use Rattle.cache_examples.specs.Seats.{before, counts_of, later, passed, with_ca
 abbrev pub two_runs : List ℕ
 two_runs = 1080 ∷ 2872 ∷ 9272 ∷ 11064 ∷ []
 
+-- the two of superblock 1
 abbrev pub one_run : List ℕ
 one_run = 9272 ∷ 11064 ∷ []
 
+-- a seat that has them all cached
 abbrev pub full_cache : View
 full_cache = record (with_cached two_runs (later 1 0 0 before)) { volatile = replicate 2872 None ++ (Some 9272 ∷ []) }
 
--- two blocks in the batch
+-- with these blocks in the batch
 abbrev pub batch_of : ℕ → List ℕ → View → View
 batch_of d blocks v = record v { batch = record { descriptor = d; class = 20; blocks = blocks; linked = true } }
 
+-- the run of superblock 0 is lifted
 abbrev pub first_lifted : View
 first_lifted = batch_of 0 (1080 ∷ 2872 ∷ []) (with_cached one_run (later 4 0 0 full_cache))
 
+-- the first batch is given
 abbrev pub first_given : View
 first_given = record (later 3 1 1 first_lifted) { batch = no_batch }
 
+-- so is that of superblock 1
 abbrev pub second_lifted : View
 second_lifted = batch_of 1 one_run (with_cached [] (later 4 0 0 first_given))
 
+-- the second one too: the cache is empty
 abbrev pub all_given : View
 all_given = record (later 3 1 1 second_lifted) { batch = no_batch }
 
@@ -193,22 +199,27 @@ pub nothing_given : GivesRuns 20 without_tickets (record without_tickets { gives
 nothing_given runs = let e : 1 ≡ 0 = ap (λ (u : View). u.gives) (no_run 20 without_tickets (record without_tickets { gives = 1 }) refl runs) in
     omega (arith, e)
 
--- the block of a superblock that had none free: by a look behind the give its anchor has one free block, and it is claimed no more
+-- the block of a superblock that had none free is cached
 abbrev pub one_cached : View
 one_cached = with_cached (1080 ∷ []) before
 
+-- the block is lifted
 abbrev one_lifted : View
 one_lifted = batch_of 0 (1080 ∷ []) (with_cached [] (later 2 0 0 one_cached))
 
+-- superblock 0, claimed with class 20
 abbrev claim : Claim
 claim = record { descriptor = 0; class = 20 }
 
+-- the block is given, and its superblock is claimed
 abbrev one_given : View
 one_given = record (later 3 1 1 one_lifted) { batch = no_batch; classed = claim ∷ [] }
 
+-- the anchor is seen, with one free block
 abbrev one_looked : View
 one_looked = record (later 1 0 0 one_given) { seen_anchor = anchor_seen 0 (anchor_of partial_state 0 1) }
 
+-- the superblock is in the list of its class
 abbrev pub one_listed : View
 one_listed = record (later 2 1 0 one_looked) { classed = [] }
 
