@@ -1,41 +1,17 @@
 -- The laws of the two traits for seats of a shared heap: what goes on does over several calls, over each call of the
 -- seat too, and a seat that is ready stays so.
-use Rattle.std.proofs.Common.{◌≡◌, ℕ, ◌+◌, List, length, All, refl, ap, sym, subst, ◌∙◌, arith}
+use Rattle.std.proofs.Common.{◌≡◌, ℕ, ◌+◌, List, length, All, refl, ap, sym, subst, ◌∙◌}
 use Rattle.atomic_table.specs.Seated.{TableId}
 use Rattle.core_model.specs.View.{Role}
 use Rattle.seat_costs.proofs.AskedLemmas.{asked_none, asked_then}
 use Rattle.seat_model.specs.CacheState.{CacheState, CacheValue}
-use Rattle.thread_cache.specs.Keeps.{KeepsCounts, KeepsHeap, KeepsSeat}
-use Rattle.thread_cache.specs.Laws.{keeps_none_law}
+use Rattle.thread_cache.specs.Keeps.{KeepsHeap, KeepsSeat}
+use Rattle.thread_cache.specs.Laws.{costs_row, keeps_none_law}
 use Rattle.seat_parcels.specs.declared.parcel.Parcel.{Parcel}
 use Rattle.seat_parcels.specs.Boxes.{BoxView, IsInStep}
 use Rattle.seat_parcels.specs.Going.{AcceptsAtMost, OffersAtMost, StaysAtTable}
 use Rattle.seat_parcels.specs.Parcels.{IsParcelOf}
 use Rattle.seat_parcels.specs.Trays.{IsInStepWith}
-
--- costs add up, whatever is handed over
-costs_then : (s t u : CacheState) → KeepsCounts s t → KeepsCounts t u → KeepsCounts s u
-costs_then s t u p q = record {
-  setup = q.setup ∙ p.setup;
-  roots = q.roots ∙ p.roots;
-  floor = let x = p.floor in let y = q.floor in omega arith;
-  none_falls = let a = p.none_falls in let b = q.none_falls in record {
-    draws = let x = a.draws in let y = b.draws in omega arith;
-    wins = let x = a.wins in let y = b.wins in omega arith;
-    losses = let x = a.losses in let y = b.losses in omega arith;
-    gives = let x = a.gives in let y = b.gives in omega arith;
-    moves = let x = a.moves in let y = b.moves in omega arith;
-    cuts = let x = a.cuts in let y = b.cuts in omega arith;
-    taken = let x = a.taken in let y = b.taken in omega arith;
-  };
-  small_rise = let x = p.small_rise in let y = q.small_rise in omega arith;
-  large_rise = let x = p.large_rise in let y = q.large_rise in omega arith;
-  draws = let x = p.draws in let y = q.draws in omega arith;
-  wins = let x = p.wins in let y = q.wins in omega arith;
-  gives = let x = p.gives in let y = q.gives in omega arith;
-  cuts = let x = p.cuts in let y = q.cuts in omega arith;
-  light = let x = p.light in let y = q.light in omega arith;
-}
 
 -- what each call keeps of the roles
 same_carries : (s t : CacheState) → KeepsHeap s t → t.view.carries ≡ s.view.carries
@@ -54,7 +30,7 @@ module _ {C : Type 0} (gives : C → ℕ → C → Type 0) where
   stays_then : (s t u : CacheValue C) → StaysAtTable gives s t → StaysAtTable gives t u → StaysAtTable gives s u
   stays_then s t u p q = record {
     table = q.table ∙ p.table;
-    costs = costs_then s.state t.state u.state p.costs q.costs;
+    costs = costs_row s.state t.state u.state p.costs q.costs;
     asked = asked_then p.asked q.asked;
   }
 
