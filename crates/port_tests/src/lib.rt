@@ -23,7 +23,13 @@ mod real_files;
 #[cfg(test)]
 mod replacing;
 #[cfg(test)]
+mod set_clock;
+#[cfg(test)]
 mod stores;
+#[cfg(test)]
+mod told_sink;
+#[cfg(test)]
+mod told_store;
 #[cfg(test)]
 mod vec_sink;
 #[cfg(test)]
