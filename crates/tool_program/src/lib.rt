@@ -13,9 +13,9 @@ ghost use Rattle.std.specs.Process.{exit_status};
 ghost use Rattle.tool_run.specs.Status.{statuses};
 
 pub use ending::run_line;
-use file_ports::{FileStore, InputSource, OutputSink};
+use file_ports::{FileStore, InputSource, OutputSink, Progress, Stopwatch, ToldSink, ToldStore};
 pub use ports::run_ports;
-use std::io::Print;
+use std::io::{IsTerminal, Print};
 use std::process::ExitCode;
 use std::rt::Runtime;
 use std::sync::Wait;
@@ -24,16 +24,21 @@ use std::{env, io};
 pub use usage::USAGE;
 
 /// Does what the words of the process ask for: `run_ports` over files, standard input and output.
-/// `err` is the standard error, which is told too what the system said of a call that failed.
-pub fn run_program<R: Runtime + AllocGlobal + Threads + Wait + Sync, E: Print>(
+/// `err` is the standard error, which is told too what the system said of a call that failed, and,
+/// where it is a terminal, of each step that took a second or longer.
+pub fn run_program<R: Runtime + AllocGlobal + Threads + Wait + Sync, E: Print + IsTerminal>(
     rt: &R,
     err: &E,
 ) -> ExitCode
     ensures { Contains statuses (exit_status result) }
 {
-    let mut images = FileStore::new(rt);
+    let watch = Stopwatch::start(rt);
+    let tells = err.is_terminal();
+    let of_store = Progress::new(&watch, io::writer(err), tells);
+    let of_sink = Progress::new(&watch, io::writer(err), tells);
+    let mut images = ToldStore::new(FileStore::new(rt), of_store);
     let mut trace = InputSource::new(rt.reader());
-    let mut out = OutputSink::new(io::writer(rt));
+    let mut out = ToldSink::new(OutputSink::new(io::writer(rt)), of_sink);
     let status = run_ports(
         rt,
         rt.alloc(),
@@ -43,7 +48,8 @@ pub fn run_program<R: Runtime + AllocGlobal + Threads + Wait + Sync, E: Print>(
         &mut out,
         &mut OutputSink::new(io::writer(err)),
     );
-    tell_failures(err, images.failure(), trace.failure(), out.failure());
+    let file = images.store().failure();
+    tell_failures(err, file, trace.failure(), out.sink().failure());
     status
 }
 
