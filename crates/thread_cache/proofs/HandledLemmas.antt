@@ -4,8 +4,8 @@ use Rattle.heap_model.specs.declared.block.Block.{Block}
 use Rattle.heap_seat.specs.Calls.{IsSmallCall}
 use Rattle.core_model.specs.Splitting.{chosen_spans}
 use Rattle.core_model.specs.View.{Setup, Span, View, one_if_some}
-use Rattle.heap_rule.specs.declared.owned.Holding.{Holding}
-use Rattle.heap_rule.specs.declared.owned.Holding.TheVariants as holding
+use Rattle.seat_index.specs.declared.owned.Holding.{Holding}
+use Rattle.seat_index.specs.declared.owned.Holding.TheVariants as holding
 use Rattle.seat_index.specs.Holdings.{HoldsAlone}
 use Rattle.heap_rule.specs.Seated.{SeatView}
 use Rattle.seat_costs.specs.Costs.{NoneFalls, RisesBy, one_draw}
