@@ -1,8 +1,7 @@
 -- What a run over the words that recovery leaves does, it does over the image.
 use Rattle.std.proofs.Common.{◌≡◌, ℕ, ◌<◌, Bool, List, refl, sym, subst, ◌∙◌, inl, inr, arith}
 use Rattle.std.proofs.Math.Nat.{mod-lt}
-use Rattle.std.specs.BTreeMap.{BTreeMap, get}
-use Rattle.std.specs.Ordering.{nat_cmp}
+use Rattle.std.specs.BTreeMap.{BTreeMap}
 use Rattle.heap_model.specs.declared.block.Block.{Block}
 use Rattle.heap_model.specs.Image.{Image}
 use Rattle.heap_model.specs.Geometry.{capacity_word, used_word, IsReserved}
@@ -14,10 +13,10 @@ use Rattle.heap_recover.proofs.UnchangedLemmas.{words_unchanged, roots_unchanged
 use Rattle.dict_model.specs.Links.{shards, dict_links}
 use Rattle.dict_model.specs.Nodes.{shard_of}
 use Rattle.dict_model.specs.Requests.{Request}
-use Rattle.dict_model.specs.Shards.{Map, MapOf}
-use Rattle.dict_model.proofs.ShardLemmas.{one_map_of}
+use Rattle.dict_model.specs.Shards.{Map}
 use Rattle.dictionary.specs.Reading.{AreMaps, RecoversTo}
-use Rattle.dictionary.proofs.SameLemmas.{traced_alike, kinds_kept, map_kept}
+use Rattle.dictionary.proofs.SameLemmas.{keeps_reached, traced_alike, kinds_kept, map_kept}
+use Rattle.dictionary.proofs.KeptLemmas.{map_after}
 use Rattle.run_model.specs.Arrivals.{IsWholeMap}
 use Rattle.run_model.specs.Runs.{IsOtherRoot}
 use Rattle.run_model.specs.Needs.{ListsKeysOf}
@@ -25,15 +24,6 @@ use Rattle.worker_run.specs.Said.{Told}
 use Rattle.image_run.specs.Running.{Options, by_recovery, Leaves, RunsRequests}
 
 module _ (old new : Image) (to : RecoversTo old new) (maps : List (BTreeMap ℕ (List ℕ))) (are : AreMaps new shards maps) where
-  -- a map of the image is one of the words
-  map_of_words : (shard : ℕ) (map : Map) → shard < shards → MapOf old shard map → MapOf new shard map
-  map_of_words shard map below is =
-      let read = are.each shard below in
-      let known : Map = get nat_cmp read.0 in
-      let there : MapOf old shard known = map_kept old new to shard known below read.2 in
-      let same : (key : ℕ) → known key ≡ map key = one_map_of old shard known map there is in
-      subst (λ (m : Map). MapOf new shard m) (λ i key. same key i) read.2
-
   keys_listed : (keys : List ℕ) → ListsKeysOf old keys → ListsKeysOf new keys
   keys_listed keys lists = record { all = λ shard map below is. lists.all shard map below (map_kept old new to shard map below is) }
 
@@ -64,7 +54,9 @@ module _ (old new : Image) (to : RecoversTo old new) (maps : List (BTreeMap ℕ 
   -- the whole map of the image is that of the words
   whole_of_words : (whole : Map) → IsWholeMap old whole → IsWholeMap new whole
   whole_of_words whole is = record {
-    each = λ key. let at = is.each key in (at.0, map_of_words (shard_of key) at.0 (mod-lt key (omega arith)) at.1, at.2);
+    each = λ key.
+        let at = is.each key in
+        (at.0, map_after old new (keeps_reached old new to) (shard_of key) at.0 (mod-lt key (omega arith)) at.1, at.2);
   }
 
   carried : (requests : List Request) (workers budget : ℕ) (told : List Told) (stopped : Bool) (left : List ℕ)
@@ -80,7 +72,9 @@ module _ (old new : Image) (to : RecoversTo old new) (maps : List (BTreeMap ℕ 
     };
     answers = leaves.answers;
     stops = record { all = leaves.stops.all; cause = λ is keys lists. leaves.stops.cause is keys (keys_listed keys lists) };
-    replies = record { right = λ shard map below is. leaves.replies.right shard map below (map_of_words shard map below is) };
+    replies = record {
+      right = λ shard map below is. leaves.replies.right shard map below (map_after old new (keeps_reached old new to) shard map below is);
+    };
     full = record {
       cause = λ worker low before later key value is.
           let more = leaves.full.cause worker low before later key value is in
@@ -101,7 +95,7 @@ module _ (old new : Image) (to : RecoversTo old new) (maps : List (BTreeMap ℕ 
         none = leaves.maps.have_arrived.none;
       };
       each = λ whole is_whole shard map below is. leaves.maps.each whole (whole_of_words whole is_whole) shard map below
-          (map_of_words shard map below is);
+          (map_after old new (keeps_reached old new to) shard map below is);
     };
     header = record {
       well_formed = leaves.header.well_formed;

@@ -13,14 +13,11 @@ use Rattle.run_model.specs.Opened.{HasMaps, CanBeRun}
 use Rattle.worker_run.specs.Said.{replies_of}
 use Rattle.worker_run.proofs.AgainLemmas.{can_be_run}
 use Rattle.region_header.specs.Words.{AreWordsOf}
+use Rattle.region_header.proofs.WordBytes.{image_of_words}
 use Rattle.region_header.specs.Migration.{current_words}
 use Rattle.region_header.proofs.MigrationLemmas.{current_of_new}
 use Rattle.image_run.specs.Reporting.{fault_of, words_in_bytes, image_in, IsKept, PointsOutside}
 use Rattle.image_run.specs.Running.{Options, RunsRequests}
-
--- bytes are read as the image of the words that they stand for
-pub image_of_words : (words bytes : List ℕ) → AreWordsOf words bytes → slice_index words ≡ image_of_bytes bytes
-image_of_words words bytes are = λ at i. are.word i at
 
 -- so bytes of words with a good header are not malformed
 pub good_bytes : (words bytes : List ℕ) → AreWordsOf words bytes → header_fault (Some kind_count) (8 * length words) (slice_index words) ≡ None

@@ -19,7 +19,8 @@ use Rattle.heap_recover.specs.declared.answer.Was.TheVariants.{Clean}
 use Rattle.heap_recover.specs.declared.fault.RecoverFault.{RecoverFault}
 use Rattle.heap_recover.specs.declared.fault.RecoverFault.TheVariants.{Header, Outside, Memory}
 use Rattle.image_run.proofs.CommandLeftLemmas.{told_outside, none_outside}
-use Rattle.image_run.proofs.PutLemmas.{image_of_words, words_are_in}
+use Rattle.image_run.proofs.PutLemmas.{words_are_in}
+use Rattle.region_header.proofs.WordBytes.{image_of_words}
 use Rattle.tool_run.specs.Making.{IsKept, PointsOutside, image_in}
 use Rattle.tool_run.specs.Recovering.{HoldsImage, IsRecoveredHeap, IsRecoveryFault, words_in_bytes}
 
