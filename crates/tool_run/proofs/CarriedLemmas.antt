@@ -1,7 +1,6 @@
 -- A call whose command was carried out: its status is 0.
-use Rattle.std.proofs.Common.{◌≡◌, ◌⊎◌, ℕ, ◌+◌, List, Option, None, IfSome, Contains, inl, inr, lit<, refl, sym, ap, subst, ◌∙◌, arith}
+use Rattle.std.proofs.Common.{◌≡◌, ℕ, ◌+◌, List, Option, None, IfSome, Contains, inl, lit<, refl, sym, ap, subst, ◌∙◌, arith}
 use Rattle.tool_ports.specs.Calls.{with_get, with_put}
-use Rattle.tool_ports.specs.Contents.{Contents}
 use Rattle.tool_ports.specs.Left.{IsAtEnd, GivesAtMost}
 use Rattle.tool_ports.specs.declared.store_calls.StoreCalls.{StoreCalls}
 use Rattle.tool_command.specs.Command.{Command, Asks, AsksToFormat, AsksToGen, format_image, gen_trace, image_name}
@@ -13,7 +12,7 @@ use Rattle.tool_run.specs.Completeness.{IsComplete}
 use Rattle.tool_run.specs.Inside.{IsCarriedOut}
 use Rattle.tool_run.specs.Making.{longest_trace}
 use Rattle.tool_run.specs.CommandUses.{PutsBack, ReadsSource, RefusesOutside}
-use Rattle.tool_run.specs.Outcome.{IsDone, HoldsOutside, AsksToPutBack, AsksForSource}
+use Rattle.tool_run.specs.Outcome.{HoldsOutside, AsksToPutBack, AsksForSource}
 use Rattle.tool_run.specs.Seeding.{seed_of, BeginBy}
 use Rattle.tool_run.specs.Seen.{Seen, IsTold}
 use Rattle.tool_run.specs.SourceUse.{UsesSource}

@@ -1,5 +1,5 @@
 -- A call that told a line and did nothing else: memory ran out before there was a command, or the words ask for none.
-use Rattle.std.proofs.Common.{◌≡◌, ◌⊎◌, ℕ, ◌+◌, ◌≤◌, List, Option, IfSome, inl, inr, lit<, refl, sym, subst, arith}
+use Rattle.std.proofs.Common.{◌≡◌, ◌⊎◌, ℕ, ◌+◌, ◌≤◌, List, Option, IfSome, Contains, inl, inr, lit<, refl, sym, subst, arith}
 use Rattle.tool_ports.specs.Left.{GivesAtMost}
 use Rattle.tool_command.specs.Command.{Command, Asks, IsUsage, format_image, run_image, replay_image}
 use Rattle.tool_run.specs.ChancesUse.{UsesChances}

@@ -1,6 +1,5 @@
 -- A call whose command was stopped by a fault, and told its line.
-use Rattle.std.proofs.Common.{◌≡◌, ◌≢◌, ◌⊎◌, ℕ, ◌+◌, ◌≤◌, List, Option, None, inl, inr, refl, sym, ◌∙◌}
-use Rattle.tool_ports.specs.Causes.{Rose}
+use Rattle.std.proofs.Common.{◌≡◌, ◌≢◌, ◌⊎◌, ℕ, ◌+◌, ◌≤◌, List, Option, None, sym, ◌∙◌}
 use Rattle.tool_ports.specs.Left.{GivesAtMost}
 use Rattle.tool_command.specs.Command.{Command, Asks, image_name}
 use Rattle.tool_run.specs.Asking.{AsksOf, IsCutOffWith}

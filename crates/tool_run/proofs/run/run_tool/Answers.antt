@@ -11,27 +11,27 @@ use Rattle.tool_run.proofs.run.run_tool.Goals as goal
 -- the words ask for nothing
 pub returns-in-Err-Usage-clause-status : goal.returns-in-Err-Usage-clause-status
 returns-in-Err-Usage-clause-status g c =
-    idle_status _ _ _ (Explains g.H.Sink.faults g.H.Sink.taken c.args.help.now c.args.help.now) _ (for_usage c.tell-in-Err-Usage.ensures.status (c.parse.ensures.err (search rules)) c.tell-in-Err-Usage.ensures.told)
+    idle_status _ _ _ (Explains g.H.Sink.faults g.H.Sink.taken c.args.help.now c.args.help.now) _ (for_usage c.tell.ensures.status (c.parse.ensures.err (search rules)) c.tell.ensures.told)
 
 pub returns-in-Err-Usage-clause-store : goal.returns-in-Err-Usage-clause-store
 returns-in-Err-Usage-clause-store g c =
-    idle_store _ _ _ _ (for_usage c.tell-in-Err-Usage.ensures.status (c.parse.ensures.err (search rules)) c.tell-in-Err-Usage.ensures.told)
+    idle_store _ _ _ _ (for_usage c.tell.ensures.status (c.parse.ensures.err (search rules)) c.tell.ensures.told)
     (record { contents = refl; calls = refl; store_faults = refl; left = refl; source_faults = refl })
 
 pub returns-in-Err-Usage-clause-source : goal.returns-in-Err-Usage-clause-source
 returns-in-Err-Usage-clause-source g c =
     idle_source _ _ _ g.T.Source.has_ended c.args.trace.now _
-    (for_usage c.tell-in-Err-Usage.ensures.status (c.parse.ensures.err (search rules)) c.tell-in-Err-Usage.ensures.told)
+    (for_usage c.tell.ensures.status (c.parse.ensures.err (search rules)) c.tell.ensures.told)
     (record { contents = refl; calls = refl; store_faults = refl; left = refl; source_faults = refl })
 
 pub returns-in-Err-Usage-clause-chances : goal.returns-in-Err-Usage-clause-chances
 returns-in-Err-Usage-clause-chances g c =
     idle_chances g.C.Chances.seed_gives g.C.Chances.chance_gives g.C.One.Chance.draw_gives g.C.Chances.word_gives _ _ _ c.args.chances.now _
-    (for_usage c.tell-in-Err-Usage.ensures.status (c.parse.ensures.err (search rules)) c.tell-in-Err-Usage.ensures.told)
+    (for_usage c.tell.ensures.status (c.parse.ensures.err (search rules)) c.tell.ensures.told)
 
 pub returns-in-Err-Usage-clause-complete : goal.returns-in-Err-Usage-clause-complete
 returns-in-Err-Usage-clause-complete g c =
-    idle_complete _ _ _ _ (for_usage c.tell-in-Err-Usage.ensures.status (c.parse.ensures.err (search rules)) c.tell-in-Err-Usage.ensures.told)
+    idle_complete _ _ _ _ (for_usage c.tell.ensures.status (c.parse.ensures.err (search rules)) c.tell.ensures.told)
 
 -- memory ran out before there was a command
 pub returns-in-Err-Memory-clause-status : goal.returns-in-Err-Memory-clause-status
