@@ -87,6 +87,11 @@ impl<'a, C: Clock, W: Write> Progress<'a, C, W> {
             tell_long(&mut self.writer, step, passed);
         }
     }
+
+    /// A step ends that failed, and the next one begins: nothing is told of it.
+    pub fn pass(&self) {
+        let _ = self.watch.lap();
+    }
 }
 
 // A line on a step that took a second or longer. One that can't be written is lost.

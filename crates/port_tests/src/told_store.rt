@@ -2,11 +2,11 @@
 use crate::asserts::must_hold;
 use crate::set_clock::SetClock;
 use crate::stores::{must_fail, must_get, must_put, must_refuse};
-use file_ports::{Progress, Stopwatch, ToldStore};
+use file_ports::{Progress, Stopwatch, ToldSink, ToldStore};
 use std::io::Write;
 use std::process::Abort;
 use std::test::Fail;
-use tool_ports::{FailedPut, MapStore};
+use tool_ports::{FailedPut, MapStore, VecSink, write_all};
 
 // A store that has one image. The calls of these numbers fail, of which its put is the first.
 fn store_of_one(rt: &(impl Abort + AllocGlobal), failing: Vec<u64>) -> MapStore {
@@ -92,7 +92,40 @@ fn of_a_call_that_failed_nothing_is_told(rt: HostRuntime) -> Result<(), Fail> {
     let failing = vec![in rt.alloc(); 1, 2]?;
     let mut said = Vec::new(rt.alloc());
     fail_both(&rt, failing, &mut said);
-    let told = b"worked, 3.0 s\n".as_slice();
+    let told = b"worked, 6.0 s\n".as_slice();
     must_hold(&rt, said.as_slice() == told, "what is told");
+    Ok(())
+}
+
+// A get that fails after three seconds, and half a second later the line on it.
+fn fail_and_print<W: Write + Drop, V: Write + Drop>(
+    rt: &(impl Abort + AllocGlobal),
+    failing: Vec<u64>,
+    out: VecSink,
+    of_store: W,
+    of_sink: V,
+) {
+    let clock = SetClock::new(&[0, 3_000, 3_500]);
+    let watch = Stopwatch::start(&clock);
+    let inner = store_of_one(rt, failing);
+    let mut store = ToldStore::new(inner, Progress::new(&watch, of_store, true));
+    let mut sink = ToldSink::new(out, Progress::new(&watch, of_sink, true));
+    must_fail(rt, &mut store, "heap", 9);
+    let answer = write_all(&mut sink, b"read fault\n");
+    must_hold(rt, answer == Ok(()), "the answer");
+}
+
+#[test]
+fn a_failed_get_is_not_told_as_work(rt: HostRuntime) -> Result<(), Fail> {
+    let failing = vec![in rt.alloc(); 1]?;
+    let out = VecSink::new(rt.alloc(), Vec::new(rt.alloc()), 20, 20)?;
+    let mut of_store = Vec::new(rt.alloc());
+    let mut of_sink = Vec::new(rt.alloc());
+    fail_and_print(&rt, failing, out, &mut of_store, &mut of_sink);
+    must_hold(
+        &rt,
+        of_store.is_empty() && of_sink.is_empty(),
+        "what is told",
+    );
     Ok(())
 }
