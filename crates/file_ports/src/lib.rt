@@ -8,6 +8,7 @@ mod output_sink;
 mod progress;
 mod replacing;
 mod told_sink;
+mod told_source;
 mod told_store;
 
 pub use file_store::FileStore;
@@ -15,4 +16,5 @@ pub use input_source::InputSource;
 pub use output_sink::OutputSink;
 pub use progress::{Progress, Step, Stopwatch};
 pub use told_sink::ToldSink;
+pub use told_source::ToldSource;
 pub use told_store::ToldStore;

@@ -13,6 +13,10 @@ use std::time::{Clock, Duration, Instant};
 pub enum Step<'a> {
     /// The image of this name was read.
     Read(&'a str),
+    /// The image was recovered.
+    Recovered,
+    /// What standard input had was read: a trace, or a schedule.
+    ReadTrace,
     /// What was asked for was worked out.
     Worked,
     /// The image of this name was put.
@@ -23,6 +27,8 @@ impl Display for Step<'_> {
     fn fmt<W: fmt::Write>(&self, f: &mut Formatter<W>) -> fmt::Result {
         match *self {
             Step::Read(name) => write!(f, "read {name}"),
+            Step::Recovered => f.write_str("recovered"),
+            Step::ReadTrace => f.write_str("read the trace"),
             Step::Worked => f.write_str("worked"),
             Step::Wrote(name) => write!(f, "wrote {name}"),
         }

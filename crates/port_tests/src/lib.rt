@@ -29,6 +29,8 @@ mod stores;
 #[cfg(test)]
 mod told_sink;
 #[cfg(test)]
+mod told_source;
+#[cfg(test)]
 mod told_store;
 #[cfg(test)]
 mod vec_sink;

@@ -13,7 +13,9 @@ ghost use Rattle.std.specs.Process.{exit_status};
 ghost use Rattle.tool_run.specs.Status.{statuses};
 
 pub use ending::run_line;
-use file_ports::{FileStore, InputSource, OutputSink, Progress, Stopwatch, ToldSink, ToldStore};
+use file_ports::{
+    FileStore, InputSource, OutputSink, Progress, Stopwatch, ToldSink, ToldSource, ToldStore,
+};
 pub use ports::run_ports;
 use std::io::{IsTerminal, Print};
 use std::process::ExitCode;
@@ -35,9 +37,10 @@ pub fn run_program<R: Runtime + AllocGlobal + Threads + Wait + Sync, E: Print + 
     let watch = Stopwatch::start(rt);
     let tells = err.is_terminal();
     let of_store = Progress::new(&watch, io::writer(err), tells);
+    let of_source = Progress::new(&watch, io::writer(err), tells);
     let of_sink = Progress::new(&watch, io::writer(err), tells);
     let mut images = ToldStore::new(FileStore::new(rt), of_store);
-    let mut trace = InputSource::new(rt.reader());
+    let mut trace = ToldSource::new(InputSource::new(rt.reader()), of_source);
     let mut out = ToldSink::new(OutputSink::new(io::writer(rt)), of_sink);
     let status = run_ports(
         rt,
@@ -49,7 +52,7 @@ pub fn run_program<R: Runtime + AllocGlobal + Threads + Wait + Sync, E: Print + 
         &mut OutputSink::new(io::writer(err)),
     );
     let file = images.store().failure();
-    tell_failures(err, file, trace.failure(), out.sink().failure());
+    tell_failures(err, file, trace.source().failure(), out.sink().failure());
     status
 }
 
