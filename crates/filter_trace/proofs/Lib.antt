@@ -1,3 +1,4 @@
+pub mod WalkLemmas
 pub mod PairLemmas
 pub mod TraceStepLemmas
 pub mod TraceLemmas

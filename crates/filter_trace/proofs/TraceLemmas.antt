@@ -1,28 +1,30 @@
--- Facts on the loops of a trace: over the roots, over the links of a block, and over the pairs.
-use Rattle.std.proofs.Common.{◌≡◌, ℕ, ◌+◌, ◌*◌, ◌<◌, ◌≤◌, Bool, false, List, [], ◌∷◌, ◌++◌, length, take, get_or, length-append, refl, sym, subst, ◌∙◌, ap, arith, inl, inr, below_more, take_all}
+-- Facts on the loops of a trace, over the roots and over the links of a block, and on what it has reached in the end.
+use Rattle.std.proofs.Common.{◌≡◌, ℕ, ◌+◌, ◌*◌, ◌<◌, ◌≤◌, Bool, false, List, [], ◌∷◌, ◌++◌, length, take, get_or, refl, sym, subst, ◌∙◌, ap, arith, inl, inr, below_more, take_all}
 use Rattle.std.specs.Prelude.{Contains, Some, None, cond}
 use Rattle.std.specs.List.{slice_get, All}
-use Rattle.std.proofs.lemmas.Option.{slice_get_within, get_or_from_slice_get, slice_get-get_or}
-use Rattle.std.proofs.lemmas.List.{take_more, take-append-le, get_or_past}
-use Rattle.std.proofs.lemmas.List.Sums.{sum_by-le, count_by-le-length}
+use Rattle.std.proofs.lemmas.Option.{slice_get_within, get_or_from_slice_get}
+use Rattle.std.proofs.lemmas.List.{take_more, get_or_past}
+use Rattle.std.proofs.lemmas.List.Sums.{sum_by-le}
 use Rattle.std.proofs.lemmas.Nat.{row_fits}
-use Rattle.std.proofs.lemmas.List.Elements.{Contains-push_cases}
+use Rattle.std.proofs.lemmas.List.Elements.{All-contains, Contains-push_cases}
 use Rattle.std.proofs.lemmas.Bool.{cases_lt, false≢true}
 use Rattle.heap_model.specs.declared.block.Block.{Block}
 use Rattle.heap_model.specs.Geometry.{roots, root_word}
 use Rattle.heap_model.specs.Image.{Image}
-use Rattle.heap_model.specs.Blocks.{Layout, layout_of, IsBlock}
+use Rattle.heap_model.specs.Blocks.{layout_of, IsBlock}
 use Rattle.heap_model.specs.Header.{IsWellFormed}
 use Rattle.heap_model.proofs.BlockLemmas.{block_words}
+use Rattle.heap_model.proofs.ReachLemmas.{closure_least}
 use Rattle.heap_model.specs.Pointers.{LeadsOutside}
 use Rattle.heap_model.specs.Reach.{Links, AnyRoot, RootLeads, Reach, IsOutside, by_start, by_link, words_in, AreInside, IsTraced, is_root, is_linked}
 use Rattle.filter_trace.specs.declared.fault.TraceFault.{TraceFault}
 use Rattle.filter_trace.specs.declared.fault.TraceFault.TheVariants.{Outside, Memory}
 use Rattle.filter_trace.specs.Reached.{TellsOutside, AreReached}
-use Rattle.filter_trace.specs.Trace.{Follows, IsFollowedWord, Each, IsExtended, FollowsRoots, FollowsLinks, TellsOfWord, TellsOfRoots, IsFollowedBlock, IsWork}
+use Rattle.filter_trace.specs.Walks.{IsExtended}
+use Rattle.filter_trace.specs.Trace.{Follows, IsFollowedWord, FollowsRoots, FollowsLinks, TellsOfWord, TellsOfRoots, IsFollowedBlock, HasRoots}
 use Rattle.filter_trace.specs.Pairs.{HasMarks, AreMarked}
-use Rattle.filter_trace.proofs.PairLemmas.{pair_cases}
-use Rattle.filter_trace.proofs.TraceStepLemmas.{follow_marked, follow_each, follow_grows, follow_followed, follow_long, still_followed, more_and_more, block_within}
+use Rattle.filter_trace.proofs.WalkLemmas.{more_and_more, given_here, none_past}
+use Rattle.filter_trace.proofs.TraceStepLemmas.{follow_marked, follow_each, follow_grows, follow_followed, follow_long, still_followed, block_within}
 
 -- one more root
 pub roots_step : (image : Image) (kinds : ℕ → ℕ) (count n : ℕ) (pairs pairs' : List (Block × ℕ)) (marks marks' : List Bool)
@@ -71,15 +73,11 @@ pub link_at : (links : List (ℕ × ℕ)) (at position kind : ℕ) → slice_get
 link_at links at position kind is =
     let below = slice_get_within links at (position, kind) is in
     let read = get_or_from_slice_get links at (position, kind) (position, kind) is in
-    (below, (at, below, read), take_more links at (position, kind) below ∙ ap (λ (l : ℕ × ℕ). take at links ++ l ∷ []) read)
+    (below, given_here links at (position, kind) is, take_more links at (position, kind) below ∙ ap (λ (l : ℕ × ℕ). take at links ++ l ∷ []) read)
 
 -- where no link is given, all have been
 pub links_past : (links : List (ℕ × ℕ)) (at : ℕ) → slice_get links at ≡ None → take at links ≡ links
-links_past links at none =
-    elim (cases_lt at (length links)) as (λ _. take at links ≡ links) [
-      | inl below ↦ absurd (let some = slice_get-get_or links at (at, at) below in cc)
-      | inr past ↦ take_all at links past
-    ]
+links_past links at none = take_all at links (none_past links at none)
 
 -- a link lies in the block, and has a kind that there is
 pub link_within : (links : Links) (count from : ℕ) (words : List ℕ) (at position kind : ℕ) → AreInside count links
@@ -132,97 +130,53 @@ nothing_marked image n count marks formed room clear =
       once = let none = sum_by-le (λ (mark : Bool). cond mark 1 0) 0 marks (λ k d below. rw (clear k d below) (omega arith)) in omega arith;
     }
 
--- when the roots have been followed, no pair has been
-pub work_begins : (image : Image) (kinds : ℕ → ℕ) (links : Links) (count : ℕ) (pairs : List (Block × ℕ)) (marks : List Bool)
-    → FollowsRoots image kinds count roots pairs marks → IsWork image kinds links count 0 pairs marks
-work_begins image kinds links count pairs marks roots_done = record {
+-- when the roots have been followed, what they lead to is there
+pub roots_end : (image : Image) (kinds : ℕ → ℕ) (links : Links) (count : ℕ) (pairs : List (Block × ℕ)) (marks : List Bool)
+    → FollowsRoots image kinds count roots pairs marks → HasRoots image kinds links count pairs marks
+roots_end image kinds links count pairs marks roots_done = record {
   found = record {
     marked = roots_done.marked;
     reached = record { each = λ b kind here. by_start b kind (roots_done.rooted.each b kind here) };
   };
   roots_followed = roots_done.followed;
-  links_followed = record { each = λ b kind here. let none = here.1 in absurd (omega arith) };
-  within = omega arith;
 }
 
--- what was followed is still
-still_has : (image : Image) (links : Links) (pairs pairs' : List (Block × ℕ)) (a : Block) (from : ℕ) → IsExtended pairs pairs'
+-- and it stays there, as what links lead to
+pub roots_kept : (image : Image) (kinds : ℕ → ℕ) (links : Links) (count : ℕ) (a : Block) (upto : List (ℕ × ℕ)) (pairs pairs' : List (Block × ℕ))
+    (marks marks' : List Bool)
+    → HasRoots image kinds links count pairs marks → FollowsLinks image kinds links count a upto pairs pairs' marks marks'
+    → HasRoots image kinds links count pairs' marks'
+roots_kept image kinds links count a upto pairs pairs' marks marks' was follows = record {
+  found = follows.found;
+  roots_followed = λ i low. still_followed image pairs pairs' (root_word i) (kinds i) follows.grown (was.roots_followed i low);
+}
+
+pub block_kept : (image : Image) (links : Links) (pairs pairs' : List (Block × ℕ)) (a : Block) (from : ℕ) → IsExtended pairs pairs'
     → IsFollowedBlock image links pairs a from → IsFollowedBlock image links pairs' a from
-still_has image links pairs pairs' a from grown was = record {
+block_kept image links pairs pairs' a from grown was = record {
   each = λ position kind listed. still_followed image pairs pairs' (a.first_word + position) kind grown (was.each position kind listed);
 }
 
--- one more pair
-pub work_step : (image : Image) (kinds : ℕ → ℕ) (links : Links) (count next : ℕ) (a : Block) (from : ℕ) (pairs pairs' : List (Block × ℕ))
-    (marks marks' : List Bool)
-    → IsWork image kinds links count next pairs marks → next < length pairs → get_or pairs next (a, from) ≡ (a, from)
-    → FollowsLinks image kinds links count a (links from (words_in image a)) pairs pairs' marks marks'
-    → IsWork image kinds links count (next + 1) pairs' marks'
-work_step image kinds links count next a from pairs pairs' marks marks' work below read follows =
-    let grown = follows.grown in
-    let longer : length pairs' ≡ length pairs + length grown.more = ap (λ (ps : List (Block × ℕ)). length ps) grown.is
-    ∙ length-append pairs grown.more in
-    let front : take (next + 1) pairs' ≡ take next pairs ++ (a, from) ∷ [] =
-    ap (λ (ps : List (Block × ℕ)). take (next + 1) ps) grown.is
-    ∙ take-append-le (next + 1) pairs grown.more (omega arith)
-    ∙ take_more pairs next (a, from) below
-    ∙ ap (λ (p : Block × ℕ). take next pairs ++ p ∷ []) read in
-    record {
-      found = follows.found;
-      roots_followed = λ i low. still_followed image pairs pairs' (root_word i) (kinds i) grown (work.roots_followed i low);
-      links_followed = record {
-        each = λ b kind here. elim (pair_cases (take next pairs) a b from kind (subst (λ ps. Contains ps (b, kind)) front here)) as
-            (λ _. IsFollowedBlock image links pairs' b kind) [
-              | inl old ↦ still_has image links pairs pairs' b kind grown (work.links_followed.each b kind old)
-              | inr same ↦ subst (λ x. IsFollowedBlock image links pairs' x kind) same.0
-                  (subst (λ x. IsFollowedBlock image links pairs' a x) same.1 (record { each = follows.followed }))
-            ];
-      };
-      within = omega arith;
-    }
+-- when the links of all pairs have been followed, the pairs are those that are reached
+module _ (image : Image) (kinds : ℕ → ℕ) (links : Links) (count : ℕ) (pairs : List (Block × ℕ)) (marks : List Bool)
+    (work : HasRoots image kinds links count pairs marks) (all : All (λ (p : Block × ℕ). IsFollowedBlock image links pairs p.0 p.1) pairs) where
+  followed_block : (a : Block) (from : ℕ) → Contains pairs (a, from) → IsFollowedBlock image links pairs a from
+  followed_block a from here = All-contains (λ (p : Block × ℕ). IsFollowedBlock image links pairs p.0 p.1) pairs (a, from) all here
 
--- there are no more pairs than marks
-pub few_pairs : (l : Layout) (count : ℕ) (pairs : List (Block × ℕ)) (marks : List Bool) → AreMarked l count pairs marks → length pairs ≤ length marks
-few_pairs l count pairs marks marked = let some = count_by-le-length (λ (mark : Bool). mark) marks in let once = marked.once in omega arith
+  complete : (b : Block) (kind : ℕ) → Reach image kinds links b kind → Contains pairs (b, kind)
+  complete = closure_least (λ b kind. Contains pairs (b, kind))
+      (λ b kind start. subst (λ k. Contains pairs (b, k)) (sym start.kind_is) ((work.roots_followed start.root start.below).here b start.leads))
+      (λ a b from kind reached here link. ((followed_block a from here).each link.position kind link.listed).here b link.leads)
 
--- when all pairs have been followed, each that is reached is there
-complete : (image : Image) (kinds : ℕ → ℕ) (links : Links) (pairs : List (Block × ℕ))
-    → ((i : ℕ) → i < roots → IsFollowedWord image pairs (root_word i) (kinds i)) → Each (IsFollowedBlock image links pairs) pairs
-    → (b : Block) (kind : ℕ) → Reach image kinds links b kind → Contains pairs (b, kind)
-complete image kinds links pairs from_roots from_links _ _ (by_start b kind start) =
-    subst (λ k. Contains pairs (b, k)) (sym start.kind_is) ((from_roots start.root start.below).here b start.leads)
-complete image kinds links pairs from_roots from_links _ _ (by_link a b from kind reached link) =
-    ((from_links.each a from (complete image kinds links pairs from_roots from_links a from reached)).each link.position kind link.listed).here
-    b link.leads
+  pub trace_ends : AreReached image kinds links pairs
+  trace_ends = record { each = λ b kind. (work.found.reached.each b kind, complete b kind) }
 
--- and no word is outside
-inside_all : (image : Image) (kinds : ℕ → ℕ) (links : Links) (pairs : List (Block × ℕ))
-    → ((i : ℕ) → i < roots → IsFollowedWord image pairs (root_word i) (kinds i)) → Each (IsFollowedBlock image links pairs) pairs
-    → (at : ℕ) → IsTraced image kinds links at → LeadsOutside image (image at) → ⊥
-inside_all image kinds links pairs from_roots from_links _ (is_root i at below chosen is) outside =
-    (from_roots i below).inside (subst (λ n. LeadsOutside image (image n)) is outside)
-inside_all image kinds links pairs from_roots from_links _ (is_linked a from position kind at reached listed is) outside =
-    ((from_links.each a from (complete image kinds links pairs from_roots from_links a from reached)).each position kind listed).inside
-    (subst (λ n. LeadsOutside image (image n)) is outside)
+  -- and no word is outside
+  inside_all : (at : ℕ) → IsTraced image kinds links at → LeadsOutside image (image at) → ⊥
+  inside_all _ (is_root i at below chosen is) outside =
+      (work.roots_followed i below).inside (subst (λ n. LeadsOutside image (image n)) is outside)
+  inside_all _ (is_linked a from position kind at reached listed is) outside =
+      ((followed_block a from (complete a from reached)).each position kind listed).inside (subst (λ n. LeadsOutside image (image n)) is outside)
 
-all_followed : (image : Image) (kinds : ℕ → ℕ) (links : Links) (count next : ℕ) (pairs : List (Block × ℕ)) (marks : List Bool)
-    → IsWork image kinds links count next pairs marks → length pairs ≤ next → Each (IsFollowedBlock image links pairs) pairs
-all_followed image kinds links count next pairs marks work past =
-    subst (λ ps. Each (IsFollowedBlock image links pairs) ps) (take_all next pairs past) work.links_followed
-
--- so the pairs are those that are reached
-pub work_ends : (image : Image) (kinds : ℕ → ℕ) (links : Links) (count next : ℕ) (pairs : List (Block × ℕ)) (marks : List Bool)
-    → IsWork image kinds links count next pairs marks → length pairs ≤ next → AreReached image kinds links pairs
-work_ends image kinds links count next pairs marks work past = record {
-  each = λ b kind. (
-    work.found.reached.each b kind,
-    complete image kinds links pairs work.roots_followed
-        (all_followed image kinds links count next pairs marks work past) b kind,
-  );
-}
-
-pub work_inside : (image : Image) (kinds : ℕ → ℕ) (links : Links) (count next : ℕ) (pairs : List (Block × ℕ)) (marks : List Bool)
-    → IsWork image kinds links count next pairs marks → length pairs ≤ next → (at : ℕ) → IsOutside image kinds links at → ⊥
-work_inside image kinds links count next pairs marks work past at outside =
-    inside_all image kinds links pairs work.roots_followed (all_followed image kinds links count next pairs marks work past)
-    at outside.traced outside.outside
+  pub none_outside : (at : ℕ) → IsOutside image kinds links at → ⊥
+  none_outside at outside = inside_all at outside.traced outside.outside

@@ -1,7 +1,6 @@
 -- Facts on the steps of a trace: where a word leads, and what following words and links leaves.
-use Rattle.std.proofs.Common.{◌≡◌, ℕ, ◌+◌, ◌-◌, ◌*◌, ◌^◌, ◌<◌, ◌≤◌, Bool, true, List, length, length-set, take, drop, slice_index, sym, subst, ◌∙◌, ap, arith, inl, inr, [], ◌∷◌, ◌++◌, append_assoc, append-nil}
+use Rattle.std.proofs.Common.{◌≡◌, ℕ, ◌+◌, ◌-◌, ◌*◌, ◌^◌, ◌<◌, ◌≤◌, Bool, true, List, length, length-set, take, drop, slice_index, sym, subst, ◌∙◌, ap, arith, inl, inr, [], ◌∷◌}
 use Rattle.std.specs.Prelude.{Contains}
-use Rattle.std.proofs.lemmas.List.Elements.{Contains-append_left}
 use Rattle.heap_model.specs.declared.block.Block.{Block}
 use Rattle.heap_model.specs.Geometry.{fixed_words, largest_capacity_fits}
 use Rattle.heap_model.specs.Image.{Image}
@@ -14,7 +13,9 @@ use Rattle.heap_model.proofs.ImageLemmas.{words_from-list}
 use Rattle.heap_model.proofs.ReachLemmas.{one_offset, not_null, one_block}
 use Rattle.offset_ptr.specs.Meaning.{IsAlien}
 use Rattle.filter_trace.specs.Pairs.{mark_of, Inserts, present, added, AreMarked}
-use Rattle.filter_trace.specs.Trace.{Follows, null, lead, IsFollowedWord, Each, IsExtended}
+use Rattle.filter_trace.specs.Walks.{IsExtended}
+use Rattle.filter_trace.specs.Trace.{Follows, null, lead, IsFollowedWord, Each}
+use Rattle.filter_trace.proofs.WalkLemmas.{no_more, kept}
 use Rattle.filter_trace.proofs.PairLemmas.{pair_cases, insert_marked, insert_has}
 
 -- a pointer to an offset that names a block leads to it
@@ -38,24 +39,12 @@ outside_by_alien image word alien = record {
   nowhere = λ b leads. alien.nowhere (8 * b.first_word) leads.pointer;
 }
 
--- what is added to, is kept
-pub no_more : (pairs pairs' : List (Block × ℕ)) → pairs' ≡ pairs → IsExtended pairs pairs'
-no_more pairs pairs' same = record { more = []; is = same ∙ sym (append-nil pairs) }
-
-pub more_and_more : (pairs pairs' pairs'' : List (Block × ℕ)) → IsExtended pairs pairs' → IsExtended pairs' pairs'' → IsExtended pairs pairs''
-more_and_more pairs pairs' pairs'' one two = record {
-  more = one.more ++ two.more;
-  is = two.is ∙ ap (λ ps. ps ++ two.more) one.is ∙ append_assoc pairs one.more two.more;
-}
-
-pub kept : (pairs pairs' : List (Block × ℕ)) (b : Block) (k : ℕ) → IsExtended pairs pairs' → Contains pairs (b, k) → Contains pairs' (b, k)
-kept pairs pairs' b k grown here = subst (λ ps. Contains ps (b, k)) (sym grown.is) (Contains-append_left pairs grown.more (b, k) here)
-
+-- what was followed is still
 pub still_followed : (image : Image) (pairs pairs' : List (Block × ℕ)) (at kind : ℕ) → IsExtended pairs pairs'
     → IsFollowedWord image pairs at kind → IsFollowedWord image pairs' at kind
 still_followed image pairs pairs' at kind grown was = record {
   inside = was.inside;
-  here = λ b leads. kept pairs pairs' b kind grown (was.here b leads);
+  here = λ b leads. kept pairs pairs' (b, kind) grown (was.here b leads);
 }
 
 insert_grows : (kinds : ℕ) (b : Block) (k : ℕ) (pairs pairs' : List (Block × ℕ)) (marks marks' : List Bool)

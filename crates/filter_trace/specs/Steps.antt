@@ -9,7 +9,7 @@ use Rattle.heap_model.specs.Reach.{Links, words_in}
 use Rattle.super_block.specs.Division.{Divisions, Describes}
 use Rattle.filter_trace.specs.declared.pairs.PairSet.{PairSet}
 use Rattle.filter_trace.specs.Pairs.{Inserts, AreMarked}
-use Rattle.filter_trace.specs.Trace.{Follows, FollowsRoots, FollowsLinks, AreFoundPairs}
+use Rattle.filter_trace.specs.Trace.{Follows, FollowsRoots, FollowsLinks, IsFollowedBlock, AreFoundPairs, HasRoots}
 
 -- the words are those of an image with a good header
 abbrev pub IsImage : List ℕ → Type 0
@@ -58,3 +58,14 @@ abbrev pub FollowsAllLinks : List ℕ → List ℕ → Links → ℕ → Block �
 FollowsAllLinks words kinds links count b kind old new =
     FollowsLinks (slice_index words) (slice_index kinds) links count b (links kind (words_in (slice_index words) b))
     old.pairs.items new.pairs.items old.marks new.marks
+
+-- what a trace keeps once it has followed the roots, with the image and its directory
+pub record IsTraceOf (words kinds : List ℕ) (directory : Divisions) (links : Links) (count : ℕ) (set : PairSet) : Type 0 where
+  pub formed : IsImage words
+  pub described : Describes directory (layout_of (slice_index words))
+  pub same : set.kinds ≡ count
+  pub pairs : HasRoots (slice_index words) (slice_index kinds) links count set.pairs.items set.marks
+
+-- the links of the pair's block have been followed
+abbrev pub IsFollowedPair : List ℕ → Links → PairSet → Block × ℕ → Type 0
+IsFollowedPair words links set pair = IsFollowedBlock (slice_index words) links set.pairs.items pair.0 pair.1

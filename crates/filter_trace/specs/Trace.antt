@@ -1,5 +1,5 @@
 -- What the steps of a trace tell and leave, in terms of lists.
-use Rattle.std.specs.Prelude.{◌≡◌, ℕ, ◌+◌, ◌<◌, ◌≤◌, Bool, List, ◌++◌, length, take, Contains}
+use Rattle.std.specs.Prelude.{◌≡◌, ℕ, ◌+◌, ◌<◌, Bool, List, length, Contains}
 use Rattle.heap_model.specs.declared.block.Block.{Block}
 use Rattle.heap_model.specs.Geometry.{roots, root_word}
 use Rattle.heap_model.specs.Image.{Image}
@@ -10,6 +10,7 @@ use Rattle.filter_trace.specs.declared.fault.TraceFault.{TraceFault}
 use Rattle.filter_trace.specs.declared.fault.TraceFault.TheVariants.{Outside, Memory}
 use Rattle.filter_trace.specs.declared.scan.Target.{Target}
 use Rattle.filter_trace.specs.declared.scan.Target.TheVariants.{Null, To, Nowhere}
+use Rattle.filter_trace.specs.Walks.{IsExtended}
 use Rattle.filter_trace.specs.Pairs.{AreMarked, Inserts}
 
 -- the fault tells this word, which is outside
@@ -48,11 +49,6 @@ pub record IsFollowedBlock (image : Image) (links : Links) (pairs : List (Block 
 pub record Each (holds : Block → ℕ → Type 0) (pairs : List (Block × ℕ)) : Type 0 where
   pub each : (b : Block) (kind : ℕ) → Contains pairs (b, kind) → holds b kind
 
--- pairs have been added, at the end
-pub record IsExtended (pairs pairs' : List (Block × ℕ)) : Type 0 where
-  pub more : List (Block × ℕ)
-  pub is : pairs' ≡ pairs ++ more
-
 -- all pairs that have been found are reached, and marked
 pub record AreFoundPairs (image : Image) (kinds : ℕ → ℕ) (links : Links) (count : ℕ)
     (pairs : List (Block × ℕ)) (marks : List Bool) : Type 0 where
@@ -73,10 +69,7 @@ pub record FollowsLinks (image : Image) (kinds : ℕ → ℕ) (links : Links) (c
   pub grown : IsExtended pairs pairs'
   pub followed : (position kind : ℕ) → Contains upto (position, kind) → IsFollowedWord image pairs' (a.first_word + position) kind
 
--- what a trace knows when it has followed the roots and the links of the first `next` pairs
-pub record IsWork (image : Image) (kinds : ℕ → ℕ) (links : Links) (count next : ℕ)
-    (pairs : List (Block × ℕ)) (marks : List Bool) : Type 0 where
+-- what a trace keeps once it has followed the roots: each pair is reached and marked, and what the roots lead to is there
+pub record HasRoots (image : Image) (kinds : ℕ → ℕ) (links : Links) (count : ℕ) (pairs : List (Block × ℕ)) (marks : List Bool) : Type 0 where
   pub found : AreFoundPairs image kinds links count pairs marks
   pub roots_followed : (i : ℕ) → i < roots → IsFollowedWord image pairs (root_word i) (kinds i)
-  pub links_followed : Each (IsFollowedBlock image links pairs) (take next pairs)
-  pub within : next ≤ length pairs

@@ -6,6 +6,7 @@ mod filter;
 mod marks;
 mod pairs;
 mod scan;
+mod walk;
 mod worklist;
 
 pub use fault::TraceFault;
@@ -13,4 +14,5 @@ pub use filter::Filter;
 pub use marks::Marks;
 pub use pairs::{PairSet, mark_at};
 pub use scan::{Scan, Target};
+pub use walk::{Walk, follow_all};
 pub use worklist::trace;

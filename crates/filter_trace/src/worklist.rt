@@ -1,4 +1,4 @@
-//! Tracing: a worklist of pairs of a block and a kind, from the roots on.
+//! Tracing: a walk over pairs of a block and a kind, from the roots on.
 ghost use Rattle.std.specs.Prelude.{◌≡◌, ℕ, ◌*◌, ◌<◌, length, slice_index, IfOk, OnOk, IfErr};
 ghost use Rattle.std.specs.List.{All};
 ghost use Rattle.heap_model.specs.Geometry.{roots};
@@ -13,6 +13,8 @@ use crate::filter::Filter;
 use crate::marks::Marks;
 use crate::pairs::PairSet;
 use crate::scan::Scan;
+use crate::walk::{Walk, follow_all};
+use heap_model::Block;
 use std::alloc::Global;
 use super_block::Directory;
 
@@ -38,16 +40,62 @@ pub fn trace<F: Filter>(
 {
     let directory = Directory::of(alloc, words)?;
     let mut found = PairSet::new(alloc, words.len(), F::KINDS)?;
-    let scan = Scan {
-        words,
-        directory: &directory,
+    let walk = ByLinks {
+        scan: Scan {
+            words,
+            directory: &directory,
+        },
+        kinds,
+        filter,
     };
-    scan.follow_roots(kinds, &mut found)?;
-    let mut next = 0;
-    while next < found.pairs.len() {
-        let (block, kind) = found.pairs[next];
-        scan.follow_links(kinds, filter, block, kind, &mut found)?;
-        next += 1;
-    }
+    walk.scan.follow_roots(kinds, &mut found)?;
+    follow_all(&walk, &mut found)?;
     Ok(Marks { directory, found })
+}
+
+// From a pair to what the links of its block lead to.
+#[derive(Drop)]
+struct ByLinks<'a, 'b, 'c, F> {
+    scan: Scan<'a>,
+    kinds: &'b [u32],
+    filter: &'c F,
+}
+
+impl<F: Filter> Walk for ByLinks<'_, '_, '_, F> {
+    ghost use Rattle.filter_trace.specs.Steps.{IsTraceOf, IsFollowedPair};
+    ghost use Rattle.filter_trace.specs.Laws.{few_pairs};
+
+    type Found = PairSet;
+
+    type Entry = (Block, u32);
+
+    type Fault = TraceFault;
+
+    ghost entries = { λ set. set.pairs.items };
+
+    ghost most = { λ set. length set.marks };
+
+    ghost sound = { λ walk. IsTraceOf walk.scan.words.now walk.kinds.now walk.scan.directory.now
+        (F.links_of walk.filter.now) F.KINDS };
+
+    ghost followed = { λ walk. IsFollowedPair walk.scan.words.now (F.links_of walk.filter.now) };
+
+    ghost tells = { λ walk. TellsOutside (slice_index walk.scan.words.now)
+        (slice_index walk.kinds.now) (F.links_of walk.filter.now) };
+
+    fn count(&self, found: &PairSet) -> usize {
+        found.pairs.len()
+    }
+
+    fn entry_at(&self, found: &PairSet, at: usize) -> (Block, u32) {
+        found.pairs[at]
+    }
+
+    fn follow(&self, entry: (Block, u32), found: &mut PairSet) -> Result<(), TraceFault> {
+        let (block, kind) = entry;
+        self.scan
+            .follow_links(self.kinds, self.filter, block, kind, found)
+    }
+
+    ghost few = { λ walk set is. few_pairs _ _ _ _ is.pairs.found.marked };
 }

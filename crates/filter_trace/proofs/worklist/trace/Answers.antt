@@ -1,9 +1,9 @@
-use Rattle.std.proofs.Common.{◌≡◌, length, slice_index, sym, subst, ◌∙◌, refl, arith}
+use Rattle.std.proofs.Common.{◌≡◌, length, slice_index, subst, ◌∙◌}
 use Rattle.std.proofs.lemmas.Result.{err_from_is_err_and}
 use Rattle.heap_model.specs.Geometry.{roots}
 use Rattle.filter_trace.specs.Pairs.{HasMarks}
 use Rattle.filter_trace.specs.Trace.{FollowsRoots}
-use Rattle.filter_trace.proofs.TraceLemmas.{nothing_marked, work_begins, work_step, work_ends, work_inside, tells_root}
+use Rattle.filter_trace.proofs.TraceLemmas.{nothing_marked, roots_end, trace_ends, none_outside, tells_root}
 use Rattle.filter_trace.proofs.worklist.trace.Goals as goal
 
 pub follow_roots-requires-clause-marked : goal.follow_roots-requires-clause-marked
@@ -20,42 +20,28 @@ returns-in_err-follow_roots-clause-err g c =
     rw (p.1, p.2) (tells_root (slice_index c.args.words.now) (slice_index c.args.kinds.now)
     (g.F.Filter.links_of c.args.filter.now) c.in_err-follow_roots.field-0.0 c.in_err-follow_roots.ensures.err)
 
-pub loop-next-init : goal.loop-next-init
-loop-next-init g c =
+pub follow_all-requires : goal.follow_all-requires
+follow_all-requires g c =
     let count : c.in_ok-found.found.kinds ≡ g.F.Filter.KINDS = c.in_ok-found.ensures.kinds ∙ c.KINDS.ensures in
     record {
+      formed = c.requires.formed;
+      described = c.in_ok-directory.ensures.ok;
       same = c.follow_roots.ensures.kinds ∙ count;
-      work = work_begins (slice_index c.args.words.now) (slice_index c.args.kinds.now) (g.F.Filter.links_of c.args.filter.now) g.F.Filter.KINDS
+      pairs = roots_end (slice_index c.args.words.now) (slice_index c.args.kinds.now) (g.F.Filter.links_of c.args.filter.now) g.F.Filter.KINDS
           c.follow_roots.new.found.pairs.items c.follow_roots.new.found.marks
           (subst (λ n. FollowsRoots (slice_index c.args.words.now) (slice_index c.args.kinds.now)
           n roots c.follow_roots.new.found.pairs.items c.follow_roots.new.found.marks) count c.in_ok-follow_roots.ensures.ok);
-      long = refl;
-    }
-
-pub loop-next-preserved : goal.loop-next-preserved
-loop-next-preserved g c =
-    let len = c.loop-next.found.pairs.ok.0 in
-    record {
-      same = c.follow_links.ensures.kinds ∙ c.loop-next.invariant.same;
-      work = work_step (slice_index c.args.words.now) (slice_index c.args.kinds.now)
-          (g.F.Filter.links_of c.args.filter.now) g.F.Filter.KINDS c.loop-next.next
-          c.index.result.now.0 c.index.result.now.1 c.loop-next.found.pairs.items c.follow_links.new.found.pairs.items c.loop-next.found.marks
-          c.follow_links.new.found.marks
-          c.loop-next.invariant.work (omega arith) (sym c.index.ensures) c.in_ok-follow_links.ensures.ok;
-      long = c.in_ok-follow_links.ensures.ok.long ∙ c.loop-next.invariant.long;
     }
 
 pub returns-clause-ok : goal.returns-clause-ok
 returns-clause-ok g c =
-    let len = c.loop-next.found.pairs.ok.0 in
-    work_ends (slice_index c.args.words.now) (slice_index c.args.kinds.now) (g.F.Filter.links_of c.args.filter.now) g.F.Filter.KINDS c.loop-next.next
-    c.loop-next.found.pairs.items c.loop-next.found.marks c.loop-next.invariant.work (omega arith)
+    trace_ends (slice_index c.args.words.now) (slice_index c.args.kinds.now) (g.F.Filter.links_of c.args.filter.now) g.F.Filter.KINDS
+    c.follow_all.new.found.pairs.items c.follow_all.new.found.marks c.in_ok-follow_all.ensures.sound.pairs c.in_ok-follow_all.ensures.followed
 
 pub returns-clause-none : goal.returns-clause-none
 returns-clause-none g c =
-    let len = c.loop-next.found.pairs.ok.0 in
-    work_inside (slice_index c.args.words.now) (slice_index c.args.kinds.now) (g.F.Filter.links_of c.args.filter.now) g.F.Filter.KINDS c.loop-next.next
-    c.loop-next.found.pairs.items c.loop-next.found.marks c.loop-next.invariant.work (omega arith)
+    none_outside (slice_index c.args.words.now) (slice_index c.args.kinds.now) (g.F.Filter.links_of c.args.filter.now) g.F.Filter.KINDS
+    c.follow_all.new.found.pairs.items c.follow_all.new.found.marks c.in_ok-follow_all.ensures.sound.pairs c.in_ok-follow_all.ensures.followed
 
 pub invariant_of-result : goal.invariant_of-result
 invariant_of-result g c = record {
@@ -63,5 +49,5 @@ invariant_of-result g c = record {
   words = length c.args.words.now;
   formed = c.requires.formed;
   described = c.in_ok-directory.ensures.ok;
-  marked = rw (c.loop-next.invariant.same) c.loop-next.invariant.work.found.marked;
+  marked = rw (c.in_ok-follow_all.ensures.sound.same) c.in_ok-follow_all.ensures.sound.pairs.found.marked;
 }
