@@ -1,5 +1,5 @@
 -- Facts on the steps of the trace: what adding an origin and following a word leave.
-use Rattle.std.proofs.Common.{◌≡◌, ◌≢◌, ℕ, ◌+◌, ◌<◌, List, [], ◌∷◌, ◌++◌, Some, length, slice_index, set, sym, subst, ◌∙◌, ap, arith, inl, inr, length-set, length-append, get_or-set_same, get_or-set_other, append-nil, append_assoc}
+use Rattle.std.proofs.Common.{◌≡◌, ◌≢◌, ℕ, ◌+◌, ◌<◌, List, [], ◌∷◌, ◌++◌, Some, length, slice_index, set, sym, subst, ◌∙◌, ap, arith, inl, inr, length-set, length-append, get_or-set_same, get_or-set_other}
 use Rattle.std.specs.Prelude.{Contains}
 use Rattle.std.proofs.lemmas.Bool.{cases_eq}
 use Rattle.std.proofs.lemmas.List.Sums.{sum_by-set}
@@ -12,6 +12,7 @@ use Rattle.heap_model.specs.Reach.{Links}
 use Rattle.heap_model.proofs.ReachLemmas.{one_block}
 use Rattle.filter_trace.specs.Pairs.{mark_of}
 use Rattle.filter_trace.proofs.PairLemmas.{one_mark}
+use Rattle.filter_trace.proofs.WalkLemmas.{no_more, more_and_more}
 use Rattle.root_reach.specs.declared.origin.Origin.{Origin}
 use Rattle.root_reach.specs.declared.origin.Origin.TheVariants.{One, Several}
 use Rattle.root_reach.specs.declared.labels.Finding.{Finding}
@@ -21,27 +22,21 @@ use Rattle.root_reach.specs.Steps.{AddsOrigin, present, added, Propagates, nowhe
 use Rattle.root_reach.proofs.OriginLemmas.{origin_in-label_of, joins_covers, joins_still, rank_up}
 
 -- nothing new
-pub no_more : (found found' : List Finding) (labels labels' : List ℕ) → found' ≡ found → labels' ≡ labels → Grows found found' labels labels'
-no_more found found' labels labels' same_found same_labels = record {
-  more = [];
-  is = same_found ∙ sym (append-nil found);
+pub nothing_new : (found found' : List Finding) (labels labels' : List ℕ) → found' ≡ found → labels' ≡ labels → Grows found found' labels labels'
+nothing_new found found' labels labels' same_found same_labels = record {
+  more = no_more found found' same_found;
   still = λ i o was. subst (λ (ls : List ℕ). Covers (origin_in (slice_index ls i)) o) (sym same_labels) was;
   long = ap (λ (ls : List ℕ). length ls) same_labels;
 }
 
-pub more_and_more : (found found' found'' : List Finding) (labels labels' labels'' : List ℕ) → Grows found found' labels labels'
+pub grows_on : (found found' found'' : List Finding) (labels labels' labels'' : List ℕ) → Grows found found' labels labels'
     → Grows found' found'' labels' labels''
     → Grows found found'' labels labels''
-more_and_more found found' found'' labels labels' labels'' one two = record {
-  more = one.more ++ two.more;
-  is = two.is ∙ ap (λ (fs : List Finding). fs ++ two.more) one.is ∙ append_assoc found one.more two.more;
+grows_on found found' found'' labels labels' labels'' one two = record {
+  more = more_and_more found found' found'' one.more two.more;
   still = λ i o was. two.still i o (one.still i o was);
   long = two.long ∙ one.long;
 }
-
-pub kept : (found found' : List Finding) (labels labels' : List ℕ) (f : Finding) → Grows found found' labels labels' → Contains found f
-    → Contains found' f
-kept found found' labels labels' f grown here = subst (λ fs. Contains fs f) (sym grown.is) (Contains-append_left found grown.more f here)
 
 module _ (image : Image) (kinds : ℕ → ℕ) (links : Links) (count : ℕ) where
   -- what was followed is still
@@ -174,10 +169,9 @@ module _ (image : Image) (kinds : ℕ → ℕ) (links : Links) (count : ℕ) whe
   pub add_grows : (found found' : List Finding) (labels labels' : List ℕ) (b : Block) (kind : ℕ) (o : Origin) → mark_of count b kind < length labels
       → AddsOrigin count b kind o found found' labels labels' → Grows found found' labels labels'
   add_grows found found' labels labels' b kind o inside (present covers same_found same_labels) =
-      no_more found found' labels labels' same_found same_labels
+      nothing_new found found' labels labels' same_found same_labels
   add_grows found found' labels labels' b kind o inside (added joined joins new_found new_labels) = record {
-    more = record { block = b; kind = kind; origin = joined } ∷ [];
-    is = new_found;
+    more = record { more = record { block = b; kind = kind; origin = joined } ∷ []; is = new_found };
     still = λ i p was. subst (λ (ls : List ℕ). Covers (origin_in (slice_index ls i)) p) (sym new_labels)
         (added_still labels b kind o joined inside joins i p was);
     long = ap (λ (ls : List ℕ). length ls) new_labels ∙ length-set labels (mark_of count b kind) (label_of joined);
@@ -206,7 +200,7 @@ module _ (image : Image) (kinds : ℕ → ℕ) (links : Links) (count : ℕ) whe
       → HasLabels (layout_of image) count labels → kind < count
       → Propagates image count at kind o found found' labels labels' → Grows found found' labels labels'
   follow_grows found found' labels labels' at kind o room below (nowhere none same_found same_labels) =
-      no_more found found' labels labels' same_found same_labels
+      nothing_new found found' labels labels' same_found same_labels
   follow_grows found found' labels labels' at kind o room below (lead b leads adds) =
       add_grows found found' labels labels' b kind o (label_inside found labels b kind room leads.names.block below) adds
 

@@ -1,11 +1,9 @@
 -- Facts on the loops of the trace: over the roots, over the links of a block, and over what was found.
-use Rattle.std.proofs.Common.{◌≡◌, ◌≢◌, ℕ, zero, suc, Option, ◌+◌, ◌*◌, ◌<◌, ◌≤◌, List, [], ◌∷◌, ◌++◌, Some, None, length, take, get_or, refl, sym, subst, ◌∙◌, ap, arith, inl, inr, below_more, take_all, length-append}
+use Rattle.std.proofs.Common.{◌≡◌, ◌≢◌, ℕ, Option, ◌+◌, ◌*◌, ◌<◌, ◌≤◌, List, [], ◌∷◌, ◌++◌, Some, None, length, refl, sym, subst, ◌∙◌, ap, arith, inl, inr, below_more}
 use Rattle.std.specs.Prelude.{Contains}
 use Rattle.std.specs.List.{All}
 use Rattle.std.proofs.lemmas.Bool.{cases_eq}
-use Rattle.std.proofs.lemmas.List.{take_more, take-append-le}
-use Rattle.std.proofs.lemmas.List.Sums.{sum_by-le}
-use Rattle.std.proofs.lemmas.List.Elements.{Contains-push_cases}
+use Rattle.std.proofs.lemmas.List.Elements.{All-contains, Contains-push_cases}
 use Rattle.std.proofs.lemmas.Nat.{row_fits}
 use Rattle.heap_model.specs.declared.block.Block.{Block}
 use Rattle.heap_model.specs.Geometry.{roots, root_word, start_word}
@@ -19,18 +17,13 @@ use Rattle.heap_model.proofs.ReachLemmas.{closure_least, reached_block, more_roo
 use Rattle.root_reach.specs.declared.origin.Origin.{Origin}
 use Rattle.root_reach.specs.declared.origin.Origin.TheVariants.{One, Several}
 use Rattle.root_reach.specs.declared.labels.Finding.{Finding}
+use Rattle.root_reach.specs.declared.labels.Labelling.{Labelling}
 use Rattle.root_reach.specs.declared.labels.Origins.{Origins}
-use Rattle.root_reach.specs.Origins.{Covers, same, several, origin_in, origin_at, rank}
+use Rattle.root_reach.specs.Origins.{Covers, same, several, origin_in, origin_at}
 use Rattle.root_reach.specs.Reaching.{Tells, ReachesFrom, HasLabels, AreOrigins, IsReachedBeside}
-use Rattle.root_reach.specs.Steps.{Propagates, IsPropagated, HasPropagated, AreFindings, PropagatesRoots, PropagatesLinks, IsWorklist}
+use Rattle.root_reach.specs.Steps.{Propagates, IsPropagated, HasPropagated, AreFindings, PropagatesRoots, PropagatesLinks, HasRootOrigins}
 use Rattle.root_reach.proofs.OriginLemmas.{one_root}
-use Rattle.root_reach.proofs.ReachStepLemmas.{no_more, more_and_more, still_followed, all_still, follow_found, follow_grows, follow_followed}
-
--- a label is 0, 1 or 2 ranks up
-small_rank : (label : ℕ) → rank label ≤ 2
-small_rank zero = omega arith
-small_rank (suc zero) = omega arith
-small_rank (suc (suc root)) = omega arith
+use Rattle.root_reach.proofs.ReachStepLemmas.{nothing_new, grows_on, still_followed, follow_found, follow_grows, follow_followed}
 
 module _ (image : Image) (kinds : ℕ → ℕ) (links : Links) (count : ℕ) where
   -- nothing has been found, and no label tells anything
@@ -96,7 +89,7 @@ module _ (image : Image) (kinds : ℕ → ℕ) (links : Links) (count : ℕ) whe
       → PropagatesLinks image kinds links count a o [] found found labels labels
   links_begin found labels a o so_far = record {
     so_far = so_far;
-    grown = no_more found found labels labels refl refl;
+    grown = nothing_new found found labels labels refl refl;
     followed = record { each = λ position kind here. let none = here.1 in absurd (omega arith) };
   }
 
@@ -114,7 +107,7 @@ module _ (image : Image) (kinds : ℕ → ℕ) (links : Links) (count : ℕ) whe
       record {
         so_far = follow_found image kinds links count found' found'' labels' labels'' at kind o was.so_far below
             (tells_link a from position kind o tells listed) follows;
-        grown = more_and_more found found' found'' labels labels' labels'' was.grown grown;
+        grown = grows_on found found' found'' labels labels' labels'' was.grown grown;
         followed = record {
           each = λ p k in_upto. elim (Contains-push_cases upto (position, kind) (p, k) in_upto) as
               (λ _. IsPropagated image count labels'' (a.first_word + p) k o) [
@@ -124,48 +117,20 @@ module _ (image : Image) (kinds : ℕ → ℕ) (links : Links) (count : ℕ) whe
         };
       }
 
-  -- when the roots have been followed, nothing that was found has been
-  pub work_begins : (found : List Finding) (labels : List ℕ) → PropagatesRoots image kinds links count roots found labels
-      → IsWorklist image kinds links count 0 found labels
-  work_begins found labels done = record {
-    so_far = done.so_far;
-    roots_followed = done.followed;
-    links_followed = λ f here. let none = here.1 in absurd (omega arith);
-    within = omega arith;
+  -- when the roots have been followed, what they lead to is told of
+  pub roots_end : (found : List Finding) (labels : List ℕ) → PropagatesRoots image kinds links count roots found labels
+      → HasRootOrigins image kinds links count found labels
+  roots_end found labels done = record { so_far = done.so_far; roots_followed = done.followed }
+
+  -- and it stays so, as what links lead to is told of
+  pub roots_kept : (a : Block) (o : Origin) (upto : List (ℕ × ℕ)) (found found' : List Finding) (labels labels' : List ℕ)
+      → HasRootOrigins image kinds links count found labels → PropagatesLinks image kinds links count a o upto found found' labels labels'
+      → HasRootOrigins image kinds links count found' labels'
+  roots_kept a o upto found found' labels labels' was follows = record {
+    so_far = follows.so_far;
+    roots_followed = λ i low. still_followed image kinds links count found found' labels labels' (root_word i) (kinds i) (One i) follows.grown
+        (was.roots_followed i low);
   }
-
-  -- one more finding
-  pub work_step : (next : ℕ) (f : Finding) (found found' : List Finding) (labels labels' : List ℕ)
-      → IsWorklist image kinds links count next found labels → next < length found
-      → get_or found next f ≡ f → PropagatesLinks image kinds links count f.block f.origin
-      (links f.kind (words_in image f.block)) found found' labels labels'
-      → IsWorklist image kinds links count (next + 1) found' labels'
-  work_step next f found found' labels labels' work below read follows =
-      let grown = follows.grown in
-      let longer : length found' ≡ length found + length grown.more = ap (λ (fs : List Finding). length fs) grown.is ∙ length-append found grown.more in
-      let front : take (next + 1) found' ≡ take next found ++ f ∷ [] =
-      ap (λ (fs : List Finding). take (next + 1) fs) grown.is
-      ∙ take-append-le (next + 1) found grown.more (omega arith)
-      ∙ take_more found next f below
-      ∙ ap (λ (x : Finding). take next found ++ x ∷ []) read in
-      record {
-        so_far = follows.so_far;
-        roots_followed = λ i low. still_followed image kinds links count found found' labels labels' (root_word i) (kinds i) (One i) grown
-            (work.roots_followed i low);
-        links_followed = λ g here. elim (Contains-push_cases (take next found) f g (subst (λ fs. Contains fs g) front here)) as
-            (λ _. HasPropagated image links count labels' g) [
-              | inl old ↦ all_still image kinds links count found found' labels labels' g.block g.origin
-                  (links g.kind (words_in image g.block)) grown (work.links_followed g old)
-              | inr one ↦ subst (λ (x : Finding). HasPropagated image links count labels' x) one follows.followed
-            ];
-        within = omega arith;
-      }
-
-  -- no more is found than twice as much as there are labels
-  pub few_found : (found : List Finding) (labels : List ℕ) → AreFindings image kinds links count found labels → length found ≤ 2 * length labels
-  few_found found labels so_far =
-      let few = so_far.few in
-      let most = sum_by-le rank 2 labels (λ k d below. small_rank (get_or labels k d)) in omega arith
 
   -- what is told of a block covers the root, where it covers it of what leads there
   handed_on : (told : Option Origin) (root : ℕ) (P : Type 0) → Covers told (One root)
@@ -194,13 +159,11 @@ module _ (image : Image) (kinds : ℕ → ℕ) (links : Links) (count : ℕ) whe
       (followed.0, covers_on (origin_at count labels b kind) o root followed.1 covers)))
 
   -- when all that was found has been followed, the labels tell which roots reach each block
-  pub work_ends : (next : ℕ) (found : List Finding) (origins : Origins) → origins.kinds ≡ count
-      → IsWorklist image kinds links count next found origins.labels.items
-      → length found ≤ next → AreOrigins image kinds links origins
-  work_ends next found origins is work past =
-      let labels : List ℕ = origins.labels.items in
-      let all : (f : Finding) → Contains found f → HasPropagated image links count labels f =
-      subst (λ fs. (f : Finding) → Contains fs f → HasPropagated image links count labels f) (take_all next found past) work.links_followed in
+  pub trace_ends : (found : Labelling) → found.origins.kinds ≡ count
+      → HasRootOrigins image kinds links count found.list.items found.origins.labels.items
+      → All (HasPropagated image links count found.origins.labels.items) found.list.items → AreOrigins image kinds links found.origins
+  trace_ends found is work all =
+      let labels : List ℕ = found.origins.labels.items in
       record {
         room = subst (λ n. HasLabels (layout_of image) n labels) (sym is) work.so_far.room;
         sound = subst (λ n. (b : Block) (kind : ℕ) (o : Origin) → IsBlock (layout_of image) b → kind < n → origin_at n labels b kind ≡ Some o
@@ -209,7 +172,8 @@ module _ (image : Image) (kinds : ℕ → ℕ) (links : Links) (count : ℕ) whe
             (work.so_far.told b kind o block below tells)).1);
         complete = subst (λ n. (b : Block) (kind root : ℕ) → ReachesFrom image kinds links root b kind → (kind < n)
             × Covers (origin_at n labels b kind) (One root)) (sym is)
-            (λ b kind root reached. complete found labels work.so_far work.roots_followed all root b kind reached);
+            (λ b kind root reached. complete found.list.items labels work.so_far work.roots_followed
+            (λ f here. All-contains (HasPropagated image links count labels) found.list.items f all here) root b kind reached);
       }
 
 -- a root that reaches, of the chosen ones

@@ -1,3 +1,4 @@
 pub mod Origins
 pub mod Reaching
 pub mod Steps
+pub mod Laws

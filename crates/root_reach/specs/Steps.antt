@@ -1,16 +1,20 @@
 -- What the steps of the trace leave, in terms of lists: what has been found, and the labels.
-use Rattle.std.specs.Prelude.{◌≡◌, ℕ, ◌+◌, ◌<◌, ◌≤◌, Some, List, [], ◌∷◌, ◌++◌, length, take, slice_index, slice_set, Contains}
+use Rattle.std.specs.Prelude.{◌≡◌, ℕ, ◌+◌, ◌*◌, ◌<◌, ◌≤◌, Some, List, [], ◌∷◌, ◌++◌, length, slice_index, slice_set, Contains}
 use Rattle.std.specs.List.{sum_by}
 use Rattle.heap_model.specs.declared.block.Block.{Block}
 use Rattle.heap_model.specs.Geometry.{roots, root_word}
 use Rattle.heap_model.specs.Image.{Image}
+use Rattle.heap_model.specs.Header.{IsWellFormed}
 use Rattle.heap_model.specs.Blocks.{layout_of, IsBlock}
 use Rattle.heap_model.specs.Pointers.{Leads}
 use Rattle.heap_model.specs.Reach.{Links, words_in}
+use Rattle.super_block.specs.Division.{Divisions, Describes}
+use Rattle.filter_trace.specs.Walks.{IsExtended}
 use Rattle.filter_trace.specs.Pairs.{mark_of}
 use Rattle.root_reach.specs.declared.origin.Origin.{Origin}
 use Rattle.root_reach.specs.declared.origin.Origin.TheVariants.{One}
 use Rattle.root_reach.specs.declared.labels.Finding.{Finding}
+use Rattle.root_reach.specs.declared.labels.Labelling.{Labelling}
 use Rattle.root_reach.specs.Origins.{Covers, Joins, origin_in, origin_at, label_of, rank}
 use Rattle.root_reach.specs.Reaching.{Tells, HasLabels}
 
@@ -54,8 +58,7 @@ pub record AreFindings (image : Image) (kinds : ℕ → ℕ) (links : Links) (co
 
 -- more has been found, and what the labels told is still told
 pub record Grows (found found' : List Finding) (labels labels' : List ℕ) : Type 0 where
-  pub more : List Finding
-  pub is : found' ≡ found ++ more
+  pub more : IsExtended found found'
   pub still : (i : ℕ) (origin : Origin) → Covers (origin_in (slice_index labels i)) origin
       → Covers (origin_in (slice_index labels' i)) origin
   pub long : length labels' ≡ length labels
@@ -73,10 +76,18 @@ pub record PropagatesLinks (image : Image) (kinds : ℕ → ℕ) (links : Links)
   pub grown : Grows found found' labels labels'
   pub followed : ArePropagated image count labels' a origin upto
 
--- what the trace knows when it has followed the roots and the links of what was found first
-pub record IsWorklist (image : Image) (kinds : ℕ → ℕ) (links : Links) (count next : ℕ)
-    (found : List Finding) (labels : List ℕ) : Type 0 where
+-- what the trace keeps once it has followed the roots: what was found is so, and what the roots lead to is told of
+pub record HasRootOrigins (image : Image) (kinds : ℕ → ℕ) (links : Links) (count : ℕ) (found : List Finding) (labels : List ℕ) : Type 0 where
   pub so_far : AreFindings image kinds links count found labels
   pub roots_followed : (i : ℕ) → i < roots → IsPropagated image count labels (root_word i) (kinds i) (One i)
-  pub links_followed : (f : Finding) → Contains (take next found) f → HasPropagated image links count labels f
-  pub within : next ≤ length found
+
+-- the same with the image and its directory
+pub record IsOriginTraceOf (words kinds : List ℕ) (directory : Divisions) (links : Links) (count : ℕ) (found : Labelling) : Type 0 where
+  pub formed : IsWellFormed (8 * length words) (slice_index words)
+  pub described : Describes directory (layout_of (slice_index words))
+  pub same : found.origins.kinds ≡ count
+  pub findings : HasRootOrigins (slice_index words) (slice_index kinds) links count found.list.items found.origins.labels.items
+
+-- the links of what was found have been followed
+abbrev pub IsPropagatedIn : List ℕ → Links → ℕ → Labelling → Finding → Type 0
+IsPropagatedIn words links count found = HasPropagated (slice_index words) links count found.origins.labels.items

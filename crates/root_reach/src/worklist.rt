@@ -1,4 +1,4 @@
-//! The trace: a worklist of what was found, from the roots on. What is told of a block as one of a
+//! The trace: a walk over what was found, from the roots on. What is told of a block as one of a
 //! kind changes twice at most, from no root to one, and to several, and is followed each time.
 ghost use Rattle.std.specs.Prelude.{◌≡◌, ◌*◌, ◌<◌, length, slice_index, IfOk};
 ghost use Rattle.std.specs.List.{All};
@@ -8,9 +8,9 @@ ghost use Rattle.heap_model.specs.Blocks.{layout_of};
 ghost use Rattle.super_block.specs.Division.{Describes};
 ghost use Rattle.root_reach.specs.Reaching.{AreOrigins};
 
-use crate::labels::{Labelling, Origins};
+use crate::labels::{Finding, Labelling, Origins};
 use crate::steps::{follow_links, follow_roots};
-use filter_trace::{Filter, Scan};
+use filter_trace::{Filter, Scan, Walk, follow_all};
 use std::alloc::{AllocError, Global};
 use super_block::{CAPACITY_WORD, Geometry, USED_WORD};
 
@@ -36,14 +36,60 @@ pub fn trace_origins<F: Filter>(
 {
     let mut found = Labelling::new(alloc, words_of_taken(scan.words), F::KINDS)?;
     follow_roots(scan, kinds, filter, &mut found)?;
-    let mut next = 0;
-    while next < found.list.len() {
-        let finding = found.list[next];
-        follow_links(scan, kinds, filter, finding, &mut found)?;
-        next += 1;
-    }
+    let walk = ByOrigins {
+        scan,
+        kinds,
+        filter,
+    };
+    follow_all(&walk, &mut found)?;
     let Labelling { list: _, origins } = found;
     Ok(origins)
+}
+
+// From what was found of a block to what its links lead to.
+#[derive(Drop)]
+struct ByOrigins<'a, 'b, 'c, 'd, F> {
+    scan: &'a Scan<'b>,
+    kinds: &'c [u32],
+    filter: &'d F,
+}
+
+impl<F: Filter> Walk for ByOrigins<'_, '_, '_, '_, F> {
+    ghost use Rattle.std.specs.Prelude.{⊤};
+    ghost use Rattle.root_reach.specs.Steps.{IsOriginTraceOf, IsPropagatedIn};
+    ghost use Rattle.root_reach.specs.Laws.{few_found};
+
+    type Found = Labelling;
+
+    type Entry = Finding;
+
+    type Fault = AllocError;
+
+    ghost entries = { λ found. found.list.items };
+
+    ghost most = { λ found. 2 * length found.origins.labels.items };
+
+    ghost sound = { λ walk. IsOriginTraceOf walk.scan.now.words.now walk.kinds.now
+        walk.scan.now.directory.now (F.links_of walk.filter.now) F.KINDS };
+
+    ghost followed = { λ walk. IsPropagatedIn walk.scan.now.words.now
+        (F.links_of walk.filter.now) F.KINDS };
+
+    ghost tells = { λ _ _. ⊤ };
+
+    fn count(&self, found: &Labelling) -> usize {
+        found.list.len()
+    }
+
+    fn entry_at(&self, found: &Labelling, at: usize) -> Finding {
+        found.list[at]
+    }
+
+    fn follow(&self, entry: Finding, found: &mut Labelling) -> Result<(), AllocError> {
+        follow_links(self.scan, self.kinds, self.filter, entry, found)
+    }
+
+    ghost few = { λ walk found is. few_found _ _ _ _ _ _ is.findings.so_far };
 }
 
 // How many words the image has up to the end of the superblocks that were taken: no block has one
