@@ -10,8 +10,10 @@ use Rattle.heap_model.specs.Blocks.{layout_of}
 use Rattle.heap_model.specs.Pointers.{Leads}
 use Rattle.heap_model.specs.Reach.{Links, words_in, AreInside}
 use Rattle.filter_trace.specs.Pairs.{AreMarked}
-use Rattle.filter_trace.specs.Trace.{Each, IsExtended}
-use Rattle.filter_trace.proofs.TraceStepLemmas.{no_more, more_and_more, kept, still_followed, follow_marked, follow_grows, follow_long, follow_each, follow_followed}
+use Rattle.filter_trace.specs.Trace.{Each}
+use Rattle.filter_trace.specs.Walks.{IsExtended}
+use Rattle.filter_trace.proofs.WalkLemmas.{no_more, more_and_more, kept}
+use Rattle.filter_trace.proofs.TraceStepLemmas.{still_followed, follow_marked, follow_grows, follow_long, follow_each, follow_followed}
 use Rattle.mixed_trace.specs.declared.mode.Mode.{Mode}
 use Rattle.mixed_trace.specs.declared.mode.Mode.TheVariants.{Kind, All}
 use Rattle.mixed_trace.specs.Reach.{FitsBelow, CountsAs, ReachMixed}
@@ -96,7 +98,7 @@ module _ (image : Image) (limit at : ℕ) (pairs pairs' : List (Block × ℕ)) (
 pub still_as : (image : Image) (limit : ℕ) (pairs pairs' : List (Block × ℕ)) (at : ℕ) (mode : Mode) → IsExtended pairs pairs'
     → IsFollowedAs image limit pairs at mode → IsFollowedAs image limit pairs' at mode
 still_as image limit pairs pairs' at (Kind kind) grown was = still_followed image pairs pairs' at kind grown was
-still_as image limit pairs pairs' at All grown was = record { here = λ b leads. kept pairs pairs' b limit grown (was.here b leads) }
+still_as image limit pairs pairs' at All grown was = record { here = λ b leads. kept pairs pairs' (b, limit) grown (was.here b leads) }
 
 -- what a followed word leads to is there
 pub as_has : (image : Image) (limit : ℕ) (pairs : List (Block × ℕ)) (at : ℕ) (mode : Mode) (b : Block) → IsFollowedAs image limit pairs at mode

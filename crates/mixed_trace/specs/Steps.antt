@@ -1,16 +1,19 @@
 -- What the steps of the trace leave, in terms of lists.
-use Rattle.std.specs.Prelude.{◌≡◌, ℕ, ◌+◌, ◌<◌, ◌≤◌, Bool, List, length, take, slice_index, Contains}
+use Rattle.std.specs.Prelude.{◌≡◌, ℕ, ◌+◌, ◌<◌, Bool, List, length, slice_index, Contains}
 use Rattle.heap_model.specs.declared.block.Block.{Block}
 use Rattle.heap_model.specs.Geometry.{roots, root_word}
 use Rattle.heap_model.specs.Image.{Image}
 use Rattle.heap_model.specs.Blocks.{layout_of}
 use Rattle.heap_model.specs.Pointers.{Leads, LeadsOutside}
 use Rattle.heap_model.specs.Reach.{Links}
+use Rattle.super_block.specs.Division.{Divisions, Describes}
 use Rattle.filter_trace.specs.declared.fault.TraceFault.{TraceFault}
 use Rattle.filter_trace.specs.declared.fault.TraceFault.TheVariants.{Memory}
 use Rattle.filter_trace.specs.declared.pairs.PairSet.{PairSet}
 use Rattle.filter_trace.specs.Pairs.{AreMarked}
-use Rattle.filter_trace.specs.Trace.{Follows, IsFollowedWord, Each, IsExtended, TellsOfWord}
+use Rattle.filter_trace.specs.Steps.{IsImage}
+use Rattle.filter_trace.specs.Trace.{Follows, IsFollowedWord, Each, TellsOfWord}
+use Rattle.filter_trace.specs.Walks.{IsExtended}
 use Rattle.mixed_trace.specs.declared.mode.Mode.{Mode}
 use Rattle.mixed_trace.specs.declared.mode.Mode.TheVariants.{Kind, All}
 use Rattle.mixed_trace.specs.Reach.{modes_of, FitsBelow, CountsAs, ReachMixed}
@@ -93,12 +96,10 @@ pub record IsFollowedPair (image : Image) (links : Links) (limit : ℕ) (pairs :
   pub each : (from : Mode) → FitsBelow limit from → number ≡ code limit from → (at : ℕ) (mode : Mode)
       → IsCounted image links a from at mode → IsFollowedAs image limit pairs at mode
 
--- what a trace knows when it has followed the roots and the words of the first `next` pairs
-pub record IsMixedWork (image : Image) (modes : ℕ → Mode) (links : Links) (limit next : ℕ) (pairs : List (Block × ℕ)) (marks : List Bool) : Type 0 where
+-- what a trace keeps once it has followed the roots: each pair is reached and marked, and what the roots lead to is there
+pub record HasRootsMixed (image : Image) (modes : ℕ → Mode) (links : Links) (limit : ℕ) (pairs : List (Block × ℕ)) (marks : List Bool) : Type 0 where
   pub found : AreFoundMixed image modes links limit pairs marks
   pub roots_followed : (at : ℕ) (mode : Mode) → IsRootAmong modes roots at mode → IsFollowedAs image limit pairs at mode
-  pub words_followed : Each (IsFollowedPair image links limit pairs) (take next pairs)
-  pub within : next ≤ length pairs
 
 -- the same of an image's words and of a set of pairs
 abbrev pub HasFoundMixed : List ℕ → List Mode → Links → ℕ → PairSet → Type 0
@@ -108,3 +109,14 @@ HasFoundMixed words modes links limit set = AreFoundMixed (slice_index words) (m
 abbrev pub FollowsEachOf : List ℕ → List Mode → Links → ℕ → (ℕ → Mode → Type 0) → PairSet → PairSet → Type 0
 FollowsEachOf words modes links limit which old new =
     FollowsEach (slice_index words) (modes_of modes) links limit which old.pairs.items new.pairs.items old.marks new.marks
+
+-- what a trace keeps once it has followed the roots, with the image and its directory
+pub record IsMixedTraceOf (words : List ℕ) (modes : List Mode) (directory : Divisions) (links : Links) (limit : ℕ) (set : PairSet) : Type 0 where
+  pub formed : IsImage words
+  pub described : Describes directory (layout_of (slice_index words))
+  pub same : set.kinds ≡ limit + 1
+  pub pairs : HasRootsMixed (slice_index words) (modes_of modes) links limit set.pairs.items set.marks
+
+-- the words of the pair's block that count have been followed
+abbrev pub IsFollowedIn : List ℕ → Links → ℕ → PairSet → Block × ℕ → Type 0
+IsFollowedIn words links limit set pair = IsFollowedPair (slice_index words) links limit set.pairs.items pair.0 pair.1

@@ -1,4 +1,4 @@
-//! The trace: a worklist of pairs of a block and a mode, from the roots on.
+//! The trace: a walk over pairs of a block and a mode, from the roots on.
 ghost use Rattle.std.specs.Prelude.{◌≡◌, ℕ, ◌*◌, length, slice_index, IfOk, OnOk, IfErr};
 ghost use Rattle.std.specs.List.{All};
 ghost use Rattle.heap_model.specs.Geometry.{roots};
@@ -11,7 +11,8 @@ ghost use Rattle.mixed_trace.specs.Codes.{AreReachedMixed, TellsOutsideMixed};
 use crate::marks::MixedMarks;
 use crate::mode::Mode;
 use crate::steps::{follow_block, follow_roots};
-use filter_trace::{Filter, Marks, PairSet, Scan, TraceFault};
+use filter_trace::{Filter, Marks, PairSet, Scan, TraceFault, Walk, follow_all};
+use heap_model::Block;
 use std::alloc::Global;
 use super_block::Directory;
 
@@ -43,20 +44,66 @@ pub fn trace_mixed<F: Filter>(
     };
     let directory = Directory::of(alloc, words)?;
     let mut found = PairSet::new(alloc, words.len(), numbers)?;
-    let scan = Scan {
-        words,
-        directory: &directory,
+    let walk = ByModes {
+        scan: Scan {
+            words,
+            directory: &directory,
+        },
+        modes,
+        filter,
     };
-    follow_roots(&scan, modes, filter, &mut found)?;
-    let mut next = 0;
-    while next < found.pairs.len() {
-        let (block, number) = found.pairs[next];
-        let mode = Mode::from_code(F::KINDS, number);
-        follow_block(&scan, modes, filter, block, mode, &mut found)?;
-        next += 1;
-    }
+    follow_roots(&walk.scan, modes, filter, &mut found)?;
+    follow_all(&walk, &mut found)?;
     Ok(MixedMarks {
         limit: F::KINDS,
         marks: Marks::of(directory, found),
     })
+}
+
+// From a pair to what the words of its block lead to that count.
+#[derive(Drop)]
+struct ByModes<'a, 'b, 'c, F> {
+    scan: Scan<'a>,
+    modes: &'b [Mode],
+    filter: &'c F,
+}
+
+impl<F: Filter> Walk for ByModes<'_, '_, '_, F> {
+    ghost use Rattle.mixed_trace.specs.Steps.{IsMixedTraceOf, IsFollowedIn};
+    ghost use Rattle.filter_trace.specs.Laws.{few_pairs};
+
+    type Found = PairSet;
+
+    type Entry = (Block, u32);
+
+    type Fault = TraceFault;
+
+    ghost entries = { λ set. set.pairs.items };
+
+    ghost most = { λ set. length set.marks };
+
+    ghost sound = { λ walk. IsMixedTraceOf walk.scan.words.now walk.modes.now
+        walk.scan.directory.now (F.links_of walk.filter.now) F.KINDS };
+
+    ghost followed = { λ walk. IsFollowedIn walk.scan.words.now (F.links_of walk.filter.now)
+        F.KINDS };
+
+    ghost tells = { λ walk. TellsOutsideMixed (slice_index walk.scan.words.now)
+        (modes_of walk.modes.now) (F.links_of walk.filter.now) };
+
+    fn count(&self, found: &PairSet) -> usize {
+        found.pairs.len()
+    }
+
+    fn entry_at(&self, found: &PairSet, at: usize) -> (Block, u32) {
+        found.pairs[at]
+    }
+
+    fn follow(&self, entry: (Block, u32), found: &mut PairSet) -> Result<(), TraceFault> {
+        let (block, number) = entry;
+        let mode = Mode::from_code(F::KINDS, number);
+        follow_block(&self.scan, self.modes, self.filter, block, mode, found)
+    }
+
+    ghost few = { λ walk set is. few_pairs _ _ _ _ is.pairs.found.marked };
 }
