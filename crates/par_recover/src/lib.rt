@@ -7,4 +7,4 @@ mod recovery;
 mod room;
 mod surveys;
 
-pub use recovery::{recover_owned_par, recover_par};
+pub use recovery::{recover_current_par, recover_owned_par, recover_par};

@@ -123,7 +123,7 @@ pub fn recover_owned_par<R: Threads + Sync, F: Filter + Sync>(
 }
 
 /// Recovers an image of this version with a good header, of which it is known whether it was closed.
-fn recover_current_par<R: Threads + Sync, F: Filter + Sync>(
+pub fn recover_current_par<R: Threads + Sync, F: Filter + Sync>(
     rt: &R,
     alloc: Global,
     words: Vec<u64>,
