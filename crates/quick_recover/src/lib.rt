@@ -13,4 +13,4 @@ pub use laws::{
     what_is_opened_quickly_drains_alike, what_is_orderly_and_reached_opens_alike,
     words_of_full_superblocks_do_not_count,
 };
-pub use open::{Path, Quick, quick_open, quick_open_owned};
+pub use open::{Path, Quick, quick_open, quick_open_current, quick_open_owned};

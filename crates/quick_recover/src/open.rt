@@ -92,7 +92,7 @@ pub fn quick_open<F: Filter>(
     // A bad header is told before there is memory for a copy.
     let header = read_header(words, Some(F::KINDS))?;
     let current = current_copy(alloc, words, header.version, kinds)?;
-    open_current(alloc, current, header.clean, filter)
+    quick_open_current(alloc, current, header.clean, filter)
 }
 
 /// The same in the room of the image, which is gone where it is refused.
@@ -144,11 +144,11 @@ pub fn quick_open_owned<F: Filter>(
 {
     let header = read_header(&words, Some(F::KINDS))?;
     let current = current(words, kinds)?;
-    open_current(alloc, current, header.clean, filter)
+    quick_open_current(alloc, current, header.clean, filter)
 }
 
 /// Opens an image of this version with a good header, of which it is known whether it was closed.
-fn open_current<F: Filter>(
+pub fn quick_open_current<F: Filter>(
     alloc: Global,
     words: Vec<u64>,
     closed: bool,

@@ -6,14 +6,14 @@ use Rattle.heap_model.specs.Header.{header_fault}
 use Rattle.quick_recover.proofs.OpenLemmas.{not_refused}
 use Rattle.quick_recover.proofs.open.quick_open_owned.Goals as goal
 
-pub open_current-requires-clause-formed : goal.open_current-requires-clause-formed
-open_current-requires-clause-formed g c = subst (λ (l : List ℕ). IsWellFormed (8 * length l) (slice_index l)) (sym c.in_ok-current.ensures.ok)
+pub quick_open_current-requires-clause-formed : goal.quick_open_current-requires-clause-formed
+quick_open_current-requires-clause-formed g c = subst (λ (l : List ℕ). IsWellFormed (8 * length l) (slice_index l)) (sym c.in_ok-current.ensures.ok)
     (current_formed (Some g.F.Filter.KINDS) c.args.words.items c.args.kinds.now c.requires.roots
     (subst (λ (l : List ℕ). HasGoodHeader (Some g.F.Filter.KINDS) (8 * length l) (slice_index l)) c.deref.ensures.value
     (subst (λ k. HasGoodHeader (Some k) (8 * length c.deref.result.now) (slice_index c.deref.result.now)) c.KINDS.ensures c.in_ok-header.ensures.good)))
 
-pub open_current-requires-clause-below : goal.open_current-requires-clause-below
-open_current-requires-clause-below g c = subst (λ (l : List ℕ). HasKindsBelow (Some g.F.Filter.KINDS) (slice_index l)) (sym c.in_ok-current.ensures.ok)
+pub quick_open_current-requires-clause-below : goal.quick_open_current-requires-clause-below
+quick_open_current-requires-clause-below g c = subst (λ (l : List ℕ). HasKindsBelow (Some g.F.Filter.KINDS) (slice_index l)) (sym c.in_ok-current.ensures.ok)
     (current_below (Some g.F.Filter.KINDS) c.args.words.items c.args.kinds.now c.requires.roots
     (subst (λ (l : List ℕ). HasGoodHeader (Some g.F.Filter.KINDS) (8 * length l) (slice_index l)) c.deref.ensures.value
     (subst (λ k. HasGoodHeader (Some k) (8 * length c.deref.result.now) (slice_index c.deref.result.now))

@@ -3,7 +3,7 @@ use Rattle.std.specs.Prelude.{MatchOption}
 use Rattle.heap_recover.specs.declared.taken.Found.{Found}
 use Rattle.quick_recover.specs.Anchored.{IsDisorderly, TellsAll}
 use Rattle.quick_recover.proofs.OpenLemmas.{opened_quick}
-use Rattle.quick_recover.proofs.open.open_current.Goals as goal
+use Rattle.quick_recover.proofs.open.quick_open_current.Goals as goal
 
 pub trace_current-requires-in-None-clause-disorderly : goal.trace_current-requires-in-None-clause-disorderly
 trace_current-requires-in-None-clause-disorderly g c =
