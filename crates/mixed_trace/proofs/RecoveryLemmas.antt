@@ -1,5 +1,5 @@
 -- Recovery keeps what is marked, and that is what is reached.
-use Rattle.std.proofs.Common.{ℕ, List, subst, slice_index}
+use Rattle.std.proofs.Common.{◌≡◌, ℕ, List, subst, slice_index}
 use Rattle.std.specs.Prelude.{Contains}
 use Rattle.heap_model.specs.declared.block.Block.{Block}
 use Rattle.heap_model.specs.Image.{Image}
@@ -52,6 +52,12 @@ pub tells_here : (image : Image) (modes : ℕ → Mode) (links : Links) (fault :
     → TellsOutsideHere image modes links (of_trace fault)
 tells_here image modes links (Outside at value) told = told
 tells_here image modes links Memory told = tt
+
+-- nothing is told as outside where no root has a filter
+pub never_outside : (image : Image) (modes : ℕ → Mode) (links : Links) (fault : RecoverFault) (at value : ℕ) → HaveNoFilter modes
+    → fault ≡ OutsideIn at value → TellsOutsideHere image modes links fault → ⊥
+never_outside image modes links fault at value none is told =
+    not_outside image modes links none at (subst (λ (f : RecoverFault). TellsOutsideHere image modes links f) is told).0
 
 -- of images of no filter none but the header is refused
 pub tells_header : (words current : List ℕ) (modes : ℕ → Mode) (links : Links) (fault : RecoverFault) → HaveNoFilter modes

@@ -1,16 +1,16 @@
 //! Recovery with no filter at all.
-ghost use Rattle.std.specs.Prelude.{◌≡◌, ◌↔◌, ◌*◌, None, Some, Err, length, slice_index, IfOk, OnOk, IfErr};
+ghost use Rattle.std.specs.Prelude.{◌≡◌, ◌↔◌, ◌*◌, None, Some, Err, length, slice_index, IfOk, OnOk, IfErr, IsTrue};
 ghost use Rattle.heap_model.specs.declared.header.BadHeader.{BadHeader};
 ghost use Rattle.heap_model.specs.Geometry.{clean};
-ghost use Rattle.heap_model.specs.Header.{HasGoodHeader, header_fault, state_of};
+ghost use Rattle.heap_model.specs.Header.{HasGoodHeader, IsWellFormed, header_fault, state_of};
 ghost use Rattle.heap_recover.specs.Answer.{IsMadeOf};
 ghost use Rattle.mixed_trace.specs.Conservative.{IsReachedByWords, current_without_kinds, TellsHeader};
 
 use crate::mode::Mode;
-use crate::recovery::recover_mixed;
+use crate::recovery::{recover_current, recover_mixed};
 use filter_trace::Filter;
 use heap_recover::{RecoverFault, Recovered, Was};
-use std::alloc::Global;
+use std::alloc::{AllocError, Global};
 use super_block::ROOTS;
 
 /// Blocks of no kind, which is all that there are.
@@ -54,4 +54,25 @@ pub fn recover_conservatively(alloc: Global, words: &[u64]) -> Result<Recovered,
 {
     let modes = [Mode::All; ROOTS as usize];
     recover_mixed(alloc, words, &modes, &NoFilter)
+}
+
+/// The same of an image of this version with a good header, in its own room. It is known whether
+/// the image was closed. Nothing but want of memory is told.
+pub fn recover_current_conservatively(
+    alloc: Global,
+    words: Vec<u64>,
+    closed: bool,
+) -> Result<Recovered, AllocError>
+    requires formed { IsWellFormed (8 * length words.items) (slice_index words.items) }
+    requires closed { IsTrue closed ↔ (state_of (slice_index words.items) ≡ clean) }
+    ensures ok { IfOk result
+        (IsMadeOf words.items (IsReachedByWords (slice_index words.items))) }
+{
+    let modes = [Mode::All; ROOTS as usize];
+    match recover_current(alloc, words, closed, &modes, &NoFilter) {
+        Ok(recovered) => Ok(recovered),
+        Err(RecoverFault::Memory) => Err(AllocError),
+        Err(RecoverFault::Outside { at: _, value: _ }) => unreachable!(),
+        Err(RecoverFault::Header(_)) => unreachable!(),
+    }
 }

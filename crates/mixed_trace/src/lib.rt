@@ -10,7 +10,7 @@ mod recovery;
 mod steps;
 mod worklist;
 
-pub use conservative::recover_conservatively;
+pub use conservative::{recover_conservatively, recover_current_conservatively};
 pub use laws::{
     kinds_alone_are_as_in_a_trace, no_less_is_held_with_fewer_filters,
     nothing_is_refused_without_filters,

@@ -57,7 +57,7 @@ pub fn recover_mixed<F: Filter>(
 }
 
 /// Recovers an image of this version with a good header.
-fn recover_current<F: Filter>(
+pub fn recover_current<F: Filter>(
     alloc: Global,
     words: Vec<u64>,
     closed: bool,
