@@ -1,37 +1,31 @@
 //! Recovers an image with no filter, and makes what is printed.
-ghost use Rattle.std.specs.Prelude.{◌≡◌, ◌*◌, None, Some, Err, length, slice_index, IfOk, OnOk, IfErr};
-ghost use Rattle.heap_model.specs.declared.header.BadHeader.{BadHeader};
-ghost use Rattle.heap_model.specs.Header.{HasGoodHeader, header_fault};
-ghost use Rattle.mixed_trace.specs.Conservative.{current_without_kinds, TellsHeader};
+ghost use Rattle.std.specs.Prelude.{◌≡◌, ◌↔◌, ◌*◌, length, slice_index, IfOk, IsTrue};
+ghost use Rattle.heap_model.specs.Geometry.{clean};
+ghost use Rattle.heap_model.specs.Header.{IsWellFormed, state_of};
 ghost use Rattle.image_run.specs.Conservative.{IsHeapText, TellsByWords};
 
 use crate::reporting::with_map_behind;
-use heap_recover::{RecoverFault, Recovered};
-use mixed_trace::recover_conservatively;
+use heap_recover::Recovered;
+use mixed_trace::recover_current_conservatively;
 use region_header::Bytes;
 use std::alloc::{AllocError, Global};
 use trace_text::report_text;
 
-/// The report without keys on an image that is recovered with no filter, and its map where that is
-/// asked for. Only a bad header is refused. No shard is read: what looks like a table need not be
-/// one.
+/// The report without keys on an image of this version with a good header, which is recovered with
+/// no filter, and its map where that is asked for. It is known whether the image was closed. No
+/// shard is read: what looks like a table need not be one.
 pub fn conservative_text(
     alloc: Global,
-    words: &[u64],
+    words: Vec<u64>,
+    closed: bool,
     with_map: bool,
-) -> Result<Bytes, RecoverFault>
-    ensures ok { IfOk result
-        (TellsByWords (slice_index (current_without_kinds words.now)) with_map) }
-    ensures good { OnOk result
-        (HasGoodHeader None (8 * length words.now) (slice_index words.now)) }
-    ensures cause { IfErr result (TellsHeader words.now) }
-    ensures header { (cause : BadHeader)
-        → header_fault None (8 * length words.now) (slice_index words.now) ≡ Some cause
-        → result ≡ Err (RecoverFault.Header cause) }
+) -> Result<Bytes, AllocError>
+    requires formed { IsWellFormed (8 * length words.items) (slice_index words.items) }
+    requires closed { IsTrue closed ↔ (state_of (slice_index words.items) ≡ clean) }
+    ensures ok { IfOk result (TellsByWords (slice_index words.items) with_map) }
 {
-    let recovered = recover_conservatively(alloc, words)?;
-    let text = unkeyed_text(alloc, &recovered, with_map)?;
-    Ok(text)
+    let recovered = recover_current_conservatively(alloc, words, closed)?;
+    unkeyed_text(alloc, &recovered, with_map)
 }
 
 /// The report without keys on a heap that was opened, whatever way, and its map where that is asked

@@ -6,13 +6,10 @@ use Rattle.byteorder.specs.Endian.{little_number}
 use Rattle.byteorder.specs.Numbers.{little_from-take}
 use Rattle.heap_model.specs.declared.header.BadHeader.{BadHeader}
 use Rattle.heap_model.specs.Image.{Image, image_of_bytes}
-use Rattle.heap_model.specs.Header.{header_fault, has_fault, HasGoodHeader, is_old, most_superblocks, whole_words, first_kinds}
+use Rattle.heap_model.specs.Header.{header_fault, has_fault, HasGoodHeader, is_old, most_superblocks, whole_words}
 use Rattle.heap_model.specs.Geometry.{image_words, old_image_words, largest_capacity, largest_old_capacity, old_capacities_fit}
 use Rattle.heap_model.proofs.HeaderLemmas.{no_fault}
 use Rattle.heap_recover.specs.declared.answer.Recovered.{Recovered}
-use Rattle.heap_recover.specs.declared.fault.RecoverFault.{RecoverFault}
-use Rattle.heap_recover.specs.declared.fault.RecoverFault.TheVariants.{Header, Outside as OutsideFound, Memory as RecoverMemory}
-use Rattle.region_header.specs.Migration.{current_words}
 use Rattle.region_header.proofs.SameHeader.{SameHeader}
 use Rattle.tool_ports.specs.Contents.{Contents, Holds, HoldsFirst, Lacks}
 use Rattle.tool_ports.specs.declared.image_store.GetFault.{GetFault}
@@ -21,14 +18,13 @@ use Rattle.tool_run.specs.declared.fault.Fault.{Fault}
 use Rattle.tool_run.specs.declared.fault.Fault.TheVariants.{Malformed}
 use Rattle.tool_run.specs.Calls.{get_limit}
 use Rattle.tool_command.specs.Command.{Command, image_name}
-use Rattle.tool_run.specs.Inside.{Refuses, fault_of_recovery, fault_of_get}
-use Rattle.tool_run.proofs.FilterLemmas.{follows_refuses}
-use Rattle.tool_run.specs.Making.{fault_within, image_in, Shows, IsMalformed, HasOutside, PointsOutside}
-use Rattle.tool_run.specs.CommandUses.{GetsImage, FollowsLinks, kinds_checked}
-use Rattle.tool_run.specs.Recovering.{IsGoodImage, HoldsImage, IsRecoveredHeapOf, IsRecoveredFrom, IsRecoveredHeap, IsRecoveryFault, IsTextOf, words_in_bytes}
+use Rattle.tool_run.specs.Inside.{Refuses, fault_of_get}
+use Rattle.tool_run.specs.Making.{fault_within, image_in, Shows, IsMalformed}
+use Rattle.tool_run.specs.CommandUses.{GetsImage, kinds_checked}
+use Rattle.tool_run.specs.Recovering.{IsGoodImage, IsRecoveredHeapOf, IsTextOf}
 use Rattle.std.specs.BTreeMap.{BTreeMap}
 use Rattle.heap_model.specs.Rest.{IsReady}
-use Rattle.dict_model.specs.Links.{shards, kind_count}
+use Rattle.dict_model.specs.Links.{shards}
 use Rattle.dictionary.specs.Reading.{AreMaps}
 use Rattle.dictionary.proofs.SameLemmas.{maps_of_image}
 use Rattle.image_run.proofs.RecoveredLemmas.{recovers_to}
@@ -129,33 +125,7 @@ whole_image limit (Some image_of) name got first good =
     let whole : got ≡ at.0 = at.2 ∙ take_all get_limit at.0 (short_whole at.0 cut) in
     record { is_there = at.1 ∙ ap (λ (l : List ℕ). Some l) (sym whole); good = no_fault limit (length got) (image_of_bytes got) good }
 
--- the same, where the header of other bytes that are these was looked at
-pub whole_shown : (limit : Option ℕ) (contents : Contents) (name got shown : List ℕ) → HoldsFirst contents name get_limit got → shown ≡ got
-    → HasGoodHeader limit (length shown) (image_of_bytes shown) → IsGoodImage limit contents name got
-whole_shown limit contents name got shown first are good =
-    whole_image limit contents name got first (subst (λ (l : List ℕ). HasGoodHeader limit (length l) (image_of_bytes l)) are good)
-
--- what the tool tells of a recovery that failed, where a command follows the links of the image
-pub is_refused : (contents : Contents) (name got shown : List ℕ) (get_failed : Type 0) (cause : RecoverFault) (fault : Fault)
-    → fault ≡ fault_of_recovery cause → IsGoodImage (Some kind_count) contents name got → shown ≡ got → IsRecoveryFault (image_in shown) cause
-    → (command : Command) → FollowsLinks command → image_name command ≡ name → Refuses command contents get_failed fault
-is_refused contents name got shown get_failed (Header cause) fault is whole are why command follows named = absurd why
-is_refused contents name got shown get_failed RecoverMemory fault is whole are why command follows named =
-    subst (λ (f : Fault). Refuses command contents get_failed f) (sym is) tt
-is_refused contents name got shown get_failed (OutsideFound at value) fault is whole are why command follows named =
-    let here : PointsOutside (image_in got) at = subst (λ (l : List ℕ). PointsOutside (image_in l) at) are why.0 in
-    let there : value ≡ image_in got at = why.1 ∙ ap (λ (l : List ℕ). image_in l at) are in
-    let has : HasOutside contents name at value = record {
-      bytes = got;
-      is_there = whole.is_there;
-      good = whole.good;
-      points = here;
-      value_is = there;
-    } in
-    subst (λ (f : Fault). Refuses command contents get_failed f) (sym is)
-    (subst (λ (n : List ℕ). HasOutside contents n at value) (sym named) has, follows_refuses command _ follows)
-
--- the same of a failed get
+-- what the tool tells of a failed get
 pub is_not_got : (contents : Contents) (name : List ℕ) (get_failed : Type 0) (cause : GetFault) (fault : Fault)
     → fault ≡ fault_of_get cause → (cause ≡ NoSuchImage → Lacks contents name) → (cause ≡ GetFailed → get_failed)
     → (command : Command) → GetsImage command → image_name command ≡ name → Refuses command contents get_failed fault
@@ -166,34 +136,7 @@ is_not_got contents name get_failed GetFailed fault is lacks failed command gets
 is_not_got contents name get_failed GetMemory fault is lacks failed command gets named =
     subst (λ (f : Fault). Refuses command contents get_failed f) (sym is) tt
 
--- an image that was recovered
-pub is_recovered : (contents : Contents) (name got shown : List ℕ) (recovered : Recovered) → IsGoodImage (Some kind_count) contents name got
-    → shown ≡ got
-    → IsRecoveredHeap (image_in shown) recovered → ((at : ℕ) → PointsOutside (image_in shown) at → ⊥) → HoldsImage shown
-    → length recovered.heap.words ≡ length (current_words (words_in_bytes shown) first_kinds) → IsRecoveredHeapOf contents name recovered
-is_recovered contents name got shown recovered whole are is inside formed long = record {
-  bytes = got;
-  is_there = whole.is_there;
-  good = whole.good;
-  inside = subst (λ (l : List ℕ). (at : ℕ) → PointsOutside (image_in l) at → ⊥) are inside;
-  formed = subst (λ (l : List ℕ). HoldsImage l) are formed;
-  is = subst (λ (l : List ℕ). IsRecoveredHeap (image_in l) recovered) are is;
-  long = subst (λ (l : List ℕ). length recovered.heap.words ≡ length (current_words (words_in_bytes l) first_kinds)) are long;
-}
-
--- and its words beside it
-pub is_recovered_from : (contents : Contents) (name got shown words : List ℕ) (recovered : Recovered)
-    → IsGoodImage (Some kind_count) contents name got → shown ≡ got
-    → IsRecoveredHeap (image_in shown) recovered → ((at : ℕ) → PointsOutside (image_in shown) at → ⊥) → HoldsImage shown
-    → words ≡ current_words (words_in_bytes shown) first_kinds → length recovered.heap.words ≡ length words
-    → IsRecoveredFrom contents name words recovered
-unfolding is_recovered
-is_recovered_from contents name got shown words recovered whole are is inside formed words_are long = record {
-  image = is_recovered contents name got shown recovered whole are is inside formed (long ∙ ap (λ (ws : List ℕ). length ws) words_are);
-  words_are = subst (λ (l : List ℕ). words ≡ current_words (words_in_bytes l) first_kinds) are words_are;
-}
-
--- the report on it
+-- the report on an image that was recovered
 pub shows : (contents : Contents) (name text : List ℕ) (maps : List (BTreeMap ℕ (List ℕ))) (with_map : Bool) (recovered : Recovered)
     → IsRecoveredHeapOf contents name recovered
     → IsReady recovered.heap.words recovered.heap.held → AreMaps (slice_index recovered.heap.words) shards maps

@@ -2,7 +2,7 @@ pub mod FilterLemmas
 pub mod PrintLemmas
 pub mod DeliveryLemmas
 pub mod ImageLemmas
-pub mod RecoveryLemmas
+pub mod CurrentLemmas
 pub mod ConservativeLemmas
 pub mod CountLemmas
 pub mod OffsetLemmas

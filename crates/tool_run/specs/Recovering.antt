@@ -1,12 +1,10 @@
 -- What recovery of an image gives the tool, and what draining a class of it gives.
-use Rattle.std.specs.Prelude.{◌≡◌, ◌≢◌, ℕ, ◌*◌, List, length, Option, None, Contains, AllPairs, slice_index}
+use Rattle.std.specs.Prelude.{◌≡◌, ◌≢◌, ◌↔◌, ℕ, ◌*◌, List, length, Option, None, Contains, AllPairs, IsTrue, slice_index}
 use Rattle.heap_model.specs.declared.block.Block.{Block}
-use Rattle.heap_model.specs.Image.{Image}
-use Rattle.heap_model.specs.Header.{IsWellFormed, capacity_of, first_kinds}
+use Rattle.heap_model.specs.Geometry.{clean}
+use Rattle.heap_model.specs.Header.{IsWellFormed, HasKindsBelow, capacity_of, state_of, first_kinds}
 use Rattle.heap_model.specs.Recovered.{AreAscending}
 use Rattle.heap_recover.specs.declared.answer.Recovered.{Recovered}
-use Rattle.heap_recover.specs.declared.fault.RecoverFault.{RecoverFault}
-use Rattle.heap_recover.specs.declared.fault.RecoverFault.TheVariants.{Header, Outside, Memory}
 use Rattle.heap_at_rest.specs.Draining.{IsDrainable, IsToDrain}
 use Rattle.region_header.specs.Migration.{current_words}
 use Rattle.tool_ports.specs.Contents.{Contents, Holds}
@@ -15,12 +13,23 @@ use Rattle.std.specs.BTreeMap.{BTreeMap}
 use Rattle.dict_model.specs.Links.{shards}
 use Rattle.dictionary.specs.Reading.{RecoversTo, AreMaps}
 use Rattle.run_model.specs.Opened.{IsDictionary}
+use Rattle.tool_run.specs.declared.getting.CurrentImage.{CurrentImage}
 use Rattle.tool_run.specs.Making.{PointsOutside, HasMapped, fault_of, fault_within, image_in, drained_text}
 
 -- the bytes are the image of this name, and their header is good under this limit of kinds
 pub record IsGoodImage (limit : Option ℕ) (contents : Contents) (name bytes : List ℕ) : Type 0 where
   pub is_there : Holds contents name bytes
   pub good : fault_within limit bytes ≡ None
+
+-- The words are those of the image of this name in the new version, whose header is good under this limit of kinds; one of
+-- the old version has these kinds. And whether it was closed is known.
+pub record IsCurrentImage (limit : Option ℕ) (kinds : List ℕ) (contents : Contents) (name : List ℕ) (image : CurrentImage) : Type 0 where
+  pub bytes : List ℕ
+  pub good : IsGoodImage limit contents name bytes
+  pub words_are : image.words.items ≡ current_words (words_in_bytes bytes) kinds
+  pub formed : IsWellFormed (8 * length image.words.items) (slice_index image.words.items)
+  pub below : HasKindsBelow limit (slice_index image.words.items)
+  pub closed : IsTrue image.closed ↔ (state_of (slice_index image.words.items) ≡ clean)
 
 -- the bytes hold an image with a good header, in the new version
 abbrev pub HoldsImage : List ℕ → Type 0
@@ -48,12 +57,6 @@ pub record IsMapped (contents : Contents) (name words : List ℕ) (held : List B
   pub maps : List (BTreeMap ℕ (List ℕ))
   pub are : AreMaps (slice_index words) shards maps
   pub dictionary : IsDictionary (slice_index words) (Contains held)
-
--- why an image with a good header is not recovered
-abbrev pub IsRecoveryFault : Image → RecoverFault → Type 0
-IsRecoveryFault image (Header cause) = ⊥
-IsRecoveryFault image (Outside at value) = PointsOutside image at × (value ≡ image at)
-IsRecoveryFault image Memory = Unit {0}
 
 -- each taken superblock of a heap at rest that holds no part of a held block is in its free list, or is cut for the class
 abbrev pub IsDrainableAtRest : List ℕ → List Block → ℕ → Type 0

@@ -1,22 +1,18 @@
 //! Recovers a named image with no filter, and tells of it.
-ghost use Rattle.std.specs.Prelude.{◌≡◌, ◌≤◌, None, length, IfOk, IfErr, IsErrOf};
-ghost use Rattle.heap_model.specs.Image.{image_of_bytes};
-ghost use Rattle.heap_model.specs.Header.{HasGoodHeader};
-ghost use Rattle.heap_recover.specs.declared.fault.RecoverFault.TheVariants.{Memory};
-ghost use Rattle.image_run.specs.Conservative.{TellsByWords};
+ghost use Rattle.std.specs.Prelude.{◌≡◌, ◌≤◌, None, IfOk, IfErr, IsErrOf};
 ghost use Rattle.tool_ports.specs.Calls.{with_get};
 ghost use Rattle.tool_ports.specs.Causes.{RoseByOne};
 ghost use Rattle.tool_run.specs.Calls.{get_limit};
 ghost use Rattle.tool_command.specs.Command.{conservative_image};
 ghost use Rattle.tool_run.specs.Inside.{Refuses};
-ghost use Rattle.tool_run.specs.Making.{ShowsByWords, image_without_kinds};
+ghost use Rattle.tool_run.specs.Making.{ShowsByWords};
 
 use crate::fault::Fault;
-use crate::recovering::{good_image, words_in};
-use heap_recover::RecoverFault;
+use crate::getting::current_image;
+use dictionary::OTHER;
 use image_run::{Product, conservative_text};
-use region_header::Bytes;
 use std::alloc::Global;
+use super_block::ROOTS;
 use tool_ports::ImageStore;
 
 /// The report without keys on the image of this name, recovered with no filter, and its map where
@@ -37,17 +33,8 @@ pub fn report_conservatively<I: ImageStore>(
         → I.faults images.new ≡ I.faults images.old }
     ensures calls { I.calls images.new ≡ with_get get_limit (I.calls images.old) }
 {
-    let image = good_image(alloc, name, None, images)?;
-    let text = text_by_words(alloc, image, with_map)?;
+    let kinds = [OTHER; ROOTS as usize];
+    let image = current_image(alloc, name, None, &kinds, images)?;
+    let text = conservative_text(alloc, image.words, image.closed, with_map)?;
     Ok(Product { image: None, text })
-}
-
-// The text on an image of these bytes, whose header is good whatever the kinds of its roots.
-fn text_by_words(alloc: Global, bytes: Vec<u8>, with_map: bool) -> Result<Bytes, RecoverFault>
-    requires { HasGoodHeader None (length bytes.items) (image_of_bytes bytes.items) }
-    ensures ok { IfOk result (TellsByWords (image_without_kinds bytes.items) with_map) }
-    ensures err { IfErr result (λ fault. fault ≡ Memory) }
-{
-    let words = words_in(alloc, bytes)?;
-    conservative_text(alloc, &words, with_map)
 }

@@ -1,26 +1,15 @@
 //! Opens a named image by its own anchors where these can be relied on, and tells of it.
-ghost use Rattle.std.specs.Prelude.{◌≡◌, ◌≤◌, Some, None, length, IfOk, IfErr, IsErrOf};
-ghost use Rattle.heap_model.specs.Image.{image_of_bytes};
-ghost use Rattle.heap_model.specs.Header.{HasGoodHeader, first_kinds};
-ghost use Rattle.heap_recover.specs.declared.fault.RecoverFault.TheVariants.{Memory};
-ghost use Rattle.dict_model.specs.Links.{kind_count};
-ghost use Rattle.image_run.specs.Counting.{TellsOpened};
-ghost use Rattle.region_header.specs.Migration.{current_words};
+ghost use Rattle.std.specs.Prelude.{◌≡◌, ◌≤◌, None, IfOk, IfErr, IsErrOf};
 ghost use Rattle.tool_ports.specs.Calls.{with_get};
 ghost use Rattle.tool_ports.specs.Causes.{RoseByOne};
 ghost use Rattle.tool_run.specs.Calls.{get_limit};
 ghost use Rattle.tool_command.specs.Command.{count_image};
 ghost use Rattle.tool_run.specs.Inside.{Refuses};
-ghost use Rattle.tool_run.specs.Making.{Counts, IsOrderlyIn, image_in};
-ghost use Rattle.tool_run.specs.Recovering.{IsRecoveryFault, words_in_bytes};
+ghost use Rattle.tool_run.specs.Making.{Counts};
 
 use crate::fault::Fault;
-use crate::recovering::{good_image, words_in};
-use dictionary::DictFilter;
-use filter_trace::Filter;
-use heap_recover::RecoverFault;
+use crate::getting::dictionary_image;
 use image_run::{Product, count_text};
-use region_header::Bytes;
 use std::alloc::Global;
 use tool_ports::ImageStore;
 
@@ -43,19 +32,7 @@ pub fn count_command<I: ImageStore>(
         → I.faults images.new ≡ I.faults images.old }
     ensures calls { I.calls images.new ≡ with_get get_limit (I.calls images.old) }
 {
-    let image = good_image(alloc, name, Some(DictFilter::KINDS), images)?;
-    let text = text_by_anchors(alloc, image, with_map)?;
+    let image = dictionary_image(alloc, name, images)?;
+    let text = count_text(alloc, image.words, image.closed, with_map)?;
     Ok(Product { image: None, text })
-}
-
-// The text on an image of these bytes, whose header is good.
-fn text_by_anchors(alloc: Global, bytes: Vec<u8>, with_map: bool) -> Result<Bytes, RecoverFault>
-    requires { HasGoodHeader (Some kind_count) (length bytes.items) (image_of_bytes bytes.items) }
-    ensures ok { IfOk result
-        (TellsOpened (current_words (words_in_bytes bytes.items) first_kinds) with_map) }
-    ensures err { IfErr result (IsRecoveryFault (image_in bytes.items)) }
-    ensures sure { IsOrderlyIn bytes.items → IfErr result (λ fault. fault ≡ Memory) }
-{
-    let words = words_in(alloc, bytes)?;
-    count_text(alloc, words, with_map)
 }

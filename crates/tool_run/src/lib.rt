@@ -8,6 +8,7 @@ mod drained;
 mod draining;
 mod fault;
 mod generating;
+mod getting;
 mod making;
 mod rebuilding;
 mod recovering;

@@ -1,7 +1,8 @@
 use Rattle.std.proofs.Common.{None, refl}
 use Rattle.tool_command.specs.Command.{conservative_image}
 use Rattle.tool_run.proofs.CallLemmas.{refuses_within}
-use Rattle.tool_run.proofs.ConservativeLemmas.{refuses_memory}
+use Rattle.tool_run.proofs.ConservativeLemmas.{shows_by_words}
+use Rattle.tool_run.proofs.CurrentLemmas.{no_memory}
 use Rattle.tool_run.proofs.DeliveryLemmas.{at_cause}
 use Rattle.tool_run.proofs.ReadingLemmas.{not_err, stands}
 use Rattle.tool_run.specs.declared.fault.Fault.TheVariants.{ReadFault}
@@ -15,12 +16,17 @@ returns-in_err-image-clause-err g c =
 pub returns-in_err-text-clause-err : goal.returns-in_err-text-clause-err
 returns-in_err-text-clause-err g c =
     at_cause _ c.from_residual-in_err-text.result c.from_residual-in_err-text.ensures
-    (λ fault is. refuses_memory (conservative_image c.args.name.now c.args.with_map) _ _ fault _ is c.in_err-text.ensures.err)
+    (λ fault is. no_memory (conservative_image c.args.name.now c.args.with_map) _ _ fault is)
+
+pub conservative_text-requires-clause-formed : goal.conservative_text-requires-clause-formed
+conservative_text-requires-clause-formed g c = c.in_ok-image.ensures.ok.formed
+
+pub conservative_text-requires-clause-closed : goal.conservative_text-requires-clause-closed
+conservative_text-requires-clause-closed g c = c.in_ok-image.ensures.ok.closed
 
 pub returns-clause-ok : goal.returns-clause-ok
 returns-clause-ok g c =
-    let image = c.in_ok-image.ensures.ok in
-    (refl, record { bytes = c.in_ok-image.image.items; is_there = image.is_there; good = image.good; tells = c.in_ok-text.ensures.ok })
+    (refl, shows_by_words _ _ c.args.with_map c.in_ok-image.image _ c.in_ok-image.ensures.ok c.in_ok-text.ensures.ok)
 
 pub returns-in_err-image-clause-store_steady : goal.returns-in_err-image-clause-store_steady
 returns-in_err-image-clause-store_steady g c =

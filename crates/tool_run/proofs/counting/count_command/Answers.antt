@@ -2,7 +2,7 @@ use Rattle.std.proofs.Common.{Some, refl}
 use Rattle.dict_model.specs.Links.{kind_count}
 use Rattle.tool_command.specs.Command.{count_image}
 use Rattle.tool_run.proofs.CallLemmas.{refuses_within}
-use Rattle.tool_run.proofs.CountLemmas.{not_opened}
+use Rattle.tool_run.proofs.CountLemmas.{counts, not_opened}
 use Rattle.tool_run.proofs.DeliveryLemmas.{at_cause}
 use Rattle.tool_run.proofs.ReadingLemmas.{not_err, stands}
 use Rattle.tool_run.specs.declared.fault.Fault.TheVariants.{ReadFault}
@@ -17,12 +17,21 @@ returns-in_err-image-clause-err g c =
 pub returns-in_err-text-clause-err : goal.returns-in_err-text-clause-err
 returns-in_err-text-clause-err g c =
     at_cause _ c.from_residual-in_err-text.result c.from_residual-in_err-text.ensures
-    (λ fault is. not_opened _ _ _ _ c.args.with_map _ fault is c.in_ok-image.ensures.ok c.in_err-text.ensures.err c.in_err-text.ensures.sure)
+    (λ fault is. not_opened _ _ c.args.with_map c.in_ok-image.image c.in_ok-image.ensures.ok _ _ fault is c.in_err-text.ensures.cause
+    c.in_err-text.ensures.sure)
+
+pub count_text-requires-clause-formed : goal.count_text-requires-clause-formed
+count_text-requires-clause-formed g c = c.in_ok-image.ensures.ok.formed
+
+pub count_text-requires-clause-below : goal.count_text-requires-clause-below
+count_text-requires-clause-below g c = c.in_ok-image.ensures.ok.below
+
+pub count_text-requires-clause-closed : goal.count_text-requires-clause-closed
+count_text-requires-clause-closed g c = c.in_ok-image.ensures.ok.closed
 
 pub returns-clause-ok : goal.returns-clause-ok
 returns-clause-ok g c =
-    let image = c.in_ok-image.ensures.ok in
-    (refl, record { bytes = c.in_ok-image.image.items; is_there = image.is_there; good = image.good; tells = c.in_ok-text.ensures.ok })
+    (refl, counts _ _ c.args.with_map c.in_ok-image.image c.in_ok-image.ensures.ok _ c.in_ok-text.ensures.ok)
 
 pub returns-in_err-image-clause-store_steady : goal.returns-in_err-image-clause-store_steady
 returns-in_err-image-clause-store_steady g c =

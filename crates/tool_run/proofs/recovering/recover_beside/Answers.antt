@@ -1,44 +1,35 @@
-use Rattle.std.proofs.Common.{Err, ◌∙◌}
-use Rattle.std.proofs.lemmas.Result.{err_from_is_err_and}
-use Rattle.image_run.proofs.CommandLeftLemmas.{recovery_of_words}
-use Rattle.tool_run.proofs.RecoveryLemmas.{current_in, is_new, holds_now, recovered_now, inside_now, fault_now}
+use Rattle.std.proofs.Common.{◌≡◌, ◌↔◌, ◌*◌, ℕ, List, length, slice_index, Some, IfOk, IfErr, OnOk, IsTrue, sym, subst}
+use Rattle.heap_model.specs.Geometry.{clean}
+use Rattle.heap_model.specs.Header.{IsWellFormed, HasKindsBelow, state_of}
+use Rattle.dict_model.specs.Links.{dict_links, kind_count}
+use Rattle.heap_recover.specs.Answer.{IsMadeOf}
+use Rattle.heap_recover.specs.Fault.{TellsOutsideIn}
+use Rattle.tool_run.specs.Making.{IsKept, PointsOutside}
 use Rattle.tool_run.proofs.recovering.recover_beside.Goals as goal
 
-pub returns-in_err-recovered-clause-err : goal.returns-in_err-recovered-clause-err
-returns-in_err-recovered-clause-err c =
-    let words = c.in_ok-words_in.field-0.items in
-    let why = fault_now words c.root_kinds.result c.args.bytes.items c.root_kinds.ensures.list c.in_ok-words_in.ensures.ok c.requires
-    c.root_kinds.ensures.few
-    c.deref.result.now c.root_kinds-2.result (c.deref.ensures.value ∙ c.in_ok-words.ensures.ok)
-    (Err c.in_err-recovered.field-0.0) c.in_err-recovered.ensures.cause in
-    let p = err_from_is_err_and c.from_residual-in_err-recovered.result c.from_residual-in_err-recovered.ensures.1 in
-    rw (p.1, p.2) why
+pub recover_current-requires-clause-formed : goal.recover_current-requires-clause-formed
+recover_current-requires-clause-formed c =
+    subst (λ (ws : List ℕ). IsWellFormed (8 * length ws) (slice_index ws)) (sym c.in_ok-copy.ensures.items) c.requires.formed
+
+pub recover_current-requires-clause-below : goal.recover_current-requires-clause-below
+recover_current-requires-clause-below c =
+    subst (λ (ws : List ℕ). HasKindsBelow (Some kind_count) (slice_index ws)) (sym c.in_ok-copy.ensures.items) c.requires.below
+
+pub recover_current-requires-clause-closed : goal.recover_current-requires-clause-closed
+recover_current-requires-clause-closed c =
+    subst (λ (ws : List ℕ). IsTrue c.args.closed ↔ (state_of (slice_index ws) ≡ clean)) (sym c.in_ok-copy.ensures.items) c.requires.closed
 
 pub returns-clause-ok : goal.returns-clause-ok
 returns-clause-ok c =
-    let words = c.in_ok-words_in.field-0.items in
-    let kinds = c.root_kinds.result in
-    let now = c.deref.result.now in
-    let now_is = c.deref.ensures.value ∙ c.in_ok-words.ensures.ok in
-    let made = c.in_ok-recovered.ensures in
-    let new = is_new words kinds c.args.bytes.items c.root_kinds.ensures.list c.in_ok-words_in.ensures.ok c.requires c.root_kinds.ensures.few
-    now c.root_kinds-2.result now_is in
-    recovered_now words kinds c.args.bytes.items c.root_kinds.ensures.list c.in_ok-words_in.ensures.ok c.requires c.root_kinds.ensures.few now
-    c.root_kinds-2.result now_is
-    c.in_ok-recovered.recovered
-    (recovery_of_words now c.root_kinds-2.result new c.in_ok-recovered.recovered made.held made.free made.words made.was made.kinds)
-
-pub returns-clause-formed : goal.returns-clause-formed
-returns-clause-formed c =
-    holds_now c.in_ok-words_in.field-0.items c.root_kinds.result c.args.bytes.items c.root_kinds.ensures.list c.in_ok-words_in.ensures.ok c.requires
-    c.root_kinds.ensures.few c.deref.result.now c.root_kinds-2.result (c.deref.ensures.value ∙ c.in_ok-words.ensures.ok)
-
-pub returns-clause-words : goal.returns-clause-words
-returns-clause-words c =
-    c.in_ok-words.ensures.ok ∙ current_in c.in_ok-words_in.field-0.items c.root_kinds.result c.args.bytes.items c.root_kinds.ensures.list
-    c.in_ok-words_in.ensures.ok
+    subst (λ (ws : List ℕ). IfOk c.recover_current.result (IsMadeOf ws (IsKept (slice_index ws)))) c.in_ok-copy.ensures.items
+    c.recover_current.ensures.ok
 
 pub returns-clause-none : goal.returns-clause-none
 returns-clause-none c =
-    inside_now c.in_ok-words_in.field-0.items c.root_kinds.result c.args.bytes.items c.root_kinds.ensures.list c.in_ok-words_in.ensures.ok c.requires
-    c.root_kinds.ensures.few c.deref.result.now c.root_kinds-2.result (c.deref.ensures.value ∙ c.in_ok-words.ensures.ok) c.in_ok-recovered.ensures.none
+    subst (λ (ws : List ℕ). OnOk c.recover_current.result ((at : ℕ) → PointsOutside (slice_index ws) at → ⊥)) c.in_ok-copy.ensures.items
+    c.recover_current.ensures.none
+
+pub returns-clause-cause : goal.returns-clause-cause
+returns-clause-cause c =
+    subst (λ (ws : List ℕ). IfErr c.recover_current.result (TellsOutsideIn (slice_index ws) dict_links)) c.in_ok-copy.ensures.items
+    c.recover_current.ensures.cause

@@ -1,5 +1,5 @@
 use Rattle.std.proofs.Common.{refl}
-use Rattle.tool_run.proofs.ImageLemmas.{is_recovered, is_refused}
+use Rattle.tool_run.proofs.CurrentLemmas.{is_recovered, is_refused}
 use Rattle.tool_run.proofs.CallLemmas.{refuses_links}
 use Rattle.tool_run.proofs.DeliveryLemmas.{at_cause}
 use Rattle.tool_run.proofs.ReadingLemmas.{not_err, stands}
@@ -14,11 +14,21 @@ returns-in_err-image-clause-err g c =
 pub returns-in_err-recovered-clause-err : goal.returns-in_err-recovered-clause-err
 returns-in_err-recovered-clause-err g c =
     at_cause _ c.from_residual-in_err-recovered.result c.from_residual-in_err-recovered.ensures
-    (λ fault is. is_refused _ _ _ _ _ _ fault is c.in_ok-image.ensures.ok refl c.in_err-recovered.ensures.err)
+    (λ fault is. is_refused _ _ c.in_ok-image.image c.in_ok-image.ensures.ok _ _ _ fault is refl c.in_err-recovered.ensures.cause)
+
+pub recover_current_par-requires-clause-formed : goal.recover_current_par-requires-clause-formed
+recover_current_par-requires-clause-formed g c κs within = c.in_ok-image.ensures.ok.formed
+
+pub recover_current_par-requires-clause-below : goal.recover_current_par-requires-clause-below
+recover_current_par-requires-clause-below g c κs within = c.in_ok-image.ensures.ok.below
+
+pub recover_current_par-requires-clause-closed : goal.recover_current_par-requires-clause-closed
+recover_current_par-requires-clause-closed g c κs within = c.in_ok-image.ensures.ok.closed
 
 pub returns-clause-ok : goal.returns-clause-ok
-returns-clause-ok g c = is_recovered _ _ _ _ _ c.in_ok-image.ensures.ok refl c.in_ok-recovered.ensures.ok c.in_ok-recovered.ensures.none
-    c.in_ok-recovered.ensures.formed c.in_ok-recovered.ensures.long
+returns-clause-ok g c =
+    let made = c.in_ok-recovered.ensures in
+    is_recovered _ _ c.in_ok-image.image c.in_ok-image.ensures.ok c.in_ok-recovered.recovered made.ok made.kinds made.none
 
 pub returns-in_err-image-clause-store_steady : goal.returns-in_err-image-clause-store_steady
 returns-in_err-image-clause-store_steady g c =
