@@ -4,11 +4,15 @@ pub mod CountLemmas
 pub mod OpenLemmas
 pub mod RecycleLemmas
 pub mod CutLemmas
+pub mod FirstsLemmas
 pub mod JoinLemmas
 pub mod RefillLemmas
 pub mod CacheLemmas
+pub mod FreeSmallLemmas
 pub mod GiveLemmas
+pub mod GivenLemmas
 pub mod FreeLargeLemmas
 pub mod OwnLemmas
 pub mod DrainLemmas
+pub mod PopDrainLemmas
 pub mod AccountLemmas

@@ -18,7 +18,8 @@ use Rattle.heap_shape.specs.Whole.{IsShape}
 use Rattle.heap_shape.specs.Effects.{IsSet, IsPoppedOf, IsInSuperblock, IsCut, all_firsts}
 use Rattle.heap_shape.specs.Moves.{after_take, after_cut, after_fresh}
 use Rattle.heap_shape.proofs.BasicLemmas.{with_at_same, with_at_other, first_inside, inside_one, first_place, in_class_list, in_free_list}
-use Rattle.heap_shape.proofs.CutLemmas.{refilled, IsRefilled, refill, follows_popped, listed_popped, past_is_new, firsts_once, firsts_are, firsts_walk}
+use Rattle.heap_shape.proofs.CutLemmas.{refilled, IsRefilled, refill, follows_popped, listed_popped, past_is_new}
+use Rattle.heap_shape.proofs.FirstsLemmas.{firsts_once, firsts_are, firsts_walk}
 
 -- the chain of the first superblock of the class list is taken
 pub take : (capacity class d : ℕ) (image middle new : Image) (held : List Block) (s : Shape) (ds : List ℕ) → IsClass class
