@@ -1,23 +1,16 @@
 -- Of two lists with the same members, both in the order of numbers that differ, one is the other.
 use Rattle.std.proofs.Common.{◌≡◌, ◌⊎◌, ℕ, suc, ◌+◌, ◌<◌, List, [], ◌∷◌, length, map, nat_eq, All, Contains, refl, ap, sym, subst, ◌∙◌, ⊎_elim, inl, inr, arith}
 use Rattle.std.proofs.lemmas.Bool.Decides.{Decides-eqb}
-use Rattle.std.proofs.lemmas.Bool.{cases_eq, eq-eqb, ne_eqb}
 use Rattle.std.specs.Prelude.{⊤, get_or, slice_index}
 use Rattle.std.specs.List.{IsDistinct}
 use Rattle.std.specs.List.Sorted.{IsPermutation, IsNonDecreasingBy, IsNonDecreasing, IsStrictlyIncreasing}
+use Rattle.std.proofs.lemmas.Cmp.{nat_eq_equiv}
 use Rattle.std.proofs.lemmas.List.{get_or-map, length-map}
 use Rattle.std.proofs.lemmas.List.Elements.{All-contains, All-from_get_or, Contains-push, Contains-push_cases, Contains-append_left, Contains-append_right, Contains-append_cases}
 use Rattle.std.proofs.lemmas.List.Kept.{AllPairs-from_increasing}
 use Rattle.std.proofs.lemmas.List.Sorted.{Contains-permutation, IsPermutation-sym, IsPermutation-map}
 use Rattle.std.proofs.lemmas.Map.Keys.{IsDistinct-IsPermutation, IsStrictlyIncreasing-from_distinct}
 use Rattle.std.proofs.lemmas.Map.Made.{IsDistinct-from_AllPairs}
-
--- a test of equality answers alike for the two the other way round
-flips : (x y : ℕ) → nat_eq x y ≡ nat_eq y x
-flips x y = elim (cases_eq x y) as (λ _. nat_eq x y ≡ nat_eq y x) [
-  | inl same ↦ eq-eqb x y same ∙ sym (eq-eqb y x (sym same))
-  | inr other ↦ ne_eqb x y other ∙ sym (ne_eqb y x (λ e. other (sym e)))
-]
 
 module _ {T : Type 0} (number : T → ℕ) where
   -- each number is below all later ones
@@ -99,4 +92,4 @@ module _ {T : Type 0} (number : T → ℕ) where
       (λ z. Contains-permutation sent taken z moved) (λ z. Contains-permutation taken sent z (IsPermutation-sym sent taken moved)) where
         rises : IsStrictlyIncreasing (map number taken)
         rises = IsStrictlyIncreasing-from_distinct (map number taken) (as_numbers taken up')
-            (IsDistinct-IsPermutation nat_eq flips _ _ (IsPermutation-map number sent taken moved) (once sent up))
+            (IsDistinct-IsPermutation nat_eq nat_eq_equiv.symm _ _ (IsPermutation-map number sent taken moved) (once sent up))
