@@ -5,7 +5,6 @@ pub mod FullLemmas
 pub mod GoesOnLemmas
 pub mod LeavingExamples
 pub mod OneMapLemmas
-pub mod SameReachLemmas
 pub mod SendingLemmas
 pub mod StandsLemmas
 pub mod SumLemmas

@@ -1,5 +1,5 @@
 -- The reply to one request, from what the dictionary's call answers.
-use Rattle.std.proofs.Common.{◌≡◌, ℕ, ◌+◌, ◌≤◌, ◌⊎◌, inl, inr, List, length, Option, None, Some, true, false, refl, subst, sym, ap, ◌++◌, take, drop, ◌∙◌, arith}
+use Rattle.std.proofs.Common.{◌≡◌, ℕ, ◌+◌, ◌≤◌, inl, inr, List, length, None, Some, true, false, refl, subst, sym, ap, ◌++◌, take, drop, ◌∙◌, arith}
 use Rattle.std.proofs.Math.Seq.{take-append_seam}
 use Rattle.std.proofs.lemmas.List.{take_all}
 use Rattle.heap_seat.specs.View.{View}
@@ -10,6 +10,7 @@ use Rattle.dict_requests.specs.Answers.{Deletes, MakesFew}
 use Rattle.dict_requests.specs.Changes.{Changes}
 use Rattle.dict_requests.specs.Maps.{GivesMap}
 use Rattle.dict_requests.proofs.DelLemmas.{gives_same, without_missing}
+use Rattle.shard_moves.proofs.AwayLemmas.{there_or_not}
 use Rattle.run_model.specs.Spending.{TakesFew, for_node as only_node, with_table, HadNoRoom}
 use Rattle.run_model.specs.Workers.{shard_asked}
 use Rattle.run_model.specs.Working.{Fits, Replied, AsksFor, WasRefused, words_copied}
@@ -124,11 +125,6 @@ replied_full key value looks v w refused same = record {
   takes = full_takes key value looks v w refused;
   room = λ is_put e. full_room key value looks v w refused;
 }
-
--- a value is there or not
-pub there_or_not : (o : Option (List ℕ)) → (o ≡ None) ⊎ ((value : List ℕ) × (o ≡ Some value))
-there_or_not None = inl refl
-there_or_not (Some value) = inr (value, refl)
 
 pub replied_gone : (key : ℕ) (v w : View) → IsShard v (shard_of key) → MakesFew 0 0 (shard_of key) v w → Deletes key true v w
     → Replied (del key) (Some done) v w

@@ -22,7 +22,8 @@ use Rattle.run_model.specs.Spending.{IsPut, HadNoRoom, IsFullBehind, AreFullRigh
 use Rattle.run_model.specs.Workers.{key_of, shard_asked, Replies}
 use Rattle.run_model.specs.Working.{Fits, HasWorked, MakesCalls, large_calls_of, most_taken, words_copied}
 use Rattle.worker_run.specs.Said.{IsShort, Told, reply_of, replies_of}
-use Rattle.worker_run.proofs.AnsweringLemmas.{copies_few, there_or_not}
+use Rattle.shard_moves.proofs.AwayLemmas.{there_or_not}
+use Rattle.worker_run.proofs.AnsweringLemmas.{copies_few}
 use Rattle.worker_run.proofs.KeyLemmas.{seat_keys}
 use Rattle.run_model.proofs.OneMapLemmas.{small_shard}
 use Rattle.worker_run.proofs.TakenLemmas.{HasTaken, tables_few}
