@@ -18,7 +18,7 @@ use Rattle.run_model.specs.Workers.{Replies}
 use Rattle.run_model.specs.Working.{HasWorked}
 use Rattle.run_model.proofs.OneMapLemmas.{small_shard}
 use Rattle.shard_moves.specs.Arriving.{HaveTables, ListAllKeys}
-use Rattle.worker_run.proofs.AnsweringLemmas.{there_or_not}
+use Rattle.shard_moves.proofs.AwayLemmas.{there_or_not}
 use Rattle.worker_run.proofs.WorkLemmas.{all_where}
 
 -- the keys that puts have

@@ -1,5 +1,5 @@
 -- What is so of a seat with its chance is so of its state; and how a seat goes on goes on from step to step.
-use Rattle.std.proofs.Common.{ℕ, List, [], ◌∷◌, Bool, true, false, ap, ◌∙◌, arith}
+use Rattle.std.proofs.Common.{ℕ, List, [], ◌∷◌, Bool, true, false, ap, ◌∙◌}
 use Rattle.core_model.specs.View.{Role}
 use Rattle.heap_seat.specs.View.{View as HeapView}
 use Rattle.heap_seat.specs.declared.fault.Looks.{Looks}
@@ -9,8 +9,8 @@ use Rattle.run_model.specs.Spending.{AreFullRightly}
 use Rattle.run_model.specs.Working.{TakesRequest, TakesRequests, WasRefused}
 use Rattle.seat_model.specs.CacheState.{CacheState, CacheValue, heap_view}
 use Rattle.shard_moves.specs.Tables.{TellsTable, WasRefusedTable}
-use Rattle.thread_cache.specs.Keeps.{KeepsCounts, KeepsHeap, KeepsSeat}
-use Rattle.thread_cache.specs.Laws.{keeps_none_law}
+use Rattle.thread_cache.specs.Keeps.{KeepsHeap, KeepsSeat}
+use Rattle.thread_cache.specs.Laws.{costs_row, keeps_none_law}
 use Rattle.thread_cache.specs.Serving.{IsTurnedAway}
 use Rattle.worker_parts.specs.Going.{GoesOn, TurnsAway}
 
@@ -21,35 +21,11 @@ goes_kept s t kept = (kept.0, kept.1, ap (λ (r : Role). r.carries) kept.2)
 pub goes_seat : {C : Type 0} (gives : C → ℕ → C → Type 0) (s t : CacheValue C) → KeepsSeat gives s t → GoesOn s.state t.state
 goes_seat gives s t kept = goes_kept s.state t.state kept.heap
 
--- the costs of two steps are those of both
-counts_then : (s t u : CacheState) → KeepsCounts s t → KeepsCounts t u → KeepsCounts s u
-counts_then s t u p q = record {
-  setup = q.setup ∙ p.setup;
-  roots = q.roots ∙ p.roots;
-  floor = let x = p.floor in let y = q.floor in omega arith;
-  none_falls = let a = p.none_falls in let b = q.none_falls in record {
-    draws = let x = a.draws in let y = b.draws in omega arith;
-    wins = let x = a.wins in let y = b.wins in omega arith;
-    losses = let x = a.losses in let y = b.losses in omega arith;
-    gives = let x = a.gives in let y = b.gives in omega arith;
-    moves = let x = a.moves in let y = b.moves in omega arith;
-    cuts = let x = a.cuts in let y = b.cuts in omega arith;
-    taken = let x = a.taken in let y = b.taken in omega arith;
-  };
-  small_rise = let x = p.small_rise in let y = q.small_rise in omega arith;
-  large_rise = let x = p.large_rise in let y = q.large_rise in omega arith;
-  draws = let x = p.draws in let y = q.draws in omega arith;
-  wins = let x = p.wins in let y = q.wins in omega arith;
-  gives = let x = p.gives in let y = q.gives in omega arith;
-  cuts = let x = p.cuts in let y = q.cuts in omega arith;
-  light = let x = p.light in let y = q.light in omega arith;
-}
-
 pub goes_none : (s : CacheState) → GoesOn s s
 goes_none s = goes_kept s s (keeps_none_law s)
 
 pub goes_then : (s t u : CacheState) → GoesOn s t → GoesOn t u → GoesOn s u
-goes_then s t u p q = (q.0 ∙ p.0, counts_then s t u p.1 q.1, q.2 ∙ p.2)
+goes_then s t u p q = (q.0 ∙ p.0, costs_row s t u p.1 q.1, q.2 ∙ p.2)
 
 -- what contracts see of a seat with its chance
 abbrev pub view_of : {C : Type 0} → CacheValue C → HeapView
