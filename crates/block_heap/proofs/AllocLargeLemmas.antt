@@ -1,5 +1,5 @@
 -- How superblocks that were never taken become a large block.
-use Rattle.std.proofs.Common.{◌≡◌, ◌≢◌, ℕ, ◌+◌, ◌-◌, ◌*◌, ◌/◌, ◌<◌, ◌≤◌, ◌^◌, ◌⊎◌, inl, inr, Bool, true, false, cond, nat_le, nat_lt, ◌&&◌, Option, None, Some, MatchOption, List, length, get_or, set, Contains, refl, ap, sym, subst, ◌∙◌, arith, length-set, get_or-set_same, get_or-set_other}
+use Rattle.std.proofs.Common.{◌≡◌, ◌≢◌, ℕ, ◌+◌, ◌-◌, ◌*◌, ◌/◌, ◌<◌, ◌≤◌, ◌^◌, ◌⊎◌, inl, inr, Bool, true, false, cond, nat_le, nat_lt, ◌&&◌, Option, Some, MatchOption, List, length, get_or, set, Contains, refl, ap, sym, subst, ◌∙◌, arith, length-set, get_or-set_same, get_or-set_other}
 use Rattle.std.proofs.lemmas.Bool.{cases_eq}
 use Rattle.heap_model.specs.declared.block.Block.{Block}
 use Rattle.heap_model.specs.Geometry.{head_word, info_word, used_word, start_word, superblock_words, largest_capacity}
@@ -26,25 +26,16 @@ use Rattle.block_heap.specs.Accounts.{AreAccounted}
 use Rattle.block_heap.specs.Held.{held_of, at_mark, block_of_mark}
 use Rattle.block_heap.specs.Links.{IsFresh}
 use Rattle.block_heap.specs.Medium.{StoresOnly, IsPersisted}
-use Rattle.block_heap.specs.Parts.{Parts, OnlyLooks, image_of, held_in}
-use Rattle.block_heap.specs.Large.{JoinsAs, joined_words}
-use Rattle.block_heap.specs.Steps.{IsLook}
+use Rattle.block_heap.specs.Parts.{Parts, image_of, held_in}
+use Rattle.block_heap.specs.Large.{joined_words}
 use Rattle.block_heap.specs.Running.{IsRunning, HasDurableInfos, LeavesHeld}
 use Rattle.block_heap.specs.AllocatorWords.{UsedFits, is_info}
-use Rattle.block_heap.proofs.AccountLemmas.{accounted_same}
-use Rattle.block_heap.proofs.RunningLemmas.{set_is, running_words}
+use Rattle.block_heap.proofs.RunningLemmas.{set_is}
 use Rattle.block_heap.proofs.HeldLemmas.{has_map}
 use Rattle.block_heap.proofs.LookLemmas.{IsNextLook, looked_at_used, looks_kept}
 use Rattle.block_heap.proofs.StableLemmas.{as_allocator_of, as_allocator_then, as_allocator_raised}
 
--- what was found where too few superblocks were left, and where there were enough
-fresh_none : (capacity count : ℕ) (fresh : Fresh) (v w : View) → IsFresh capacity count fresh v w → fresh.first ≡ None
-    → (w.volatile ≡ v.volatile) × (capacity < fresh.used + count) × StoresOnly (λ _. ⊥) v w
-fresh_none capacity count fresh v w is none =
-    subst (λ (first : Option ℕ). MatchOption first ((w.volatile ≡ v.volatile) × (capacity < fresh.used + count) × StoresOnly (λ _. ⊥) v w)
-    (λ d. (d ≡ fresh.used) × (fresh.used + count ≤ capacity)
-    × (w.volatile ≡ set v.volatile used_word (fresh.used + count)) × (durable_at w used_word ≡ fresh.used + count))) none is.words
-
+-- what was found where there were enough
 fresh_some : (capacity count d : ℕ) (fresh : Fresh) (v w : View) → IsFresh capacity count fresh v w → fresh.first ≡ Some d
     → (d ≡ fresh.used) × (fresh.used + count ≤ capacity) × (w.volatile ≡ set v.volatile used_word (fresh.used + count))
     × (durable_at w used_word ≡ fresh.used + count)
@@ -52,88 +43,6 @@ fresh_some capacity count d fresh v w is some =
     subst (λ (first : Option ℕ). MatchOption first ((w.volatile ≡ v.volatile) × (capacity < fresh.used + count) × StoresOnly (λ _. ⊥) v w)
     (λ d. (d ≡ fresh.used) × (fresh.used + count ≤ capacity)
     × (w.volatile ≡ set v.volatile used_word (fresh.used + count)) × (durable_at w used_word ≡ fresh.used + count))) some is.words
-
--- parts that looked at `used` and took nothing
-pub running_looked : (p : Parts) (count : ℕ) (fresh : Fresh) (u : View) (look : Look) → IsRunning p → IsFresh p.capacity count fresh p.words u
-    → fresh.first ≡ None
-    → look.seen ≡ fresh.used → look.taken ≡ p.taken → IsRunning (record p { words = u; used_look = look })
-running_looked p count fresh u look run is none seen when =
-    let got = fresh_none p.capacity count fresh p.words u is none in
-    let now = running_words p u (λ _. ⊥) run is.runs_within.running got.0 got.2 (λ d below t. t) (λ t. t) is.runs_within.below in
-    let same : volatile_at u used_word ≡ image_of p used_word = ap (λ xs. get_or xs used_word 0) got.0 in
-    let used = is.used in
-    record {
-      words_open = now.words_open;
-      below = now.below;
-      bounded = now.bounded;
-      caches_long = now.caches_long;
-      looks_long = now.looks_long;
-      shape = now.shape;
-      is = now.is;
-      caches = now.caches;
-      sizes = now.sizes;
-      settled = now.settled;
-      pops = now.pops;
-      knows = omega arith;
-      few = now.few;
-    }
-
--- and no superblock is lost
-pub looked_accounted : (p : Parts) (count : ℕ) (fresh : Fresh) (u : View) (look : Look) → IsFresh p.capacity count fresh p.words u → fresh.first ≡ None
-    → AreAccounted p → AreAccounted (record p { words = u; used_look = look })
-looked_accounted p count fresh u look is none =
-    accounted_same p (record p { words = u; used_look = look }) refl (fresh_none p.capacity count fresh p.words u is none).0 refl
-
--- nor is anything stored
-pub looked_only : (p : Parts) (count : ℕ) (fresh : Fresh) (u : View) (look : Look) → IsFresh p.capacity count fresh p.words u → fresh.first ≡ None
-    → u.drawn ≡ p.words.drawn + 1 → OnlyLooks 1 p (record p { words = u; used_look = look })
-looked_only p count fresh u look is none one =
-    let got = fresh_none p.capacity count fresh p.words u is none in
-    record { volatile = got.0; stores = got.2; capacity = refl; caches = refl; blocks = refl; taken = refl; drawn = one }
-
-pub looked_is : (p : Parts) (count : ℕ) (fresh : Fresh) (u : View) (look : Look) → IsFresh p.capacity count fresh p.words u → fresh.first ≡ None
-    → look.seen ≡ fresh.used → IsNextLook p look → u.drawn ≡ p.words.drawn + 1
-    → IsLook p.words.drawn (record p { words = u; used_look = look }) look (volatile_at u used_word)
-looked_is p count fresh u look is none seen next one =
-    let same : volatile_at u used_word ≡ image_of p used_word =
-    ap (λ xs. get_or xs used_word 0) (fresh_none p.capacity count fresh p.words u is none).0 in
-    record {
-      seen_is = seen ∙ is.used ∙ sym same;
-      ticket = p.words.drawn;
-      by = next.by;
-      since = omega arith;
-      until = omega arith;
-      taken_is = next.taken;
-    }
-
-pub looked_joins : (p : Parts) (count : ℕ) (fresh : Fresh) (u : View) (look : Look) → IsFresh p.capacity count fresh p.words u → fresh.first ≡ None
-    → look.seen ≡ fresh.used → IsNextLook p look → u.drawn ≡ p.words.drawn + 1
-    → JoinsAs count None p (record p { words = u; used_look = look })
-looked_joins p count fresh u look is none seen next one =
-    let got = fresh_none p.capacity count fresh p.words u is none in
-    let used = is.used in (
-      refl,
-      omega (arith, got.1),
-      ap (λ xs. get_or xs used_word 0) got.0,
-      looked_is p count fresh u look is none seen next one,
-      refl,
-      looked_only p count fresh u look is none one,
-    )
-
-pub leaves_held_looked : (p : Parts) (count : ℕ) (fresh : Fresh) (u : View) (look : Look) → IsRunning p
-    → IsFresh p.capacity count fresh p.words u → fresh.first ≡ None
-    → look.seen ≡ fresh.used → look.taken ≡ p.taken → IsNextLook p look → LeavesHeld (held_in p) p (record p { words = u; used_look = look })
-leaves_held_looked p count fresh u look run is none seen when next =
-    let got = fresh_none p.capacity count fresh p.words u is none in
-    let knows = run.knows in
-    let used = is.used in
-    record {
-      capacity = refl;
-      as_allocator = (as_allocator_of p.capacity (held_in p) (λ _. ⊥) p.words u (λ word t. absurd t) (λ t. t) got.2 run.settled.used).0;
-      knows = omega arith;
-      taken = omega arith;
-      looks = looked_at_used p (record p { words = u; used_look = look }) look next is.runs_within.drew (omega arith) refl refl;
-    }
 
 -- raising `used` may stop within
 pub large_stops : (p : Parts) (count : ℕ) (w : View) → IsRunning p → StoresOnly (λ word. word ≡ used_word) p.words w

@@ -15,7 +15,7 @@ use Rattle.heap_shape.specs.Whole.{IsShape}
 use Rattle.heap_at_rest.specs.Draining.{layout_at}
 use Rattle.heap_shape.specs.Moves.{AddsTo}
 use Rattle.heap_shape.specs.Draining.{IsAccounted, DrainsSame, DrainsOne}
-use Rattle.heap_shape.proofs.DrainLemmas.{drained_none}
+use Rattle.heap_shape.proofs.PopDrainLemmas.{drained_none}
 use Rattle.block_heap.specs.declared.cache.Cache.{Cache}
 use Rattle.block_heap.specs.Accounts.{AreAccounted}
 use Rattle.heap_seat.specs.Alloc.{IsSizeFor, of_class as size_of_class, of_superblocks}

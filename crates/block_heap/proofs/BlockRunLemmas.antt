@@ -1,19 +1,15 @@
--- The runs of a cache: what giving one back to its superblock makes of the words, and how they make up the whole cache.
-use Rattle.std.proofs.Common.{◌≡◌, ◌≢◌, ℕ, ◌+◌, ◌*◌, ◌<◌, ◌≤◌, inl, inr, Bool, true, false, cond, nat_eq, eq-eqb, ne_eqb, List, [], ◌∷◌, ◌++◌, length, get_or, set, Contains, refl, ap, sym, subst, ◌∙◌, arith, get_or-set_same, length-append, append-nil}
-use Rattle.std.specs.Prelude.{All}
+-- The prefix of a cache is a run: what giving it back to its superblock makes of the words.
+use Rattle.std.proofs.Common.{◌≡◌, ◌≢◌, ℕ, ◌+◌, ◌*◌, ◌<◌, ◌≤◌, inl, inr, Bool, true, false, cond, nat_eq, eq-eqb, ne_eqb, List, [], ◌∷◌, ◌++◌, length, get_or, set, Contains, ap, sym, subst, ◌∙◌, arith, get_or-set_same, length-append, append-nil}
 use Rattle.std.proofs.lemmas.Bool.{cond-true, cond-false}
-use Rattle.std.proofs.lemmas.List.Elements.{All-nil, All-cons, All-head}
 use Rattle.heap_model.specs.Geometry.{lists, head_word, anchor_word, link_word, start_word}
 use Rattle.heap_model.specs.Sizes.{IsClass, words_of_class, blocks_of}
 use Rattle.heap_model.specs.Words.{head_first, anchor_state, anchor_first, anchor_count, empty_state, partial_state}
 use Rattle.heap_model.specs.Chains.{Follows, Walks}
 use Rattle.heap_model.proofs.WordLemmas.{anchor_parts}
-use Rattle.heap_model.proofs.MemberLemmas.{in_head}
 use Rattle.heap_model.proofs.SizeLemmas.{few_blocks}
 use Rattle.heap_shape.specs.Shape.{Shape, with_at}
 use Rattle.heap_shape.specs.Standing.{first_of, HasFreeBlocks}
 use Rattle.heap_shape.specs.Whole.{IsShape}
-use Rattle.heap_shape.specs.Effects.{IsInSuperblock}
 use Rattle.heap_shape.specs.Moves.{after_give, after_give_full, after_give_all}
 use Rattle.heap_shape.proofs.BasicLemmas.{with_at_same, first_inside, in_class_list}
 use Rattle.line_memory.specs.View.{View, volatile_at}
@@ -22,16 +18,18 @@ use Rattle.anchor_word.specs.declared.anchor.State.TheVariants.{Full}
 use Rattle.block_heap.specs.declared.cache.Cache.{Cache}
 use Rattle.block_heap.specs.declared.small.CachePrefix.{CachePrefix}
 use Rattle.block_heap.specs.Batches.{IsGiven, IsGiveWord, linked_words, given_to}
-use Rattle.block_heap.specs.BlockRuns.{BlockRun, IsRunOf, blocks_of_runs, AreLongest, HasFree, state_with, list_with, IsListedFirst, IsFullAt, at_anchor, at_last, at_link, at_head, GivesRun, GivesRuns}
+use Rattle.block_heap.specs.BlockRuns.{BlockRun, IsRunOf, HasFree, state_with, list_with, IsListedFirst, IsFullAt, at_anchor, at_last, at_link, at_head, GivesRun}
 use Rattle.block_heap.specs.Flush.{IsCachePrefix}
 use Rattle.block_heap.specs.Links.{IsPushed, IsPushWord}
 use Rattle.block_heap.specs.Medium.{StoresOnly}
 use Rattle.block_heap.specs.Parts.{Parts, image_of, held_in, cache_at}
-use Rattle.block_heap.specs.Returns.{CachesAlong, GivesInRuns, GivesPrefix, IsLongest}
+use Rattle.block_heap.specs.Returns.{CachesAlong, GivesPrefix}
 use Rattle.block_heap.specs.Running.{IsRunning}
-use Rattle.block_heap.proofs.FlushLemmas.{full_number, split, rest_long, prefix_class, prefix_first, linked_long, new_other, gave_listed, gave_full, gave_shape, pops_now, all_shape, some_shape}
+use Rattle.block_heap.proofs.PrefixPlaceLemmas.{full_number, split, rest_long, prefix_class, prefix_first}
+use Rattle.block_heap.proofs.FlushLemmas.{linked_long, new_other, gave_listed, gave_full, gave_shape}
+use Rattle.block_heap.proofs.ListedPrefixLemmas.{pops_now, all_shape, some_shape}
 use Rattle.block_heap.proofs.SmallLemmas.{changed}
-use Rattle.heap_at_rest.proofs.ListLemmas.{one_walk, walks_same}
+use Rattle.heap_at_rest.proofs.ListLemmas.{walks_same}
 
 -- the cache of a running heap leads along that of its shape
 pub cached_along : (p : Parts) (class : ℕ) → IsClass class → (run : IsRunning p) → CachesAlong class p (run.shape.cached class)
@@ -256,85 +254,3 @@ module _ (p : Parts) (class : ℕ) (is : IsClass class) (run : IsRunning p) (pre
         (with_at_same run.shape.cached class rest) (with_at_same run.shape.start class (image_of p prefix.batch.last))
         (same ∙ sym (cond-false (nat_eq (length blocks) (blocks_of class)) 0 class
         (ne_eqb (length blocks) (blocks_of class) (λ e. some (is_prefix.count ∙ e)))))
-
--- an empty cache has no run
-pub runs_none : (class : ℕ) (q : Parts) → (cache_at q.caches class).count ≡ 0 → GivesInRuns class q q
-runs_none class q empty = record {
-  words = [];
-  cached = record { walks = tt; count = empty };
-  runs = [];
-  cut = record { all = refl; each = All-nil (IsRunOf q.capacity class); longest = tt };
-  gives = λ word. refl;
-}
-
--- a walk begins in the first of two lists, if that has a block
-begins_in : (next : ℕ → ℕ) (from : ℕ) (xs ys : List ℕ) → Walks next from (xs ++ ys) → 1 ≤ length xs → Contains xs from
-begins_in next from [] ys walks some = absurd (omega arith)
-begins_in next from (x ∷ xs) ys walks some = subst (λ y. Contains (x ∷ xs) y) (sym walks.0) (in_head x xs)
-
--- The longest prefix was given back, and then the rest of the cache.
-module _ (class : ℕ) (q r t x : Parts) (capacity : r.capacity ≡ q.capacity) (volatile : r.words.volatile ≡ q.words.volatile)
-    (cache : cache_at r.caches class ≡ cache_at q.caches class) (is : IsClass class) (prefix : CachePrefix) (longest : IsLongest prefix r)
-    (gave : GivesPrefix class prefix r t) (now_capacity : t.capacity ≡ r.capacity) (now_cache : cache_at t.caches class ≡ prefix.rest)
-    (back : GivesInRuns class t x) where
-  abbrev first_run : BlockRun
-  first_run = record { superblock = prefix.d; blocks = gave.blocks }
-
-  rest_is : back.words ≡ gave.rest
-  rest_is = one_walk (image_of t) (cache_at t.caches class).first back.words gave.rest back.cached.walks gave.now.walks
-      (sym back.cached.count ∙ gave.now.count)
-
-  same_capacity : t.capacity ≡ q.capacity
-  same_capacity = now_capacity ∙ capacity
-
-  -- the run behind it is of another superblock
-  apart : (runs : List BlockRun) → All (IsRunOf t.capacity class) runs → blocks_of_runs runs ≡ back.words → AreLongest runs
-      → AreLongest (first_run ∷ runs)
-  apart [] each all behind = tt
-  apart (next ∷ runs) each all behind = (
-    λ same. elim longest as (λ _. ⊥) [
-      | inl none ↦
-          let long : length (next.blocks ++ blocks_of_runs runs) ≡ length back.words = ap length all in
-          let both = length-append next.blocks (blocks_of_runs runs) in
-          let counted = back.cached.count in
-          let left : (cache_at t.caches class).count ≡ prefix.rest.count = ap (λ (c : Cache). c.count) now_cache in
-          let some = next_is.some in
-          omega arith
-      | inr outside ↦ outside (subst (λ n. IsInSuperblock n prefix.d prefix.rest.first) now_capacity
-          (subst (λ d. IsInSuperblock t.capacity d prefix.rest.first) (sym same) begins))
-    ],
-    behind,
-  ) where
-    next_is : IsRunOf t.capacity class next
-    next_is = All-head (IsRunOf t.capacity class) next runs each
-
-    begins : IsInSuperblock t.capacity next.superblock prefix.rest.first
-    begins =
-        let first : (cache_at t.caches class).first ≡ prefix.rest.first = ap (λ (c : Cache). c.first) now_cache in
-        let has = begins_in (image_of t) (cache_at t.caches class).first next.blocks (blocks_of_runs runs)
-        (subst (λ ws. Walks (image_of t) (cache_at t.caches class).first ws) (sym all) back.cached.walks) next_is.some in
-        subst (λ word. IsInSuperblock t.capacity next.superblock word) first
-        (first_inside t.capacity class next.superblock (cache_at t.caches class).first is (next_is.firsts (cache_at t.caches class).first has))
-
-  pub runs_more : GivesInRuns class q x
-  runs_more = record {
-    words = gave.blocks ++ gave.rest;
-    cached = record {
-      walks = subst (λ (xs : List ℕ). Walks (λ k. get_or xs k 0) (cache_at q.caches class).first (gave.blocks ++ gave.rest)) volatile
-          (subst (λ (c : Cache). Walks (image_of r) c.first (gave.blocks ++ gave.rest)) cache gave.cached.walks);
-      count = ap (λ (c : Cache). c.count) (sym cache) ∙ gave.cached.count;
-    };
-    runs = first_run ∷ back.runs;
-    cut = record {
-      all = ap (λ ws. gave.blocks ++ ws) (back.cut.all ∙ rest_is);
-      each = All-cons (IsRunOf q.capacity class) first_run back.runs (subst (λ n. IsRunOf n class first_run) capacity gave.is_run)
-          (subst (λ n. All (IsRunOf n class) back.runs) same_capacity back.cut.each);
-      longest = apart back.runs back.cut.each back.cut.all back.cut.longest;
-    };
-    gives = (
-      image_of t,
-      subst (λ n. GivesRun n class first_run (image_of q) (image_of t)) capacity
-          (subst (λ (xs : List ℕ). GivesRun r.capacity class first_run (λ k. get_or xs k 0) (image_of t)) volatile gave.gives),
-      subst (λ n. GivesRuns n class back.runs (image_of t) (image_of x)) same_capacity back.gives,
-    );
-  }

@@ -19,7 +19,7 @@ use Rattle.heap_shape.specs.Whole.{IsShape}
 use Rattle.heap_shape.specs.Effects.{IsInSuperblock}
 use Rattle.heap_shape.specs.Moves.{TakesFrom, with_cache}
 use Rattle.heap_shape.proofs.AccountLemmas.{accounted_kept, accounted_without}
-use Rattle.heap_shape.proofs.CacheLemmas.{free_small}
+use Rattle.heap_shape.proofs.FreeSmallLemmas.{free_small}
 use Rattle.heap_shape.proofs.OwnLemmas.{class_block}
 use Rattle.line_memory.specs.View.{View, volatile_at}
 use Rattle.block_heap.specs.declared.cache.Cache.{Cache}
@@ -33,7 +33,8 @@ use Rattle.block_heap.specs.Flush.{KeepsAll}
 use Rattle.block_heap.specs.AllocatorWords.{IsAllocatorWord, is_inside}
 use Rattle.block_heap.proofs.RunningLemmas.{set_is}
 use Rattle.block_heap.proofs.LookLemmas.{looks_of}
-use Rattle.block_heap.proofs.SmallLemmas.{changed, KeepsFixed, keeps_fixed, running_after, caches_set, other_cache, leaves_held_of, leaves_held_then, even_words, even_product}
+use Rattle.block_heap.proofs.SmallLemmas.{changed, KeepsFixed, keeps_fixed, running_after, caches_set, other_cache, leaves_held_of, leaves_held_then}
+use Rattle.block_heap.proofs.CachedBlockLemmas.{even_words, even_product}
 use Rattle.block_heap.specs.Draws.{most_free_draws}
 
 -- a superblock of a class with a held block stands in the list of its class, or is full

@@ -21,7 +21,7 @@ use Rattle.block_heap.specs.Held.{held_of, HasMark, at_mark, block_of_mark}
 use Rattle.block_heap.specs.Opening.{IsHeldOf}
 use Rattle.block_heap.proofs.HeldLemmas.{has_map}
 use Rattle.heap_model.proofs.MemberLemmas.{in_none}
-use Rattle.block_heap.proofs.SmallLemmas.{even_words, even_product}
+use Rattle.block_heap.proofs.CachedBlockLemmas.{even_words, even_product}
 
 -- an info that is a class tells its size
 pub begun_class : (info class words : ℕ) → info ≡ class → IsClass class → words ≡ words_of_class class → IsBegun info words

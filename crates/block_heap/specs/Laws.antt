@@ -1,20 +1,19 @@
 -- The laws of a seat, of a heap for one thread: each is a fact that can be decided, so that it follows from what lasts.
-use Rattle.std.proofs.Common.{◌≡◌, ℕ, suc, ◌<◌, ◌+◌, ◌*◌, ◌^◌, ◌⊎◌, inl, inr, refl, ap, sym, subst, ◌∙◌, arith}
+use Rattle.std.proofs.Common.{◌≡◌, ℕ, ◌<◌, ◌+◌, ◌⊎◌, inl, inr, refl, ap, sym, subst, ◌∙◌, arith}
 use Rattle.std.proofs.lemmas.Bool.{cases_eq}
 use Rattle.std.proofs.Math.Logic.{∥∥₁_elim}
-use Rattle.heap_model.specs.declared.block.Block.{Block}
-use Rattle.heap_model.specs.Geometry.{roots, fixed_words, capacity_word, state_word, kind_word}
+use Rattle.heap_model.specs.Geometry.{roots, capacity_word, state_word, kind_word}
 use Rattle.heap_model.specs.Header.{capacity_of}
 use Rattle.heap_model.proofs.HeaderLemmas.{header_lasts, kinds_last}
 use Rattle.heap_model.proofs.ImageLemmas.{get_or-words_from}
 use Rattle.heap_seat.specs.View.{kind_of}
 use Rattle.heap_model.specs.Durability.{IsTransient}
 use Rattle.heap_model.specs.Image.{Image}
-use Rattle.heap_model.specs.Blocks.{layout_of, AreOneOrApart}
-use Rattle.heap_model.proofs.DecisionLemmas.{at_most, both, is_block}
-use Rattle.heap_model.proofs.PartLemmas.{same_fields}
+use Rattle.heap_model.specs.Blocks.{layout_of}
+use Rattle.heap_model.proofs.DecisionLemmas.{at_most, both, decided, either, is_block, one_or_apart}
 use Rattle.line_memory.specs.View.{volatile_at, durable_at}
-use Rattle.heap_seat.specs.Sound.{IsSeat, IsPlaced}
+use Rattle.heap_seat.specs.Sound.{IsSeat}
+use Rattle.heap_seat.proofs.PlacedLemmas.{is_placed}
 use Rattle.heap_seat.specs.Words.{IsOwn, MixesOwn, NamesAll, MayRead, HasPicked, StoresKinds}
 use Rattle.std.specs.Prelude.{Bool, true, false, cond, Some}
 use Rattle.block_heap.specs.Closing.{KeepsFixed}
@@ -23,33 +22,6 @@ use Rattle.block_heap.specs.AllocatorWords.{IsLasting}
 use Rattle.block_heap.specs.Parts.{held_in}
 use Rattle.block_heap.specs.SeqState.{SeqState, all_roots, kinds_seen, seat_of, MayLeave}
 use Rattle.block_heap.specs.Stable.{root_below, stable_placed, stable_apart, stable_names, own_lasts, own_value}
-
--- a fact that can be decided, and that does not fail
-decided : {A B : Type 0} → A ⊎ (A → ⊥) → (B → A) → ∥ B ∥₁ → A
-decided (inl is) gives lasts = is
-decided (inr not) gives lasts = absurd (∥∥₁_elim lasts (λ a b. absurd a) (λ b. not (gives b)))
-
-either : {A B : Type 0} → A ⊎ (A → ⊥) → B ⊎ (B → ⊥) → (A ⊎ B) ⊎ (A ⊎ B → ⊥)
-either (inl a) b = inl (inl a)
-either (inr not) (inl b) = inl (inr b)
-either (inr not) (inr neither) = inr (λ p. elim p as (λ _. ⊥) [ inl a ↦ not a | inr b ↦ neither b ])
-
--- whether blocks are one or apart, and whether one is placed
-one_or_apart : (a b : Block) → AreOneOrApart a b ⊎ (AreOneOrApart a b → ⊥)
-one_or_apart a b = either same
-    (either (at_most (a.first_word + a.words) b.first_word) (at_most (b.first_word + b.words) a.first_word)) where
-      same : (a ≡ b) ⊎ (a ≡ b → ⊥)
-      same = elim (both (cases_eq a.first_word b.first_word) (cases_eq a.words b.words)) [
-        | inl fields ↦ inl (same_fields a b fields.0 fields.1)
-        | inr not ↦ inr (λ e. not (ap (λ (x : Block). x.first_word) e, ap (λ (x : Block). x.words) e))
-      ]
-
-is_placed : (b : Block) → IsPlaced b ⊎ (IsPlaced b → ⊥)
-is_placed b = elim (both (at_most fixed_words b.first_word)
-    (both (at_most 1 b.words) (at_most (suc (8 * (b.first_word + b.words))) (2 ^ 48)))) [
-      | inl all ↦ inl (record { behind = all.0; some = all.1.0; short = all.1.1 })
-      | inr not ↦ inr (λ placed. not (placed.behind, (placed.some, placed.short)))
-    ]
 
 -- what lasts over a stop, of a heap
 abbrev Lasts : SeqState → Type 0

@@ -2,7 +2,8 @@ use Rattle.heap_model.specs.Geometry.{largest_capacity_fits}
 use Rattle.std.proofs.Common.{arith, ap, ◌∙◌, Some}
 use Rattle.block_heap.specs.Parts.{parts_of}
 use Rattle.block_heap.specs.MediumView.{medium_view}
-use Rattle.block_heap.proofs.AllocLargeLemmas.{large_stops, running_looked, taken_fits, fresh_unmarked, join_leaves_held, join_running, join_answers, join_accounted, leaves_held_looked, looked_accounted, looked_joins}
+use Rattle.block_heap.proofs.NoRoomLemmas.{running_looked, leaves_held_looked, looked_accounted, looked_joins}
+use Rattle.block_heap.proofs.AllocLargeLemmas.{large_stops, taken_fits, fresh_unmarked, join_leaves_held, join_running, join_answers, join_accounted}
 use Rattle.block_heap.proofs.arena.Arena.alloc_large.Goals as goal
 
 pub returns-in_default-clause-running : goal.returns-in_default-clause-running

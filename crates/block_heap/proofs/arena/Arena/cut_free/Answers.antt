@@ -2,9 +2,11 @@ use Rattle.std.proofs.Common.{refl, arith, ap, ◌∙◌, Some}
 use Rattle.block_heap.specs.MediumView.{medium_view}
 use Rattle.block_heap.specs.Parts.{parts_of}
 use Rattle.block_heap.proofs.RunningLemmas.{is_head}
-use Rattle.block_heap.proofs.RefillLemmas.{head_moved, leaves_held_moved, emptied_refilling, emptied, emptied_leaves_held, emptied_finds, popped_none}
+use Rattle.block_heap.proofs.RefillLemmas.{leaves_held_moved}
+use Rattle.block_heap.proofs.PoppedLemmas.{head_moved, emptied_refilling, emptied, emptied_leaves_held, emptied_finds, popped_none}
 use Rattle.block_heap.proofs.SpendLemmas.{spends_none}
-use Rattle.block_heap.proofs.CutLemmas.{free_within, unmarked, free_none, free_leaves_held, free_refilling, free_found, free_spends, free_cuts}
+use Rattle.block_heap.proofs.CutLemmas.{unmarked}
+use Rattle.block_heap.proofs.CutFreeLemmas.{free_within, free_none, free_leaves_held, free_refilling, free_found, free_spends, free_cuts}
 use Rattle.block_heap.proofs.LookLemmas.{looks_kept}
 use Rattle.block_heap.proofs.arena.Arena.cut_free.Goals as goal
 

@@ -1,7 +1,7 @@
 use Rattle.std.proofs.Common.{arith, ap, ◌∙◌, Some}
 use Rattle.block_heap.specs.MediumView.{medium_view}
 use Rattle.block_heap.specs.Parts.{parts_of}
-use Rattle.block_heap.proofs.CutLemmas.{fresh_stops, none_refilling, none_finds, none_spends, fresh_unmarked, fresh_leaves_held, fresh_refilling, fresh_found, fresh_cuts, fresh_spends}
+use Rattle.block_heap.proofs.CutFreshLemmas.{fresh_stops, none_refilling, none_finds, none_spends, fresh_unmarked, fresh_leaves_held, fresh_refilling, fresh_found, fresh_cuts, fresh_spends}
 use Rattle.block_heap.proofs.arena.Arena.cut_fresh.Goals as goal
 
 pub returns-in_err-fresh-clause-leaves_held : goal.returns-in_err-fresh-clause-leaves_held

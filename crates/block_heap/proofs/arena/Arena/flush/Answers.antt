@@ -4,8 +4,8 @@ use Rattle.block_heap.specs.MediumView.{medium_view}
 use Rattle.block_heap.specs.declared.cache.Cache.{Cache}
 use Rattle.block_heap.specs.Parts.{parts_of, cache_at}
 use Rattle.block_heap.proofs.SmallLemmas.{read_cache}
-use Rattle.block_heap.proofs.PrefixLemmas.{flushed_leaves_held, flushed_more, prefix_stops_within, give_stops_within, give_leaves_held}
-use Rattle.block_heap.proofs.ReturnLemmas.{flushes_all}
+use Rattle.block_heap.proofs.FlushedLemmas.{flushed_leaves_held, flushed_more, prefix_stops_within, give_stops_within, give_leaves_held}
+use Rattle.block_heap.proofs.ReturnedLemmas.{flushes_all}
 use Rattle.block_heap.proofs.arena.Arena.flush.Goals as goal
 
 pub returns-in_err-prefix-clause-stopped : goal.returns-in_err-prefix-clause-stopped

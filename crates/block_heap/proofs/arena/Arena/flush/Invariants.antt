@@ -1,5 +1,5 @@
 use Rattle.block_heap.specs.Parts.{parts_of, cache_at}
-use Rattle.block_heap.proofs.PrefixLemmas.{IsFlushed}
+use Rattle.block_heap.proofs.FlushedLemmas.{IsFlushed}
 use Rattle.block_heap.proofs.arena.Arena.flush.Given as goal
 
 abbrev pub invariant-loop-class : goal.invariant-loop-class

@@ -1,6 +1,7 @@
 use Rattle.std.proofs.Common.{◌+◌, ◌/◌, ◌∙◌, arith}
 use Rattle.block_heap.specs.Parts.{parts_of}
-use Rattle.block_heap.proofs.FreeLargeLemmas.{drop_begins, freed_accounted, freed_large, freed_more, freed_leaves_held, freed_takes, large_behind, large_mark}
+use Rattle.block_heap.proofs.FreedPartLemmas.{freed_more, freed_leaves_held, freed_takes}
+use Rattle.block_heap.proofs.FreeLargeLemmas.{drop_begins, freed_accounted, freed_large, large_behind, large_mark}
 use Rattle.block_heap.proofs.arena.Arena.free_large.Goals as goal
 
 pub remove-requires : goal.remove-requires

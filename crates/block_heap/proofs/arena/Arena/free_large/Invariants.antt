@@ -1,5 +1,5 @@
 use Rattle.block_heap.specs.Parts.{parts_of}
-use Rattle.block_heap.proofs.FreeLargeLemmas.{IsFreed}
+use Rattle.block_heap.proofs.FreedPartLemmas.{IsFreed}
 use Rattle.block_heap.proofs.arena.Arena.free_large.Given as goal
 
 abbrev pub invariant-loop-d : goal.invariant-loop-d

@@ -6,7 +6,9 @@ use Rattle.block_heap.specs.Accounts.{AreAccounted}
 use Rattle.block_heap.specs.Parts.{parts_of}
 use Rattle.block_heap.specs.Running.{IsRunning}
 use Rattle.block_heap.proofs.SmallLemmas.{changed}
-use Rattle.block_heap.proofs.FlushLemmas.{prefix_anchor, prefix_first, prefix_last, prefix_fits, gave_leaves_held, pushed_leaves_held, gave_running, gave_accounted, pushed_all, all_accounted, pushed_some, some_accounted}
+use Rattle.block_heap.proofs.PrefixPlaceLemmas.{prefix_anchor, prefix_first, prefix_last, prefix_fits, gave_leaves_held, pushed_leaves_held}
+use Rattle.block_heap.proofs.FlushLemmas.{gave_running, gave_accounted}
+use Rattle.block_heap.proofs.ListedPrefixLemmas.{pushed_all, all_accounted, pushed_some, some_accounted}
 use Rattle.block_heap.specs.Returns.{GivesPrefix, GivesTo}
 use Rattle.block_heap.proofs.BlockRunLemmas.{gave_prefix, all_prefix, some_prefix}
 use Rattle.block_heap.proofs.ReturnLemmas.{gave_to, all_to, some_to}

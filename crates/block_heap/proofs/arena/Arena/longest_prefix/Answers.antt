@@ -1,7 +1,8 @@
 use Rattle.std.proofs.Common.{◌≡◌, ℕ, ◌-◌, ◌/◌, ◌≤◌, inl, inr, List, get_or, refl, sym, ◌∙◌, ap, subst, arith}
 use Rattle.heap_model.specs.Geometry.{start_word}
 use Rattle.block_heap.specs.Parts.{parts_of, held_in}
-use Rattle.block_heap.proofs.SmallLemmas.{read_cache, first_from, first_below, leaves_held_of}
+use Rattle.block_heap.proofs.SmallLemmas.{read_cache, leaves_held_of}
+use Rattle.block_heap.proofs.CachedBlockLemmas.{first_from, first_below}
 use Rattle.block_heap.proofs.PrefixLemmas.{cache_first, walked_one, next_placed, walked_more, first_behind, walked_prefix, loaded_run, loaded_keeps, loaded_leaves_held, stopped_leaves_held, loaded_prefix, loaded_more, loaded_capacity}
 use Rattle.block_heap.specs.MediumView.{medium_view}
 use Rattle.block_heap.proofs.arena.Arena.longest_prefix.Goals.{then-loop-count-test+else-superblock_of-d, else-loop-count-test}

@@ -1,7 +1,8 @@
 use Rattle.std.proofs.Common.{refl, arith}
 use Rattle.block_heap.specs.MediumView.{medium_view}
 use Rattle.block_heap.specs.Parts.{parts_of}
-use Rattle.block_heap.proofs.SmallLemmas.{read_cache, first_cached, first_below, first_mark, popped_block, popped_leaves_held}
+use Rattle.block_heap.proofs.SmallLemmas.{read_cache}
+use Rattle.block_heap.proofs.CachedBlockLemmas.{first_cached, first_below, first_mark, popped_block, popped_leaves_held}
 use Rattle.block_heap.proofs.arena.Arena.pop_block.Goals as goal
 
 pub load-requires-clause-within : goal.load-requires-clause-within

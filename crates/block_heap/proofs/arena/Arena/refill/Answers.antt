@@ -7,7 +7,8 @@ use Rattle.block_heap.specs.Refill.{FindsPartial, FindsFree, Refills}
 use Rattle.block_heap.specs.Running.{LeavesHeld}
 use Rattle.block_heap.specs.Steps.{IsRefilling, Spends}
 use Rattle.block_heap.proofs.SpendLemmas.{spends_then}
-use Rattle.block_heap.proofs.PartialLemmas.{refilling_then, fresh_refills, partial_refills, free_refills, refills_from_fresh}
+use Rattle.block_heap.proofs.PartialLemmas.{refilling_then}
+use Rattle.block_heap.proofs.RefilledLemmas.{fresh_refills, partial_refills, free_refills, refills_from_fresh}
 use Rattle.block_heap.specs.Order.{RefillsFrom, from_class_list, OrdersPartial, OrdersFree}
 use Rattle.block_heap.proofs.OrderLemmas.{refills_from_free}
 use Rattle.block_heap.proofs.arena.Arena.refill.Goals.{then-branch-via-then-branch, then-branch-via-else-branch+in_ok-cut_free+then-branch-2}

@@ -3,9 +3,11 @@ use Rattle.heap_model.specs.Geometry.{lists}
 use Rattle.block_heap.specs.MediumView.{medium_view}
 use Rattle.block_heap.specs.Parts.{parts_of}
 use Rattle.block_heap.proofs.RunningLemmas.{is_head}
-use Rattle.block_heap.proofs.RefillLemmas.{head_moved, leaves_held_moved, emptied, emptied_refilling, emptied_leaves_held, emptied_finds, popped_none}
+use Rattle.block_heap.proofs.RefillLemmas.{leaves_held_moved}
+use Rattle.block_heap.proofs.PoppedLemmas.{head_moved, emptied, emptied_refilling, emptied_leaves_held, emptied_finds, popped_none}
 use Rattle.block_heap.proofs.SpendLemmas.{spends_none}
-use Rattle.block_heap.proofs.TakeLemmas.{first_within, first_anchor, take_moved, taken_some, taken_refilling, taken_leaves_held, taken_spends, recycled_leaves_held, recycled_refilling, recycled_first, recycled_spends, first_looked, taken_all, recycled_moves}
+use Rattle.block_heap.proofs.TakeLemmas.{first_within, first_anchor, take_moved, taken_some, taken_refilling, taken_leaves_held, taken_spends, first_looked, taken_all}
+use Rattle.block_heap.proofs.RecycledLemmas.{recycled_leaves_held, recycled_refilling, recycled_first, recycled_spends, recycled_moves}
 use Rattle.block_heap.proofs.LookLemmas.{looks_kept}
 use Rattle.block_heap.proofs.arena.Arena.take_first.Goals as goal
 

@@ -9,7 +9,7 @@ use Rattle.block_heap.specs.SeqState.{SeqState}
 use Rattle.block_heap.specs.Serving.{Answers, DrainsAs}
 use Rattle.block_heap.proofs.DrainKeepLemmas.{kept_first, kept_pushed, kept_unpushed, kept_last, kept_done, kept_stops}
 use Rattle.block_heap.proofs.DrainLemmas.{drains_last}
-use Rattle.block_heap.proofs.RequestLemmas.{size_served}
+use Rattle.block_heap.proofs.RefusedLemmas.{size_served}
 use Rattle.block_heap.proofs.DrawnLemmas.{draining_first, draining_more, room_for_one, drawn_few, drawn_stops_within}
 use Rattle.block_heap.specs.Draws.{most_blocks}
 use Rattle.block_heap.proofs.seq_heap.SeqHeap.drain.Goals as goal

@@ -2,7 +2,7 @@ use Rattle.std.proofs.Common.{◌<◌, subst, sym, ap}
 use Rattle.block_heap.specs.Order.{ServesInOrder}
 use Rattle.block_heap.specs.SeqState.{SeqState}
 use Rattle.block_heap.specs.Serving.{Answers}
-use Rattle.block_heap.proofs.RequestLemmas.{refused_by, refused_heap, refused_by_as, refused_keeps}
+use Rattle.block_heap.proofs.RefusedLemmas.{refused_by, refused_heap, refused_by_as, refused_keeps}
 use Rattle.block_heap.proofs.seq_seat.SeqHeapHeapSeat.alloc.Goals as goal
 
 pub invariant_of-self : goal.invariant_of-self
