@@ -6,8 +6,8 @@ use Rattle.std.specs.List.Sorted.{IsPermutation, IsNonDecreasingBy}
 use Rattle.std.specs.BTreeMap.{BTreeMap, get, keys, IsOrdered}
 use Rattle.std.specs.Ordering.{nat_cmp}
 use Rattle.std.proofs.lemmas.Bool.Decides.{Decides-eqb}
-use Rattle.std.proofs.lemmas.Bool.{cases_eq, cond-false, eq-eqb, ne_eqb}
-use Rattle.std.proofs.lemmas.Cmp.{nat_cmp_total}
+use Rattle.std.proofs.lemmas.Bool.{cases_eq, cond-false, ne_eqb}
+use Rattle.std.proofs.lemmas.Cmp.{nat_cmp_total, nat_eq_equiv}
 use Rattle.std.proofs.lemmas.List.{get_or-map, length-map}
 use Rattle.std.proofs.lemmas.List.Elements.{Contains-append_left, Contains-append_right, Contains-append_cases}
 use Rattle.std.proofs.lemmas.List.Sorted.{Contains-permutation, IsPermutation-sym, IsPermutation-map}
@@ -26,17 +26,10 @@ use Rattle.dictionary.specs.Reading.{AreMaps}
 use Rattle.trace_text.specs.Keys.{Entries, AreEntries}
 use Rattle.image_run.specs.Reporting.{IsEntryOf}
 
--- a test of equality answers alike for the two the other way round
-flips : (x y : ℕ) → nat_eq x y ≡ nat_eq y x
-flips x y = elim (cases_eq x y) as (λ _. nat_eq x y ≡ nat_eq y x) [
-  | inl same ↦ eq-eqb x y same ∙ sym (eq-eqb y x (sym same))
-  | inr other ↦ ne_eqb x y other ∙ sym (ne_eqb y x (λ e. other (sym e)))
-]
-
 -- numbers that differ do so in any order
 pub still_once : (xs ys : List ℕ) → IsPermutation xs ys → AllPairs (λ x y. x ≢ y) xs → AllPairs (λ x y. x ≢ y) ys
 still_once xs ys moved once =
-    AllPairs-from_IsDistinct Decides-eqb ys (IsDistinct-IsPermutation nat_eq flips xs ys moved (IsDistinct-from_AllPairs Decides-eqb xs once))
+    AllPairs-from_IsDistinct Decides-eqb ys (IsDistinct-IsPermutation nat_eq nat_eq_equiv.symm xs ys moved (IsDistinct-from_AllPairs Decides-eqb xs once))
 
 abbrev KeyMap : Type 0
 KeyMap = BTreeMap ℕ (List ℕ)
