@@ -1,5 +1,5 @@
 -- What calls of a heap make of a list that it holds.
-use Rattle.std.proofs.Common.{◌≡◌, ◌≢◌, Option, None, Some, ℕ, ◌*◌, ◌<◌, inl, inr, List, ◌∷◌, slice_index, Contains, refl, sym, subst, ◌∙◌, arith}
+use Rattle.std.proofs.Common.{◌≡◌, ◌≢◌, Some, ℕ, ◌*◌, ◌<◌, inl, inr, List, ◌∷◌, slice_index, Contains, refl, sym, subst, ◌∙◌, arith}
 use Rattle.heap_model.specs.declared.block.Block.{Block}
 use Rattle.heap_model.specs.Blocks.{IsIn}
 use Rattle.heap_model.specs.Geometry.{roots, root_word}
@@ -8,8 +8,8 @@ use Rattle.heap_model.specs.Pointers.{IsPointerTo}
 use Rattle.heap_seat.specs.Alloc.{Adds, Allocates, IsSizeFor, of_class, of_superblocks}
 use Rattle.heap_seat.specs.Sound.{IsSeat}
 use Rattle.heap_seat.specs.View.{View}
-use Rattle.heap_seat.specs.Words.{IsOwn, in_block, in_root, KeepsWord, KeepsOwn, MayHaveStored, MayBe, MayRead, MixesOwn, NamesAll, StoresKinds}
-use Rattle.heap_seat.proofs.CallerLemmas.{held_in, keeps_word_then, not_new, own_added, own_same, stays_durable, durable_in}
+use Rattle.heap_seat.specs.Words.{IsOwn, in_block, in_root, KeepsWord, KeepsOwn, MayHaveStored, MayRead, MixesOwn, NamesAll, StoresKinds}
+use Rattle.heap_seat.proofs.CallerLemmas.{held_in, keeps_word_then, may_be_known, not_new, own_added, own_same, stays_durable, durable_in}
 use Rattle.first_filter.specs.Lists.{KeepsOthers, IsList, HasList, HasListOrMore, as_it_was, one_more, IsKept, IsKeptList, ends, leads, HoldsList}
 
 pub kept_stays : (v w : View) (word value : ℕ) → KeepsWord v w word → IsKept v word value → IsKept w word value
@@ -21,10 +21,6 @@ kept_stays v w word value keeps kept = record {
 -- the first word of a held block is own
 first_own : (v : View) (b : Block) → IsSeat v → Contains v.held b → IsOwn v.held v.roots b.first_word
 first_own v b seat has = let some = (seat.placed b has).some in in_block b b.first_word has (record { from = omega arith; until = omega arith })
-
-may_be_known : (known : Option ℕ) (value read : ℕ) → known ≡ Some value → MayBe known read → read ≡ value
-may_be_known None value read e may = absurd (cc)
-may_be_known (Some y) value read e may = let same : y ≡ value = cc in may ∙ same
 
 -- a value that may be read of a word that is kept
 read_known : (v : View) (word value read : ℕ) → IsKept v word value → MayRead v word read → read ≡ value

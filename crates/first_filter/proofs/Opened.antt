@@ -1,18 +1,13 @@
 -- A heap as it is opened with an empty image.
-use Rattle.std.proofs.Common.{◌≡◌, ℕ, ◌<◌, List, [], Some, Contains, slice_index, ap, ◌∙◌, arith}
+use Rattle.std.proofs.Common.{◌≡◌, ℕ, ◌<◌, List, [], Some, slice_index, ap, ◌∙◌, arith}
 use Rattle.heap_model.specs.declared.block.Block.{Block}
 use Rattle.heap_model.specs.Geometry.{roots, root_word}
-use Rattle.heap_model.proofs.ImageLemmas.{length-words_from, get_or-words_from}
+use Rattle.heap_model.proofs.ListLemmas.{in_numbers}
 use Rattle.line_memory.specs.View.{volatile_at, durable_at}
 use Rattle.heap_seat.specs.View.{kind_of}
 use Rattle.block_heap.specs.Closing.{IsOpened}
-use Rattle.block_heap.specs.SeqState.{SeqState, seat_of, all_roots}
+use Rattle.block_heap.specs.SeqState.{SeqState, seat_of}
 use Rattle.first_filter.specs.Lists.{IsKept, ends, HoldsList}
-
-has_root : (i : ℕ) → i < roots → Contains all_roots i
-has_root i less =
-    let long = length-words_from (λ i. i) 0 roots in
-    (i, omega arith, get_or-words_from (λ i. i) 0 roots i i less ∙ omega arith)
 
 -- one that was opened with null roots holds the empty list
 pub opened_holds : (words : List ℕ) (held : List Block) (budget : ℕ) (s : SeqState) → IsOpened words held budget s
@@ -22,7 +17,7 @@ opened_holds words held budget s opened kind null = record {
   root = kept 0 (omega arith);
   list = ends;
   kind = kind;
-  own = has_root;
+  own = λ i less. in_numbers 0 roots i (omega arith) (omega arith);
   others = λ i less other. kept i less;
 } where
   kept : (i : ℕ) → i < roots → IsKept (seat_of s) (root_word i) 0
