@@ -1,14 +1,15 @@
 -- Two images, of which the one leaves in the other what a trace of the dictionary looks at: they are traced alike, and
 -- their shards are the same maps.
-use Rattle.std.proofs.Common.{◌≡◌, ℕ, ◌+◌, ◌<◌, ◌↔◌, inl, inr, List, Contains, refl, ap, sym, subst, ◌∙◌, arith}
+use Rattle.std.proofs.Common.{◌≡◌, ℕ, ◌+◌, ◌<◌, ◌↔◌, List, Contains, refl, ap, sym, subst, ◌∙◌, arith}
 use Rattle.heap_model.specs.declared.block.Block.{Block}
-use Rattle.heap_model.specs.Geometry.{roots, root_word, kind_word, capacity_word, state_word, dirty}
+use Rattle.heap_model.specs.Geometry.{roots, root_word, kind_word, state_word, dirty}
 use Rattle.heap_model.specs.Header.{capacity_of, kinds_of}
 use Rattle.heap_model.specs.Image.{Image}
 use Rattle.heap_model.specs.Blocks.{IsBlock, IsIn, layout_of}
 use Rattle.heap_model.specs.Pointers.{Leads, LeadsOutside}
 use Rattle.heap_model.specs.Reach.{AnyRoot, Reach, ReachIn, IsReachedIn, IsOutsideIn, IsTraced, is_root, is_linked, TracesAlike, words_in, by_start, by_link}
-use Rattle.heap_model.specs.Recovery.{IsKeptWord, in_header, is_root as of_root, is_kind}
+use Rattle.heap_model.specs.Recovery.{IsKeptWord, is_root as of_root, is_kind}
+use Rattle.heap_at_rest.proofs.RecoveredLemmas.{same_capacity}
 use Rattle.heap_model.proofs.ImageLemmas.{length-words_from, words_from-agree}
 use Rattle.heap_model.proofs.ReachLemmas.{reached_block, reach_kept, nothing_more, reach_by_kinds}
 use Rattle.dict_model.specs.Links.{dict_links, shards}
@@ -26,12 +27,9 @@ pub record KeepsReached (old new : Image) : Type 0 where
   pub none : (at : ℕ) → IsOutsideIn old dict_links at → ⊥
 
 module _ (old new : Image) (keeps : KeepsReached old new) where
-  capacity_kept : capacity_of new ≡ capacity_of old
-  capacity_kept = keeps.same capacity_word (in_header capacity_word (inr (inr (inl refl))))
-
   pub kinds_same : (root : ℕ) → root < roots → kinds_of new root ≡ kinds_of old root
   kinds_same root below =
-      ap (λ capacity. new (kind_word capacity root)) capacity_kept
+      ap (λ capacity. new (kind_word capacity root)) (same_capacity old new keeps.same)
       ∙ keeps.same (kind_word (capacity_of old) root) (is_kind root (kind_word (capacity_of old) root) below refl)
 
   pub roots_same : (root : ℕ) → root < roots → new (root_word root) ≡ old (root_word root)
@@ -136,7 +134,7 @@ module _ (old new : Image) (keeps : KeepsReached old new) where
   -- and its first bad place
   pub bad_before : (shard at : ℕ) → shard < shards → BadShard new shard at → BadShard old shard at
   bad_before shard _ below (at_kind other) =
-      subst (λ capacity. BadShard old shard (kind_word capacity shard)) (sym capacity_kept)
+      subst (λ capacity. BadShard old shard (kind_word capacity shard)) (sym (same_capacity old new keeps.same))
       (at_kind (λ is. other (kinds_same shard (omega arith) ∙ is)))
   bad_before shard at below (in_table _ is bad) =
       let kind = sym (kinds_same shard (omega arith)) ∙ is in

@@ -6,14 +6,13 @@ use Rattle.heap_model.specs.Geometry.{roots}
 use Rattle.heap_model.specs.Header.{kinds_of}
 use Rattle.heap_model.specs.Image.{Image}
 use Rattle.heap_model.specs.Blocks.{layout_of, IsBlock}
-use Rattle.heap_model.specs.Pointers.{LeadsOutside}
-use Rattle.heap_model.specs.Reach.{AnyRoot, IsTraced, TracesAlike, IsReachedIn, IsOutsideIn}
+use Rattle.heap_model.specs.Reach.{AnyRoot, TracesAlike, IsReachedIn, IsOutsideIn}
 use Rattle.heap_model.specs.Recovery.{IsRecovered}
 use Rattle.heap_recover.proofs.UnchangedLemmas.{words_unchanged}
 use Rattle.dictionary.specs.Reading.{AreMaps, RecoversTo, TellsLowest}
 use Rattle.dictionary.specs.declared.fault.MapFault.{MapFault}
 use Rattle.dictionary.specs.declared.fault.MapFault.TheVariants.{BadShard as NoMap, Memory}
-use Rattle.dictionary.proofs.KeptLemmas.{KeepsReached, kinds_same, none_before, map_before, bad_before, traced_alike as kept_alike}
+use Rattle.dictionary.proofs.KeptLemmas.{KeepsReached, kinds_same, map_before, bad_before, traced_alike as kept_alike}
 use Rattle.dict_model.specs.Links.{dict_links, shards}
 use Rattle.dict_model.specs.Shards.{Map, MapOf, BadShard}
 
@@ -37,9 +36,6 @@ kinds_kept old new to = kinds_same old new (keeps_reached old new to)
 
 pub traced_alike : (old new : Image) → RecoversTo old new → TracesAlike old new AnyRoot (kinds_of old) dict_links
 traced_alike old new to = kept_alike old new (keeps_reached old new to)
-
-pub none_outside : (old new : Image) → RecoversTo old new → (at : ℕ) → IsTraced old (kinds_of old) dict_links at → LeadsOutside old (old at) → ⊥
-none_outside old new to = none_before old new (keeps_reached old new to)
 
 -- its shards are those of the image
 pub map_kept : (old new : Image) → RecoversTo old new → (shard : ℕ) (map : Map) → shard < shards → MapOf new shard map → MapOf old shard map
