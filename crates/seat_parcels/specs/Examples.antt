@@ -1,10 +1,11 @@
 -- Worked examples by computation: what parcels bring, to whom they go, and what a box and a tray have.
-use Rattle.std.specs.Prelude.{◌≡◌, ◌⊎◌, ℕ, ◌+◌, List, [], ◌∷◌, All, length, Option, None, Some, take, refl}
-use Rattle.std.proofs.Common.{arith, ap, inl, inr, subst, sym, ◌∙◌}
+use Rattle.std.specs.Prelude.{◌≡◌, ℕ, ◌+◌, List, [], ◌∷◌, All, length, Option, None, Some, take, refl}
+use Rattle.std.proofs.Common.{arith, ap, inr, subst, sym, ◌∙◌}
 use Rattle.std.proofs.lemmas.List.Elements.{All-cons, All-head, All-nil}
 use Rattle.heap_model.specs.declared.block.Block.{Block}
 use Rattle.heap_model.specs.Image.{Image, bytes_of_words, words_from}
 use Rattle.dict_model.specs.Nodes.{value_in, value_words}
+use Rattle.dict_requests.specs.MovingExamples.{one_of}
 use Rattle.atomic_table.specs.Seated.{TableId}
 use Rattle.core_model.specs.Examples.{idle}
 use Rattle.heap_rule.specs.Carried.{CarrierView}
@@ -66,10 +67,6 @@ sends_nothing = refl
 -- what an image has in the length's word and the value's is its value
 value_of : (image : Image) → image 3 ≡ 2 → image 4 ≡ 25185 → value_in image node ≡ 97 ∷ 98 ∷ []
 value_of image two word = ap (λ n. take n (bytes_of_words (words_from image 4 (value_words n)))) two ∙ ap (λ w. take 2 (bytes_of_words (w ∷ []))) word
-
-one_of : {x y : ℕ} → (x ≡ y) ⊎ (x ≡ y) → x ≡ y
-one_of (inl e) = e
-one_of (inr e) = e
 
 -- it is a parcel of this table's heap, whatever its number and its key are
 brought : (number key : ℕ) → IsParcelOf table (record { number = number; key = key; carrier = carrier })
