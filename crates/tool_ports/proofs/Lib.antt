@@ -1,3 +1,3 @@
 pub mod ChanceLemmas
-mod SourceLeftLemmas
+pub mod SourceLeftLemmas
 pub mod Written
