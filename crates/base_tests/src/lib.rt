@@ -8,13 +8,19 @@ mod anchors;
 #[cfg(test)]
 mod asserts;
 #[cfg(test)]
+mod header_faults;
+#[cfg(test)]
 mod headers;
 #[cfg(test)]
 mod images;
 #[cfg(test)]
 mod marks;
 #[cfg(test)]
+mod memory_steps;
+#[cfg(test)]
 mod migrations;
+#[cfg(test)]
+mod naive_memory;
 #[cfg(test)]
 mod plain_memory;
 #[cfg(test)]

@@ -5,14 +5,13 @@ ghost use Rattle.line_memory.specs.View.{word_count};
 
 use crate::asserts::{count_of, must_hold, three_columns};
 use crate::images::two_numbers;
+use crate::memory_steps::{Outcome, Step, WORDS, steps};
+use crate::naive_memory::run_naively;
 use line_memory::{Chance, ConstantChance, LineMemory, PlainMemory, Stopped, persist};
 use std::alloc::{AllocError, Global};
 use std::process::Abort;
 use std::test::Fail;
 use test_images::number;
-
-/// The memory of each test: three lines, the last with four words.
-const WORDS: usize = 20;
 
 /// Counts up, so that each of the recent stores has its turn.
 #[derive(Clone, Copy, Drop)]
@@ -25,47 +24,6 @@ impl Chance for Counted {
         self.next = self.next.wrapping_add(1);
         self.next
     }
-}
-
-#[derive(Clone, Copy)]
-enum Step {
-    Load(u64),
-    Store(u64, u64),
-    WriteBack(u64),
-    Fence,
-}
-
-/// The step told as `load 3`, `store 3 31`, `write-back 0` or `fence`.
-fn read_step(text: &str) -> Result<Step, Fail> {
-    let (kind, numbers) = text.split_once(' ').unwrap_or((text, "0"));
-    let (at, value) = operands(numbers)?;
-    step_of(kind, at, value)
-}
-
-/// One number or two; 0 stands for the second.
-fn operands(text: &str) -> Result<(u64, u64), Fail> {
-    let (at, value) = text.split_once(' ').unwrap_or((text, "0"));
-    Ok((number(at)?, number(value)?))
-}
-
-/// The step of this kind.
-fn step_of(kind: &str, at: u64, value: u64) -> Result<Step, Fail> {
-    match kind {
-        "load" => Ok(Step::Load(at)),
-        "store" => Ok(Step::Store(at, value)),
-        "write-back" => Ok(Step::WriteBack(at)),
-        "fence" => Ok(Step::Fence),
-        _ => Err("no step".into()),
-    }
-}
-
-/// The steps of a script.
-fn steps(alloc: Global, script: &str) -> Result<Vec<Step>, Fail> {
-    let mut steps = Vec::new(alloc);
-    for text in script.split(", ") {
-        steps.push(read_step(text)?)?;
-    }
-    Ok(steps)
 }
 
 /// Takes the step, and gives what a load saw, or else 0.
@@ -81,14 +39,6 @@ fn take<M: LineMemory>(memory: &mut M, step: Step) -> Result<u64, Stopped>
         _ => {}
     }
     Ok(0)
-}
-
-/// What a run answered and left.
-#[derive(Drop)]
-struct Outcome {
-    answers: Vec<Result<u64, Stopped>>,
-    volatile: Vec<u64>,
-    durable: Vec<u64>,
 }
 
 /// A memory of zeros.
@@ -128,133 +78,6 @@ fn run<C: Chance>(
         volatile: closed.now,
         durable: closed.kept,
     })
-}
-
-/// The same by the rules alone.
-fn run_naively<C: Chance>(
-    alloc: Global,
-    chance: C,
-    budget: u64,
-    script: &[Step],
-) -> Result<Outcome, AllocError> {
-    let mut naive = Naive::new(alloc);
-    let answers = naive.answer_all(alloc, chance, budget, script)?;
-    naive.finish(answers)
-}
-
-/// A memory by the rules alone: whole arrays, and no list of lines.
-#[derive(Drop)]
-struct Naive {
-    volatile: [u64; WORDS],
-    durable: [u64; WORDS],
-    pending: [bool; WORDS],
-    stores: Vec<u64>,
-    drawn: u64,
-    stopped: Option<Stopped>,
-}
-
-impl Naive {
-    fn new(alloc: Global) -> Naive {
-        Naive {
-            volatile: [0; WORDS],
-            durable: [0; WORDS],
-            pending: [false; WORDS],
-            stores: Vec::new(alloc),
-            drawn: 0,
-            stopped: None,
-        }
-    }
-
-    /// What is left, with these answers.
-    fn finish(self, answers: Vec<Result<u64, Stopped>>) -> Result<Outcome, AllocError> {
-        let alloc = *self.stores.allocator();
-        Ok(Outcome {
-            answers,
-            volatile: Vec::from_slice(alloc, &self.volatile)?,
-            durable: Vec::from_slice(alloc, &self.durable)?,
-        })
-    }
-
-    /// What each step of the script answers.
-    fn answer_all<C: Chance>(
-        &mut self,
-        alloc: Global,
-        mut chance: C,
-        budget: u64,
-        script: &[Step],
-    ) -> Result<Vec<Result<u64, Stopped>>, AllocError> {
-        let mut answers = Vec::new(alloc);
-        for step in script {
-            answers.push(self.answer(&mut chance, budget, *step)?)?;
-        }
-        Ok(answers)
-    }
-
-    /// Draws a ticket, unless one was refused, and takes the step.
-    fn answer<C: Chance>(
-        &mut self,
-        chance: &mut C,
-        budget: u64,
-        step: Step,
-    ) -> Result<Result<u64, Stopped>, AllocError> {
-        if self.stopped.is_none() {
-            self.write_back_early(chance.draw());
-            self.draw(budget);
-        }
-        match self.stopped {
-            None => Ok(Ok(self.take(step)?)),
-            Some(stopped) => Ok(Err(stopped)),
-        }
-    }
-
-    fn write_back_early(&mut self, number: u64) {
-        let nth = (number / 2 % 16) as usize;
-        if number % 2 == 1 && nth < self.stores.len() {
-            let word = self.stores[self.stores.len() - 1 - nth] as usize;
-            if word < WORDS {
-                self.durable[word] = self.volatile[word];
-            }
-        }
-    }
-
-    fn draw(&mut self, budget: u64) {
-        if self.drawn >= budget {
-            self.stopped = Some(Stopped { step: self.drawn });
-        }
-        self.drawn = self.drawn.wrapping_add(1);
-    }
-
-    fn take(&mut self, step: Step) -> Result<u64, AllocError> {
-        match step {
-            Step::Load(word) if word < 20 => return Ok(self.volatile[word as usize]),
-            Step::Store(word, value) if word < 20 => {
-                self.stores.push(word)?;
-                self.volatile[word as usize] = value;
-                self.pending[word as usize] = false;
-            }
-            Step::WriteBack(line) => self.mark(line),
-            Step::Fence => self.complete(),
-            _ => {}
-        }
-        Ok(0)
-    }
-
-    fn mark(&mut self, line: u64) {
-        for word in 0..WORDS {
-            if word as u64 / 8 == line {
-                self.pending[word] = true;
-            }
-        }
-    }
-
-    fn complete(&mut self) {
-        for word in 0..WORDS {
-            if self.pending[word] {
-                self.durable[word] = self.volatile[word];
-                self.pending[word] = false;
-            }
-        }
-    }
 }
 
 /// Twenty steps: stores in each line, some again after the write-back, and two fences.
