@@ -22,6 +22,8 @@ mod images;
 #[cfg(test)]
 mod in_pieces;
 #[cfg(test)]
+mod made_images;
+#[cfg(test)]
 mod modes;
 #[cfg(test)]
 mod openings;
