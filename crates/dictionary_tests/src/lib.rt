@@ -22,6 +22,8 @@ mod checks;
 #[cfg(test)]
 mod filter;
 #[cfg(test)]
+mod gets;
+#[cfg(test)]
 mod heaps;
 #[cfg(test)]
 mod made;
@@ -35,6 +37,8 @@ mod recoveries;
 mod run_tests;
 #[cfg(test)]
 mod schedules;
+#[cfg(test)]
+mod scripts;
 #[cfg(test)]
 mod shards;
 #[cfg(test)]

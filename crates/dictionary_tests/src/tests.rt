@@ -1,13 +1,13 @@
 //! What the requests answer, and what is read back from the images that are left.
 ghost use Rattle.std.specs.Prelude.{◌≤◌};
 
-use crate::asks::{Ask, MANY, all_are, found_in, is_after, opened, run, set, value_of};
+use crate::asks::{Ask, MANY, found_in, opened, run};
 use crate::checks::must_hold;
 use crate::recoveries::empty;
 use crate::standing::Standing;
 use block_heap::{AllocFault, Closed, Looks};
 use line_memory::ConstantChance;
-use std::alloc::{AllocError, Global};
+use std::alloc::Global;
 use std::process::Abort;
 use std::test::Fail;
 
@@ -48,7 +48,7 @@ fn run_all(
 }
 
 /// Makes the requests of an empty heap.
-fn run_on_empty(
+pub fn run_on_empty(
     rt: &(impl Abort + AllocGlobal),
     capacity: u64,
     asks: &[Ask],
@@ -62,7 +62,7 @@ fn run_on_empty(
 }
 
 /// Opens an empty heap of up to sixteen superblocks, with more steps than are taken.
-fn opened_empty(alloc: Global, capacity: u64) -> Result<Standing<ConstantChance>, Fail>
+pub fn opened_empty(alloc: Global, capacity: u64) -> Result<Standing<ConstantChance>, Fail>
     requires some { 1 ≤ capacity }
     requires small { capacity ≤ 16 }
 {
@@ -147,7 +147,7 @@ fn a_replaced_value_is_the_old_one_until_it_is_the_new_one(rt: HostRuntime) -> R
 }
 
 /// The lengths of values at both ends, and near a word.
-const LENGTHS: [usize; 6] = [0, 1, 8, 9, 131_071, 131_072];
+pub const LENGTHS: [usize; 6] = [0, 1, 8, 9, 131_071, 131_072];
 
 /// Puts values of two lengths over the image, one in place of the other.
 fn replaces(
@@ -182,83 +182,6 @@ fn values_of_each_length_replace_one_another(rt: HostRuntime) -> Result<(), Fail
     Ok(())
 }
 
-/// Whether the bytes are a value of so many bytes 1, as far as that fits, and 2 behind it.
-fn are_filled(bytes: &[u8], len: usize) -> bool {
-    let (filled, others) = bytes.split_at(len.min(bytes.len()));
-    all_are(filled, 1) && all_are(others, 2)
-}
-
-/// Asks for a value of `len` bytes 1, which is put as far as it fits.
-fn puts(
-    rt: &impl Abort,
-    heap: &mut Standing<ConstantChance>,
-    key: u64,
-    len: usize,
-    out: &mut [u8],
-) {
-    must_hold(rt, heap.get(key, out) == Ok(Some(len)), "its length");
-    must_hold(rt, are_filled(out, len), "the value, and the rest");
-}
-
-/// Asks for such a value with room for so many, all 2 before.
-fn fits(
-    rt: &impl Abort,
-    alloc: Global,
-    heap: &mut Standing<ConstantChance>,
-    key: u64,
-    (len, room): (usize, usize),
-) -> Result<(), Fail> {
-    let mut out = value_of(alloc, room, 2)?;
-    puts(rt, heap, key, len, &mut out);
-    must_hold(rt, out.len() == room, "the room");
-    Ok(())
-}
-
-/// Asks for a value of so many bytes with no room, too little, enough and more.
-fn fits_each(
-    rt: &impl Abort,
-    alloc: Global,
-    heap: &mut Standing<ConstantChance>,
-    (key, len): (u64, usize),
-) -> Result<(), Fail> {
-    set(alloc, heap, (key, len, 1))?;
-    for room in &[0, len / 2, len, len.wrapping_add(9)] {
-        fits(rt, alloc, heap, key, (len, *room))?;
-    }
-    Ok(())
-}
-
-/// Asks for a key that is not there.
-fn gets_nothing(rt: &impl Abort, heap: &mut Standing<ConstantChance>, key: u64) {
-    let mut out = [3; 4];
-    must_hold(rt, matches!(heap.get(key, &mut out), Ok(None)), "no value");
-    must_hold(rt, out == [3; 4], "nothing is put");
-}
-
-/// Asks for values of each length under the key, and then for a key that is not there.
-fn gets_all(
-    rt: &(impl Abort + AllocGlobal),
-    heap: &mut Standing<ConstantChance>,
-    key: u64,
-) -> Result<(), Fail> {
-    for len in &LENGTHS {
-        fits_each(rt, rt.alloc(), heap, (key, *len))?;
-    }
-    gets_nothing(rt, heap, key ^ 8);
-    Ok(())
-}
-
-/// Does so in an empty heap.
-fn gets_each(rt: &(impl Abort + AllocGlobal), key: u64) -> Result<(), Fail> {
-    gets_all(rt, &mut opened_empty(rt.alloc(), 16)?, key)
-}
-
-#[test]
-fn get_puts_as_much_of_a_value_as_fits(rt: HostRuntime) -> Result<(), Fail> {
-    gets_each(&rt, 0)?;
-    gets_each(&rt, u64::MAX)
-}
-
 /// Three keys of one bucket, of which one goes; then it is gone, and so is another one.
 fn leaves_its_chain(rt: &(impl Abort + AllocGlobal), gone: u64) -> Result<(), Fail> {
     let asks = [
@@ -278,92 +201,4 @@ fn a_key_leaves_its_chain_wherever_it_stands(rt: HostRuntime) -> Result<(), Fail
     leaves_its_chain(&rt, 0)?;
     leaves_its_chain(&rt, 1_024)?;
     leaves_its_chain(&rt, 2_048)
-}
-
-/// The next of a row of numbers, whose upper halves have no pattern.
-fn next(number: u64) -> u64 {
-    number
-        .wrapping_mul(6_364_136_223_846_793_005)
-        .wrapping_add(1_442_695_040_888_963_407)
-}
-
-/// The request that a number draws, for one of twelve keys of four shards, three of each in one
-/// bucket.
-fn drawn(number: u64) -> Ask {
-    let key = (number % 4).wrapping_add((number / 4 % 3).wrapping_mul(1_024));
-    if number / 16 % 3 == 0 {
-        return Ask::Del(key);
-    }
-    let length = (number / 64 % 50) as usize;
-    Ask::Put(key, length, (number / 4_096 % 256) as u8)
-}
-
-/// So many requests.
-fn script(alloc: Global, count: usize, seed: u64) -> Result<Vec<Ask>, AllocError> {
-    let mut asks = Vec::new(alloc);
-    let mut number = seed;
-    for _ in 0..count {
-        number = next(number);
-        asks.push(drawn(number >> 32))?;
-    }
-    Ok(asks)
-}
-
-/// Asserts that the image has what the requests leave of an empty map.
-fn must_be_after(rt: &(impl Abort + AllocGlobal), image: &[u64], asks: &[Ask]) -> Result<(), Fail> {
-    must_hold(rt, is_after(rt.alloc(), image, asks)?, "the map");
-    Ok(())
-}
-
-/// Makes the requests of an empty heap, which leave it as they leave a map.
-fn answers_as_a_map(
-    rt: &(impl Abort + AllocGlobal),
-    asks: &[Ask],
-    number: u64,
-) -> Result<(), Fail> {
-    let closed = run_on_empty(rt, 16, asks, number)?;
-    must_be_after(rt, &closed.now, asks)?;
-    must_be_after(rt, &closed.kept, asks)
-}
-
-#[test]
-fn a_long_script_answers_as_an_ordered_map(rt: HostRuntime) -> Result<(), Fail> {
-    answers_as_a_map(&rt, &script(rt.alloc(), 300, 0x9e37_79b9_7f4a_7c15)?, 0)?;
-    answers_as_a_map(&rt, &script(rt.alloc(), 300, 0x1234_5678_9abc_def1)?, 1)
-}
-
-/// Requests whose blocks are of one class, so that one superblock serves.
-const ONE_CLASS: [Ask; 6] = [
-    Ask::Put(0, 900, 1),
-    Ask::Put(1_024, 800, 2),
-    Ask::Put(0, 1_000, 3),
-    Ask::Del(1_024),
-    Ask::Put(1, 760, 4),
-    Ask::Del(0),
-];
-
-/// Whether the image has the map of the answered requests, or that with the next one.
-fn is_before_or_after(alloc: Global, image: &[u64], answered: usize) -> Result<bool, Fail> {
-    let found = found_in(alloc, image)?;
-    let is_before = found.is_after(alloc, &ONE_CLASS, answered);
-    Ok(is_before || found.is_after(alloc, &ONE_CLASS, answered.wrapping_add(1)))
-}
-
-/// Stops the requests at the step, and tells whether they were done.
-fn stop_script(rt: &(impl Abort + AllocGlobal), image: &[u64], budget: u64) -> Result<bool, Fail> {
-    let left = run(rt.alloc(), image, &ONE_CLASS, (budget, 1))?;
-    let is_map = is_before_or_after(rt.alloc(), &left.closed.kept, left.answered)?;
-    must_hold(rt, is_map, "a map");
-    Ok(left.answered == 6)
-}
-
-#[test]
-fn a_stopped_script_leaves_the_map_before_or_after(rt: HostRuntime) -> Result<(), Fail> {
-    let image = empty(rt.alloc(), 1)?;
-    for step in 0..20_000u64 {
-        if stop_script(&rt, &image, 3 * step)? {
-            return Ok(());
-        }
-    }
-    Err("the script does not end".into())
 }
