@@ -21,6 +21,8 @@ mod ring;
 #[cfg(test)]
 mod rings;
 #[cfg(test)]
+mod rounds;
+#[cfg(test)]
 mod stopping;
 #[cfg(test)]
 mod threading;

@@ -1,5 +1,5 @@
 use Rattle.handing_tests.specs.Handing.{AreAt, IsSameSeat}
-use Rattle.handing_tests.proofs.threading.lead.Given as goal
+use Rattle.handing_tests.proofs.rounds.lead.Given as goal
 
 abbrev pub invariant-loop-round : goal.invariant-loop-round
 invariant-loop-round g l = IsSameSeat l.fn.hand.seat.state l.hand.seat.state × AreAt g.J.Run.table l.goods.carriers.items
