@@ -7,6 +7,8 @@ mod apart;
 #[cfg(test)]
 mod beside_core;
 #[cfg(test)]
+mod core_scenes;
+#[cfg(test)]
 mod dice;
 #[cfg(test)]
 mod fences;
