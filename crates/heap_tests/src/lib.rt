@@ -39,4 +39,6 @@ mod seat_stops;
 #[cfg(test)]
 mod shifts;
 #[cfg(test)]
+mod stopped;
+#[cfg(test)]
 mod stops;
