@@ -1,20 +1,14 @@
-//! The command that the words of the command line ask for, as the crate clap takes them.
-ghost use Rattle.std.specs.Prelude.{◌≡◌, ◌≢◌, ℕ, List, [], Some, codes, slice_get, IfOk, IsErrOf};
-ghost use Rattle.clap.specs.Words.{fault_of};
-ghost use Rattle.tool_command.specs.Command.{Asks, IsFaultless, IsUsage, texts, image_name};
+//! What the words of a command line ask for, and what clap's matches of them are.
+ghost use Rattle.std.specs.Prelude.{◌≡◌, ℕ, List};
+ghost use Rattle.tool_command.specs.Command.{Asks, image_name};
 ghost use Rattle.tool_command.specs.CommandLine.{format_app, show_app, drain_app, gen_app, run_app, rebuild_app, replay_app, conservative_app, count_app, IsTaken, IsMatchedBy};
 ghost use Rattle.tool_command.specs.Invocations.{command_of};
 
-use crate::command_line::{
-    Refusal, conservative_command, count_command, drain_command, format_command, gen_command,
-    has_flag, match_words, number_of, number_or, rebuild_command, replay_command, run_command,
-    show_command, text_of,
-};
+use crate::command_line::{has_flag, number_of, number_or, text_of};
 use crate::trace_plan::TracePlan;
 use clap::ArgMatches;
 use image_run::{MOST_BUDGET, RunOptions};
 use size_table::SizeClass;
-use std::alloc::Global;
 use super_block::Geometry;
 
 /// What the words ask for.
@@ -86,153 +80,9 @@ impl<'a> Invocation<'a> {
     }
 }
 
-/// The invocation that the words are. The first one chooses the command; clap reads the others, and
-/// where it finds no fault in them, they ask for the command: no words are refused but those that
-/// name none, and those in which clap finds a fault.
-pub fn parse<'a>(alloc: Global, words: &'a [String]) -> Result<Invocation<'a>, Refusal>
-    ensures ok { IfOk result (λ invocation. Asks (texts words.entry.now) (command_of invocation)) }
-    ensures err { IsErrOf result Refusal.Usage → IsUsage (texts words.entry.now) }
-    ensures faultless { IfOk result (λ _. IsFaultless (texts words.entry.now)) }
-    ensures faulty { IsErrOf result Refusal.Usage → ¬ (IsFaultless (texts words.entry.now)) }
-{
-    match words {
-        [first, ..] => parse_command(alloc, first.as_str(), words),
-        [] => Err(Refusal::Usage),
-    }
-}
-
-fn parse_command<'a>(
-    alloc: Global,
-    command: &str,
-    words: &'a [String],
-) -> Result<Invocation<'a>, Refusal>
-    requires { slice_get (texts words.now) 0 ≡ Some command.now }
-    ensures ok { IfOk result (λ invocation. Asks (texts words.entry.now) (command_of invocation)) }
-    ensures err { IsErrOf result Refusal.Usage → IsUsage (texts words.entry.now) }
-{
-    if command == "format" {
-        return parse_format(alloc, words);
-    }
-    if command == "show" {
-        return parse_show(alloc, words);
-    }
-    if command == "drain" {
-        return parse_drain(alloc, words);
-    }
-    if command == "gen" {
-        return parse_gen(alloc, words);
-    }
-    if command == "run" {
-        return parse_run(alloc, words);
-    }
-    if command == "rebuild" {
-        return parse_rebuild(alloc, words);
-    }
-    if command == "replay" {
-        return parse_replay(alloc, words);
-    }
-    if command == "conservative" {
-        return parse_conservative(alloc, words);
-    }
-    if command == "count" {
-        return parse_count(alloc, words);
-    }
-    Err(Refusal::Usage)
-}
-
-fn parse_format<'a>(alloc: Global, words: &'a [String]) -> Result<Invocation<'a>, Refusal>
-    requires { slice_get (texts words.now) 0 ≡ Some (codes "format") }
-    ensures ok { IfOk result (λ invocation. Asks (texts words.entry.now) (command_of invocation)) }
-    ensures err { IsErrOf result Refusal.Usage
-        → fault_of format_app (texts words.entry.now) ≢ [] }
-{
-    let matches = match_words(format_command(alloc), words)?;
-    Ok(read_format(&matches))
-}
-
-fn parse_show<'a>(alloc: Global, words: &'a [String]) -> Result<Invocation<'a>, Refusal>
-    requires { slice_get (texts words.now) 0 ≡ Some (codes "show") }
-    ensures ok { IfOk result (λ invocation. Asks (texts words.entry.now) (command_of invocation)) }
-    ensures err { IsErrOf result Refusal.Usage
-        → fault_of show_app (texts words.entry.now) ≢ [] }
-{
-    let matches = match_words(show_command(alloc), words)?;
-    Ok(read_show(&matches))
-}
-
-fn parse_drain<'a>(alloc: Global, words: &'a [String]) -> Result<Invocation<'a>, Refusal>
-    requires { slice_get (texts words.now) 0 ≡ Some (codes "drain") }
-    ensures ok { IfOk result (λ invocation. Asks (texts words.entry.now) (command_of invocation)) }
-    ensures err { IsErrOf result Refusal.Usage
-        → fault_of drain_app (texts words.entry.now) ≢ [] }
-{
-    let matches = match_words(drain_command(alloc), words)?;
-    Ok(read_drain(&matches))
-}
-
-fn parse_gen<'a>(alloc: Global, words: &'a [String]) -> Result<Invocation<'a>, Refusal>
-    requires { slice_get (texts words.now) 0 ≡ Some (codes "gen") }
-    ensures ok { IfOk result (λ invocation. Asks (texts words.entry.now) (command_of invocation)) }
-    ensures err { IsErrOf result Refusal.Usage
-        → fault_of gen_app (texts words.entry.now) ≢ [] }
-{
-    let matches = match_words(gen_command(alloc), words)?;
-    Ok(read_gen(&matches))
-}
-
-fn parse_run<'a>(alloc: Global, words: &'a [String]) -> Result<Invocation<'a>, Refusal>
-    requires { slice_get (texts words.now) 0 ≡ Some (codes "run") }
-    ensures ok { IfOk result (λ invocation. Asks (texts words.entry.now) (command_of invocation)) }
-    ensures err { IsErrOf result Refusal.Usage
-        → fault_of run_app (texts words.entry.now) ≢ [] }
-{
-    let matches = match_words(run_command(alloc), words)?;
-    Ok(read_run(&matches))
-}
-
-fn parse_rebuild<'a>(alloc: Global, words: &'a [String]) -> Result<Invocation<'a>, Refusal>
-    requires { slice_get (texts words.now) 0 ≡ Some (codes "rebuild") }
-    ensures ok { IfOk result (λ invocation. Asks (texts words.entry.now) (command_of invocation)) }
-    ensures err { IsErrOf result Refusal.Usage
-        → fault_of rebuild_app (texts words.entry.now) ≢ [] }
-{
-    let matches = match_words(rebuild_command(alloc), words)?;
-    Ok(read_rebuild(&matches))
-}
-
-fn parse_replay<'a>(alloc: Global, words: &'a [String]) -> Result<Invocation<'a>, Refusal>
-    requires { slice_get (texts words.now) 0 ≡ Some (codes "replay") }
-    ensures ok { IfOk result (λ invocation. Asks (texts words.entry.now) (command_of invocation)) }
-    ensures err { IsErrOf result Refusal.Usage
-        → fault_of replay_app (texts words.entry.now) ≢ [] }
-{
-    let matches = match_words(replay_command(alloc), words)?;
-    Ok(read_replay(&matches))
-}
-
-fn parse_conservative<'a>(alloc: Global, words: &'a [String]) -> Result<Invocation<'a>, Refusal>
-    requires { slice_get (texts words.now) 0 ≡ Some (codes "conservative") }
-    ensures ok { IfOk result (λ invocation. Asks (texts words.entry.now) (command_of invocation)) }
-    ensures err { IsErrOf result Refusal.Usage
-        → fault_of conservative_app (texts words.entry.now) ≢ [] }
-{
-    let matches = match_words(conservative_command(alloc), words)?;
-    Ok(read_conservative(&matches))
-}
-
-fn parse_count<'a>(alloc: Global, words: &'a [String]) -> Result<Invocation<'a>, Refusal>
-    requires { slice_get (texts words.now) 0 ≡ Some (codes "count") }
-    ensures ok { IfOk result (λ invocation. Asks (texts words.entry.now) (command_of invocation)) }
-    ensures err { IsErrOf result Refusal.Usage
-        → fault_of count_app (texts words.entry.now) ≢ [] }
-{
-    let matches = match_words(count_command(alloc), words)?;
-    Ok(read_count(&matches))
-}
-
 // What the matches ask for, of words that clap took as those of the command: each argument that has
 // to be there is, and each number lies in its bounds.
-fn read_format<'a>(matches: &ArgMatches<'a>) -> Invocation<'a>
+pub fn read_format<'a>(matches: &ArgMatches<'a>) -> Invocation<'a>
     requires { (words : List (List ℕ)) × IsTaken format_app words
         × IsMatchedBy format_app words matches.now }
     ensures { (words : List (List ℕ)) → IsTaken format_app words
@@ -243,7 +93,7 @@ fn read_format<'a>(matches: &ArgMatches<'a>) -> Invocation<'a>
     Invocation::Format { image, layout }
 }
 
-fn read_show<'a>(matches: &ArgMatches<'a>) -> Invocation<'a>
+pub fn read_show<'a>(matches: &ArgMatches<'a>) -> Invocation<'a>
     requires { (words : List (List ℕ)) × IsTaken show_app words
         × IsMatchedBy show_app words matches.now }
     ensures { (words : List (List ℕ)) → IsTaken show_app words
@@ -259,7 +109,7 @@ fn read_show<'a>(matches: &ArgMatches<'a>) -> Invocation<'a>
     }
 }
 
-fn read_drain<'a>(matches: &ArgMatches<'a>) -> Invocation<'a>
+pub fn read_drain<'a>(matches: &ArgMatches<'a>) -> Invocation<'a>
     requires { (words : List (List ℕ)) × IsTaken drain_app words
         × IsMatchedBy drain_app words matches.now }
     ensures { (words : List (List ℕ)) → IsTaken drain_app words
@@ -270,7 +120,7 @@ fn read_drain<'a>(matches: &ArgMatches<'a>) -> Invocation<'a>
     Invocation::Drain { image, class }
 }
 
-fn read_gen<'a>(matches: &ArgMatches<'a>) -> Invocation<'a>
+pub fn read_gen<'a>(matches: &ArgMatches<'a>) -> Invocation<'a>
     requires { (words : List (List ℕ)) × IsTaken gen_app words
         × IsMatchedBy gen_app words matches.now }
     ensures { (words : List (List ℕ)) → IsTaken gen_app words
@@ -282,7 +132,7 @@ fn read_gen<'a>(matches: &ArgMatches<'a>) -> Invocation<'a>
     Invocation::Gen { plan }
 }
 
-fn read_run<'a>(matches: &ArgMatches<'a>) -> Invocation<'a>
+pub fn read_run<'a>(matches: &ArgMatches<'a>) -> Invocation<'a>
     requires { (words : List (List ℕ)) × IsTaken run_app words
         × IsMatchedBy run_app words matches.now }
     ensures { (words : List (List ℕ)) → IsTaken run_app words
@@ -298,7 +148,7 @@ fn read_run<'a>(matches: &ArgMatches<'a>) -> Invocation<'a>
     Invocation::Run { image, options }
 }
 
-fn read_rebuild<'a>(matches: &ArgMatches<'a>) -> Invocation<'a>
+pub fn read_rebuild<'a>(matches: &ArgMatches<'a>) -> Invocation<'a>
     requires { (words : List (List ℕ)) × IsTaken rebuild_app words
         × IsMatchedBy rebuild_app words matches.now }
     ensures { (words : List (List ℕ)) → IsTaken rebuild_app words
@@ -314,7 +164,7 @@ fn read_rebuild<'a>(matches: &ArgMatches<'a>) -> Invocation<'a>
     }
 }
 
-fn read_replay<'a>(matches: &ArgMatches<'a>) -> Invocation<'a>
+pub fn read_replay<'a>(matches: &ArgMatches<'a>) -> Invocation<'a>
     requires { (words : List (List ℕ)) × IsTaken replay_app words
         × IsMatchedBy replay_app words matches.now }
     ensures { (words : List (List ℕ)) → IsTaken replay_app words
@@ -325,7 +175,7 @@ fn read_replay<'a>(matches: &ArgMatches<'a>) -> Invocation<'a>
     Invocation::Replay { image, seed }
 }
 
-fn read_conservative<'a>(matches: &ArgMatches<'a>) -> Invocation<'a>
+pub fn read_conservative<'a>(matches: &ArgMatches<'a>) -> Invocation<'a>
     requires { (words : List (List ℕ)) × IsTaken conservative_app words
         × IsMatchedBy conservative_app words matches.now }
     ensures { (words : List (List ℕ)) → IsTaken conservative_app words
@@ -336,7 +186,7 @@ fn read_conservative<'a>(matches: &ArgMatches<'a>) -> Invocation<'a>
     Invocation::Conservative { image, with_map }
 }
 
-fn read_count<'a>(matches: &ArgMatches<'a>) -> Invocation<'a>
+pub fn read_count<'a>(matches: &ArgMatches<'a>) -> Invocation<'a>
     requires { (words : List (List ℕ)) × IsTaken count_app words
         × IsMatchedBy count_app words matches.now }
     ensures { (words : List (List ℕ)) → IsTaken count_app words

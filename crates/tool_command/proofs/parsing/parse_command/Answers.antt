@@ -1,6 +1,6 @@
 use Rattle.std.proofs.Common.{◌≡◌, ◌∙◌, ap, rules, codes, List, ℕ, Some}
 use Rattle.tool_command.proofs.CommandLemmas.{usage_format, usage_show, usage_drain, usage_gen, usage_run, usage_rebuild, usage_replay, usage_conservative, usage_count}
-use Rattle.tool_command.proofs.command.parse_command.Goals as goal
+use Rattle.tool_command.proofs.parsing.parse_command.Goals as goal
 
 pub returns-then-eq-clause-err : goal.returns-then-eq-clause-err
 returns-then-eq-clause-err c is =

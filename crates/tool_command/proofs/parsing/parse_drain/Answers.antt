@@ -4,7 +4,7 @@ use Rattle.tool_command.specs.Command.{texts}
 use Rattle.tool_command.specs.CommandLine.{drain_app}
 use Rattle.tool_command.specs.declared.command_line.Refusal.TheVariants.{Usage}
 use Rattle.tool_command.proofs.CommandLemmas.{taken_as, faulty_as, told_has}
-use Rattle.tool_command.proofs.command.parse_drain.Goals as goal
+use Rattle.tool_command.proofs.parsing.parse_drain.Goals as goal
 
 pub match_words-requires-clause-simple : goal.match_words-requires-clause-simple
 match_words-requires-clause-simple c = told_has drain_app (λ app. is_simple app ≡ true) _ c.drain_command.ensures refl

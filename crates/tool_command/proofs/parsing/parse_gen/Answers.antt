@@ -1,28 +1,28 @@
 use Rattle.std.proofs.Common.{◌≡◌, true, refl, rules, IsErrOf}
 use Rattle.clap.specs.Words.{is_simple, is_simple_and_free}
 use Rattle.tool_command.specs.Command.{texts}
-use Rattle.tool_command.specs.CommandLine.{run_app}
+use Rattle.tool_command.specs.CommandLine.{gen_app}
 use Rattle.tool_command.specs.declared.command_line.Refusal.TheVariants.{Usage}
 use Rattle.tool_command.proofs.CommandLemmas.{taken_as, faulty_as, told_has}
-use Rattle.tool_command.proofs.command.parse_run.Goals as goal
+use Rattle.tool_command.proofs.parsing.parse_gen.Goals as goal
 
 pub match_words-requires-clause-simple : goal.match_words-requires-clause-simple
-match_words-requires-clause-simple c = told_has run_app (λ app. is_simple app ≡ true) _ c.run_command.ensures refl
+match_words-requires-clause-simple c = told_has gen_app (λ app. is_simple app ≡ true) _ c.gen_command.ensures refl
 
 pub match_words-requires-clause-free : goal.match_words-requires-clause-free
-match_words-requires-clause-free c = told_has run_app (λ app. is_simple_and_free app ≡ true) _ c.run_command.ensures refl
+match_words-requires-clause-free c = told_has gen_app (λ app. is_simple_and_free app ≡ true) _ c.gen_command.ensures refl
 
-pub read_run-requires : goal.read_run-requires
-read_run-requires c =
-    let taken = taken_as run_app _ _ _ c.in_ok-matches.ensures.ok c.run_command.ensures c.requires in
+pub read_gen-requires : goal.read_gen-requires
+read_gen-requires c =
+    let taken = taken_as gen_app _ _ _ c.in_ok-matches.ensures.ok c.gen_command.ensures c.requires in
     (texts c.args.words.now, taken.0, taken.1)
 
 pub returns-in_err-matches-clause-err : goal.returns-in_err-matches-clause-err
 returns-in_err-matches-clause-err c is =
     let refused : IsErrOf c.match_words.result Usage = search rules in
-    faulty_as run_app _ _ (c.match_words.ensures.err refused) c.run_command.ensures
+    faulty_as gen_app _ _ (c.match_words.ensures.err refused) c.gen_command.ensures
 
 pub returns-clause-ok : goal.returns-clause-ok
 returns-clause-ok c =
-    let taken = taken_as run_app _ _ _ c.in_ok-matches.ensures.ok c.run_command.ensures c.requires in
-    c.read_run.ensures _ taken.0 taken.1
+    let taken = taken_as gen_app _ _ _ c.in_ok-matches.ensures.ok c.gen_command.ensures c.requires in
+    c.read_gen.ensures _ taken.0 taken.1

@@ -4,7 +4,7 @@ use Rattle.tool_command.specs.Command.{texts}
 use Rattle.tool_command.specs.CommandLine.{format_app}
 use Rattle.tool_command.specs.declared.command_line.Refusal.TheVariants.{Usage}
 use Rattle.tool_command.proofs.CommandLemmas.{taken_as, faulty_as, told_has}
-use Rattle.tool_command.proofs.command.parse_format.Goals as goal
+use Rattle.tool_command.proofs.parsing.parse_format.Goals as goal
 
 pub match_words-requires-clause-simple : goal.match_words-requires-clause-simple
 match_words-requires-clause-simple c = told_has format_app (λ app. is_simple app ≡ true) _ c.format_command.ensures refl

@@ -2,7 +2,7 @@ use Rattle.tool_command.specs.Command.{IsUsage, texts}
 use Rattle.tool_command.specs.Invocations.{command_of}
 use Rattle.tool_command.proofs.CommandLemmas.{no_texts, usage_none}
 use Rattle.tool_command.proofs.TakenLemmas.{faultless_if_ok, usage_faulty}
-use Rattle.tool_command.proofs.command.parse.Goals as goal
+use Rattle.tool_command.proofs.parsing.parse.Goals as goal
 
 pub returns-in-len1-up-clause-faultless : goal.returns-in-len1-up-clause-faultless
 returns-in-len1-up-clause-faultless c = faultless_if_ok (texts c.args.words.now) command_of c.parse_command.result c.parse_command.ensures.ok
