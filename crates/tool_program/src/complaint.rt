@@ -4,79 +4,13 @@ ghost use Rattle.std.specs.Prelude.{IfOk};
 ghost use Rattle.std.specs.String.{string_bytes};
 ghost use Rattle.tool_program.specs.Errors.{IsComplaint};
 
+use crate::arguments::{
+    Argument, Kind, bounded, flag, number, option, option_of, parts_of, place, text, times,
+};
 use image_run::{MOST_BUDGET, MOST_WORKERS};
 use std::alloc::{AllocError, Global};
 use super_block::{LARGEST_CAPACITY, LAST_CLASS};
 use tool_command::{GREATEST_SEED, MOST_REQUESTS};
-
-/// An argument of a command: its name in the help, what it is, and the bounds of its number.
-#[derive(Clone, Copy)]
-struct Argument {
-    name: &'static str,
-    kind: Kind,
-    least: u64,
-    most: u64,
-}
-
-/// What an argument is.
-#[derive(Clone, Copy, PartialEq, Eq)]
-enum Kind {
-    /// A word in its place, with any text.
-    Text,
-    /// A word in its place, with a number.
-    Number,
-    /// An option with a number.
-    Option,
-    /// An option with a number that has to be there.
-    NeededOption,
-    /// An option without a value.
-    Flag,
-}
-
-fn text(name: &'static str) -> Argument {
-    bounded(name, Kind::Text, 0, 0)
-}
-
-fn number(name: &'static str, least: u64, most: u64) -> Argument {
-    bounded(name, Kind::Number, least, most)
-}
-
-fn option(name: &'static str, most: u64) -> Argument {
-    bounded(name, Kind::Option, 0, most)
-}
-
-fn flag(name: &'static str) -> Argument {
-    bounded(name, Kind::Flag, 0, 0)
-}
-
-fn bounded(name: &'static str, kind: Kind, least: u64, most: u64) -> Argument {
-    Argument {
-        name,
-        kind,
-        least,
-        most,
-    }
-}
-
-impl Argument {
-    fn is_option(self) -> bool {
-        self.name.starts_with('-')
-    }
-
-    fn is_needed(self) -> bool {
-        !matches!(self.kind, Kind::Option | Kind::Flag)
-    }
-
-    fn takes(self, value: &str) -> bool {
-        if self.kind == Kind::Text {
-            return true;
-        }
-        match value.parse::<u64>() {
-            Ok(number) => self.least <= number && number <= self.most,
-            Err(_) => false,
-        }
-    }
-}
 
 /// The line on what is wrong in the words behind the program's name. It is empty where they wish
 /// for help, and where nothing wrong is found.
@@ -293,46 +227,4 @@ fn lack(
         }
     }
     Ok(None)
-}
-
-// The argument in a place, by its number from 1.
-fn place(arguments: &[Argument], number: usize) -> Option<Argument> {
-    let mut passed = 0usize;
-    for argument in arguments {
-        if !argument.is_option() {
-            passed = passed.saturating_add(1);
-            if passed == number {
-                return Some(*argument);
-            }
-        }
-    }
-    None
-}
-
-fn option_of(arguments: &[Argument], name: &str) -> Option<Argument> {
-    for argument in arguments {
-        if argument.name == name {
-            return Some(*argument);
-        }
-    }
-    None
-}
-
-// How often an option stands among the words.
-fn times(words: &[String], name: &str) -> usize {
-    let mut count = 0usize;
-    for word in words {
-        if parts_of(word.as_str()).0 == name {
-            count = count.saturating_add(1);
-        }
-    }
-    count
-}
-
-// The name of an option, and the value behind an equals sign.
-fn parts_of(word: &str) -> (&str, Option<&str>) {
-    match word.split_once('=') {
-        Some((name, value)) => (name, Some(value)),
-        None => (word, None),
-    }
 }

@@ -2,6 +2,7 @@
 //! command line, and ends with the status.
 #![tactic(auto)]
 
+mod arguments;
 mod complaint;
 mod ending;
 mod ports;
