@@ -5,17 +5,23 @@
 #![tactic(auto)]
 
 #[cfg(test)]
+mod bad_traces;
+#[cfg(test)]
 mod believed;
 #[cfg(test)]
 mod conservative;
 #[cfg(test)]
 mod contended;
 #[cfg(test)]
+mod count_faults;
+#[cfg(test)]
 mod counting;
 #[cfg(test)]
 mod damage;
 #[cfg(test)]
 mod faults;
+#[cfg(test)]
+mod filled;
 #[cfg(test)]
 mod gate_draws;
 #[cfg(test)]
