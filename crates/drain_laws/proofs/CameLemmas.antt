@@ -1,7 +1,6 @@
 -- Where a seat is alone and gives no batch, no superblock comes to the list of a class.
 use Rattle.std.proofs.Common.{◌≡◌, ◌≢◌, ℕ, zero, suc, ◌+◌, ◌<◌, ◌≤◌, inl, inr, Bool, true, false, cond, nat_eq, nat_lt, List, [], ◌∷◌, ◌++◌, Contains, Option, None, Some, get_or, set, length, length-append, length-set, refl, ap, sym, subst, ◌∙◌, eq-eqb, eqb-true, ne_eqb, arith}
 use Rattle.std.proofs.lemmas.Bool.{cases_eq}
-use Rattle.std.proofs.lemmas.List.{get_or-set_same}
 use Rattle.heap_model.specs.Chains.{Follows}
 use Rattle.heap_model.specs.Counting.{times, one_if, total}
 use Rattle.heap_model.specs.Geometry.{lists, largest_capacity_fits}
@@ -35,8 +34,9 @@ use Rattle.core_model.proofs.TotalLemmas.{total_at}
 use Rattle.heap_table.specs.Reached.{IsReached, at_opening, by_event, by_record, by_offer, by_accept, in_another_order, learned}
 use Rattle.heap_table.proofs.ReachedLemmas.{reached_counted, reached_sound}
 use Rattle.heap_table.proofs.DealLemmas.{length_total}
-use Rattle.heap_model.proofs.MemberLemmas.{head_or_rest, in_head, in_none}
+use Rattle.heap_model.proofs.MemberLemmas.{in_head}
 use Rattle.seat_costs.specs.Idle.{IsIdle}
+use Rattle.seat_costs.proofs.AloneLemmas.{one_at, one_of, one_set}
 use Rattle.drain_laws.specs.Gains.{CameFrom, IsListed, NoneCame}
 
 -- what a listed superblock is in, by another account of the list
@@ -436,27 +436,7 @@ gives_rise k start m v event = by_event_kind event where
         by_test true (suc class) = omega arith
         by_test false class = omega arith
 
--- the views of a heap with one seat
-one_at : (views : List View) (i : ℕ) (v : View) → length views ≡ 1 → i < length views → get_or views i v ≡ v → views ≡ v ∷ []
-one_at [] i v one below at = absurd (omega arith)
-one_at (u ∷ []) zero v one below at = ap (λ x. x ∷ []) at
-one_at (u ∷ []) (suc i) v one below at = absurd (omega arith)
-one_at (u ∷ w ∷ views) i v one below at = absurd (omega arith)
-
-one_of : (views : List View) (v : View) → length views ≡ 1 → Contains views v → views ≡ v ∷ []
-one_of [] v one has = absurd (omega arith)
-one_of (u ∷ []) v one has = elim (head_or_rest u v [] has) as (λ _. u ∷ [] ≡ v ∷ []) [
-  | inl same ↦ ap (λ x. x ∷ []) same
-  | inr rest ↦ absurd
-      (in_none v rest)
-]
-one_of (u ∷ w ∷ views) v one has = absurd (omega arith)
-
-one_set : (views : List View) (i : ℕ) (w v : View) → i < length views → set views i w ≡ v ∷ [] → w ≡ v
-one_set views i w v below only = sym (get_or-set_same views i w w below) ∙ ap (λ l. get_or l i w) only ∙ ap (λ n. get_or (v ∷ []) n w) first where
-  first : i ≡ 0
-  first = let e = length-set views i w in let one = ap length only in omega (arith, e, one)
-
+-- the views of a heap with one seat have no other order
 reorder_one : (old new : List View) (v : View) → AreReordered old new → new ≡ v ∷ [] → old ≡ v ∷ []
 reorder_one old new v same only = one_of old v (length_total old ∙ sym (same.sums (λ (u : View). 1)) ∙ sym (length_total new) ∙ ap length only)
     (same.members v (subst (λ l. Contains l v) (sym only) (in_head v [])))

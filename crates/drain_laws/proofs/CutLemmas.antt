@@ -9,7 +9,7 @@ use Rattle.heap_model.specs.Geometry.{lists, start_word}
 use Rattle.heap_model.specs.Rest.{IsReady}
 use Rattle.heap_model.specs.Sizes.{IsClass, blocks_of, words_of_class}
 use Rattle.heap_model.proofs.CountingLemmas.{times_some}
-use Rattle.heap_model.proofs.ListLemmas.{length_without, without_at, without_less}
+use Rattle.heap_model.proofs.ListLemmas.{times_append, length_without, without_at, without_less}
 use Rattle.heap_model.proofs.MemberLemmas.{in_head}
 use Rattle.heap_model.proofs.SizeLemmas.{four_blocks}
 use Rattle.heap_at_rest.proofs.ListLemmas.{times_of}
@@ -27,7 +27,8 @@ use Rattle.seat_costs.specs.Idle.{IsIdle}
 use Rattle.drain_laws.specs.Drains.{Grants, GrantsAll, no_request, one_more}
 use Rattle.drain_laws.proofs.GivenLemmas.{cut_taken, lies, stands_once}
 use Rattle.drain_laws.proofs.OnlyLemmas.{alone}
-use Rattle.drain_laws.proofs.OpenedLemmas.{Leaves, leaves, none_cached, opened_good, times_both}
+use Rattle.drain_laws.proofs.OpenedLemmas.{Leaves, leaves, opened_good}
+use Rattle.seat_costs.proofs.IdleLemmas.{none_cached}
 
 -- a list of values of f below n, none of them twice
 few_members : (f : ℕ → ℕ) (n : ℕ) (xs : List ℕ) → ((x : ℕ) → Contains xs x → (i : ℕ) × (i < n) × (x ≡ f i)) → ((i : ℕ) → i < n → times (f i) xs ≤ 1)
@@ -154,7 +155,7 @@ module _ (o : Opening) (class : ℕ) (firsts : List ℕ) (w : View) (ready : IsR
   place i = start_word c (i / B) + (i % B) * words_of_class class
 
   in_list : (x : ℕ) → times x firsts ≤ times x (of_class w.small class)
-  in_list x = let all = ap (times x) so.mine ∙ times_both x firsts (of_class v.small class) in omega arith
+  in_list x = let all = ap (times x) so.mine ∙ times_append x firsts (of_class v.small class) in omega arith
 
   placed : (x : ℕ) → Contains firsts x → (i : ℕ) × (i < B * c) × (x ≡ place i)
   placed x there =

@@ -1,5 +1,5 @@
 -- The only seat of a heap.
-use Rattle.std.proofs.Common.{◌≡◌, ◌⊎◌, ℕ, ◌+◌, ◌-◌, ◌≤◌, inl, inr, nat_eq, List, [], ◌∷◌, Contains, length, ap, ◌∙◌, arith}
+use Rattle.std.proofs.Common.{◌≡◌, ◌⊎◌, ℕ, ◌+◌, ◌-◌, ◌≤◌, inl, inr, nat_eq, List, [], ◌∷◌, Contains, ap, ◌∙◌, arith}
 use Rattle.heap_model.specs.Counting.{one_if, total}
 use Rattle.heap_model.proofs.CountingLemmas.{total_none}
 use Rattle.heap_model.proofs.MemberLemmas.{head_or_rest, in_head, in_none, in_rest}
@@ -10,6 +10,7 @@ use Rattle.heap_table.specs.Plays.{HasReached, HasSoundState}
 use Rattle.heap_table.specs.Rule.{Opening, setup_for, state_of}
 use Rattle.heap_table.proofs.DealLemmas.{length_total}
 use Rattle.heap_table.proofs.ReachedLemmas.{opened_filled, reached_filled}
+use Rattle.seat_costs.proofs.AloneLemmas.{one_of}
 
 -- 1 of a seat
 abbrev one_if_seat : View → ℕ
@@ -63,12 +64,6 @@ module _ (v : View) (one : v.setup.seats ≡ 1) (s : HasSoundState v) where
       let m = s.sound.good.moves in
       let gives = counted (λ (u : View). u.gives) (λ u c. c.counts.5) (λ u e. e.was.counts.5) in
       let mine = total_at (λ (u : View). u.moves) s.views s.seat v s.below s.at in omega (arith, m, gives, mine)
-
-one_of : (views : List View) (v : View) → length views ≡ 1 → Contains views v → views ≡ v ∷ []
-one_of [] v one has = absurd (omega (arith, one))
-one_of (u ∷ []) v one has = elim (head_or_rest u v [] has) as (λ _. u ∷ [] ≡ v ∷ [])
-    [ inl same ↦ ap (λ x. x ∷ []) same | inr rest ↦ absurd (in_none v rest) ]
-one_of (u ∷ w ∷ views) v one has = absurd (omega (arith, one))
 
 -- the only seat of an opened heap, which has offered no block, is all that there is
 pub alone : (o : Opening) (v : View) → o.seats ≡ 1 → v.offers ≡ 0 → (h : HasReached o v) → h.views ≡ v ∷ []

@@ -1,7 +1,7 @@
 -- An opened heap with one seat, and what draining a class of it gives.
-use Rattle.std.proofs.Common.{◌≡◌, ◌≢◌, ℕ, zero, suc, ◌+◌, ◌*◌, ◌<◌, ◌≤◌, inl, inr, nat_lt, List, [], ◌∷◌, ◌++◌, Contains, get_or, set, take, drop, length, length-append, length-drop, length-set, replicate, slice_index, refl, ap, sym, subst, ◌∙◌, lt-ltb, arith}
+use Rattle.std.proofs.Common.{◌≡◌, ◌≢◌, ℕ, ◌+◌, ◌*◌, ◌<◌, ◌≤◌, inl, inr, nat_lt, List, [], ◌∷◌, ◌++◌, Contains, get_or, set, take, drop, length, length-append, length-drop, length-set, slice_index, refl, ap, sym, subst, ◌∙◌, lt-ltb, arith}
 use Rattle.std.proofs.lemmas.Bool.{cases_lt, cases_eq}
-use Rattle.std.proofs.lemmas.List.{get_or_append_left, get_or_default, length-take-le, take-append-drop}
+use Rattle.std.proofs.lemmas.List.{get_or_append_left, get_or_default, length-take-le}
 use Rattle.heap_model.specs.declared.block.Block.{Block}
 use Rattle.heap_model.specs.Chains.{Follows}
 use Rattle.heap_model.specs.Counting.{times}
@@ -11,6 +11,7 @@ use Rattle.heap_model.specs.Recovered.{HasPartIn, IsFreeSuperblock, beside, free
 use Rattle.heap_model.specs.Rest.{IsReady}
 use Rattle.heap_model.specs.Sizes.{IsClass, words_of_class}
 use Rattle.heap_model.specs.Words.{head_first}
+use Rattle.heap_model.proofs.ListLemmas.{times_append}
 use Rattle.heap_model.proofs.PartLemmas.{same_fields}
 use Rattle.heap_model.proofs.SizeLemmas.{few_words}
 use Rattle.heap_at_rest.proofs.ListLemmas.{follows_below, follows_same, times_of}
@@ -26,10 +27,12 @@ use Rattle.core_model.proofs.TotalLemmas.{total_at}
 use Rattle.core_model.proofs.PlaceLemmas.{pick}
 use Rattle.heap_table.specs.Reached.{IsReached}
 use Rattle.heap_table.specs.Rule.{Opening, opened_view_of, setup_for, state_of}
+use Rattle.heap_table.proofs.ClosingLemmas.{three_parts}
 use Rattle.heap_table.proofs.ReachedLemmas.{opened_counted, reached_sound}
 use Rattle.seat_costs.specs.Alone.{IsSteady, Steady}
 use Rattle.seat_costs.specs.Idle.{IsIdle}
 use Rattle.seat_costs.proofs.AloneLemmas.{left_steady}
+use Rattle.seat_costs.proofs.IdleLemmas.{none_cached}
 use Rattle.heap_at_rest.specs.Draining.{IsDrainable, IsToDrain, layout_at}
 use Rattle.drain_laws.specs.Drains.{GivesExactly, Grants, GrantsAll, HasDrained, IsDrainRow, no_request, one_more}
 use Rattle.drain_laws.proofs.OnlyLemmas.{alone}
@@ -38,15 +41,6 @@ use Rattle.drain_laws.specs.Spent.{IsSpent}
 use Rattle.drain_laws.proofs.CameLemmas.{reached_came}
 use Rattle.drain_laws.proofs.GivenLemmas.{has_given, lies, was_to_drain}
 use Rattle.drain_laws.proofs.SpentLemmas.{spent_by_looks}
-
-pub times_both : (x : ℕ) (xs ys : List ℕ) → times x (xs ++ ys) ≡ times x xs + times x ys
-times_both x [] ys = omega arith
-times_both x (y ∷ xs) ys = let rest = times_both x xs ys in omega arith
-
-pub none_cached : (n class : ℕ) → of_class (replicate n []) class ≡ []
-none_cached zero class = refl
-none_cached (suc n) zero = refl
-none_cached (suc n) (suc class) = none_cached n class
 
 -- what granted requests leave
 pub record Leaves (class : ℕ) (v : View) (firsts : List ℕ) (w : View) : Type 0 where
@@ -103,19 +97,6 @@ leaves class v _ _ less no_request = record {
   caches = λ c other. refl;
 }
 leaves class v _ _ less (one_more firsts u w b before grants) = grant class v firsts u w b less (leaves class v firsts u less before) grants
-
-one_left : (xs : List ℕ) → length xs ≡ 1 → xs ≡ get_or xs 0 0 ∷ []
-one_left [] one = absurd (omega (arith, one))
-one_left (x ∷ []) one = refl
-one_left (x ∷ y ∷ xs) one = absurd (omega (arith, one))
-
-three_parts : (words : List ℕ) (n : ℕ) → length words ≡ 2 * n + 1 → words ≡ take n words ++
-    (take n (drop n words) ++ (get_or (drop n (drop n words)) 0 0 ∷ []))
-three_parts words n long = sym (take-append-drop n words)
-    ∙ ap (λ ws. take n words ++ ws) (sym (take-append-drop n (drop n words)) ∙ ap (λ ws. take n (drop n words) ++ ws)
-    (one_left (drop n (drop n words)) one)) where
-      one : length (drop n (drop n words)) ≡ 1
-      one = let a = length-drop n words in let b = length-drop n (drop n words) in omega arith
 
 module _ (o : Opening) (ready : IsReady o.words o.held) (owners : AreOwners o.held o.seats o.block_owners o.root_owners) (one : o.seats ≡ 1) where
   abbrev k : Setup
@@ -295,7 +276,7 @@ module _ (o : Opening) (ready : IsReady o.words o.held) (owners : AreOwners o.he
       setup = ap (λ (p : Parts). p.setup) row.refused.parts_are ∙ so.setup;
       large = ap (λ (p : Parts). p.large) row.refused.parts_are ∙ so.large;
       others = λ x other. ap (λ l. of_class l x) small_same ∙ so.others x other;
-      kept = λ b there. let all = ap (times b) mine ∙ times_both b firsts (of_class v.small class) in omega arith;
+      kept = λ b there. let all = ap (times b) mine ∙ times_append b firsts (of_class v.small class) in omega arith;
     }
 
     no_caches : (x : ℕ) → of_class v.caches x ≡ []
@@ -333,7 +314,7 @@ module _ (o : Opening) (ready : IsReady o.words o.held) (owners : AreOwners o.he
     -- what was granted is new
     not_before : (a : Block) → a.words ≡ words_of_class class → 0 < times a.first_word firsts → IsHeld v a → ⊥
     not_before a size there (a_small other first was) =
-        let all = ap (times first) mine ∙ times_both first firsts (of_class v.small class) in
+        let all = ap (times first) mine ∙ times_append first firsts (of_class v.small class) in
         let once = held_once first in
         let now : 0 < times first (of_class w.small other) = still_there other first was in
         let same : other ≡ class = sym (blocks.held other first now) ∙ blocks.held class first (omega arith) in
@@ -349,7 +330,7 @@ module _ (o : Opening) (ready : IsReady o.words o.held) (owners : AreOwners o.he
     given : (b : Block) → b.words ≡ words_of_class class → 0 < times b.first_word firsts → IsGiven class v w b
     given b size there = record {
       words = size;
-      now = let all = ap (times b.first_word) mine ∙ times_both b.first_word firsts (of_class v.small class) in omega arith;
+      now = let all = ap (times b.first_word) mine ∙ times_append b.first_word firsts (of_class v.small class) in omega arith;
       new = λ h. not_before b size there h;
     }
 
@@ -357,7 +338,8 @@ module _ (o : Opening) (ready : IsReady o.words o.held) (owners : AreOwners o.he
     granted b g = elim (cases_lt 0 (times b.first_word (of_class v.small class))) as (λ _. 0 < times b.first_word firsts) [
       | inl was ↦ absurd (g.new (subst (IsHeld v) (same_fields (record { first_word = b.first_word; words = words_of_class class }) b refl
           (sym g.words)) (a_small class b.first_word was)))
-      | inr never ↦ let all = ap (times b.first_word) mine ∙ times_both b.first_word firsts (of_class v.small class) in let now = g.now in omega arith
+      | inr never ↦ let all = ap (times b.first_word) mine ∙ times_append b.first_word firsts (of_class v.small class) in
+          let now = g.now in omega arith
     ]
 
     pub gives_exactly : IsDrainable c image o.held class → GivesExactly c class image o.held firsts
@@ -367,7 +349,8 @@ module _ (o : Opening) (ready : IsReady o.words o.held) (owners : AreOwners o.he
           (given (record { first_word = first; words = words_of_class class }) refl there));
       complete = λ b to_give. granted b (has_given k m n v w opened_good opened_idle end class is dry more came (drainable_now class drainable) b
           (give_now class b to_give));
-      once = λ first. let all = ap (times first) mine ∙ times_both first firsts (of_class v.small class) in let most = held_once first in omega arith;
+      once = λ first. let all = ap (times first) mine ∙ times_append first firsts (of_class v.small class) in
+          let most = held_once first in omega arith;
     } where
       came : NoneCame c m n
       came = (reached_came k (state_of o) v sound (opened_counted o) only opened_idle words (w ∷ []) reached w refl offers_none
